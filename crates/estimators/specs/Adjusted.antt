@@ -1,0 +1,80 @@
+-- Document 01, "Estimators": the estimate, shrunk and regularized (covariance.rs, `adjusted_covariance`). Definitions only.
+use Prim.Native.Nat.{ℕ}
+use mathlib.Core.Bool.{Bool, true, false, _||_}
+use lib.Ieee.{Float, lt}
+use Rattle.leaves.specs.Numbers.{_⊕_, _⊖_, _⊗_, zero⁺, one}
+use Rattle.matrix.specs.Matrix.{Matrix, identity}
+use Rattle.matrix.specs.Jacobi.{Decomposition, unturned}
+use Rattle.estimators.specs.Sample.{covariance}
+use Rattle.estimators.specs.Weighted.{logDecay, weightedCovariance}
+use Rattle.estimators.specs.Semi.{semicovariance, semicovarianceBelow}
+use Rattle.estimators.specs.Given.{decomposeGiven}
+use Rattle.estimators.specs.LedoitWolf.{averageVariance, constantCorrelation, ledoitWolf}
+use Rattle.estimators.specs.declared.Estimate.{Estimate}
+use Rattle.estimators.specs.declared.Estimate.the-variants.{Sample, Given, Weighted, Semi, SemiBelow}
+use Rattle.estimators.specs.declared.Target.{Target}
+use Rattle.estimators.specs.declared.Target.the-variants.{ConstantVariance, ConstantCorrelation}
+use Rattle.estimators.specs.declared.Shrinkage.{Shrinkage}
+use Rattle.estimators.specs.declared.Shrinkage.the-variants.{Unshrunk, Fixed, LedoitWolf}
+use Rattle.estimators.specs.declared.Regularization.{Regularization}
+use Rattle.estimators.specs.declared.Regularization.the-variants.{Unregularized, Ridge}
+use Rattle.estimators.specs.declared.Settings.{Settings}
+
+abbrev pub isSample : Estimate → Bool
+isSample Sample = true
+isSample Given = false
+isSample (Weighted halfLife) = false
+isSample Semi = false
+isSample (SemiBelow threshold) = false
+
+abbrev pub isGiven : Estimate → Bool
+isGiven Sample = false
+isGiven Given = true
+isGiven (Weighted halfLife) = false
+isGiven Semi = false
+isGiven (SemiBelow threshold) = false
+
+-- the decomposition of a given matrix g, averaged with its transpose; nothing is done for the other estimates
+unfoldable pub decompositionOf : Settings → ℕ → Matrix → Decomposition
+decompositionOf s side g = elim (isGiven (s .estimate)) [ true ↦ decomposeGiven (s .limit) side g | false ↦ unturned 0 true ]
+
+-- what the adjustments apply to
+unfoldable pub base : Estimate → ℕ → Matrix → Matrix → Matrix
+base Sample T x g = covariance T x
+base Given T x g = g
+base (Weighted halfLife) T x g = weightedCovariance T (logDecay halfLife) x
+base Semi T x g = semicovariance T x
+base (SemiBelow threshold) T x g = semicovarianceBelow threshold T x
+
+-- δ, 0 if there is none
+unfoldable pub intensity : Shrinkage → ℕ → ℕ → Matrix → Float
+intensity Unshrunk T n x = zero⁺
+intensity (Fixed δ) T n x = δ
+intensity (LedoitWolf F) T n x = ledoitWolf F T n x
+
+-- δ F, for constant variance as (δ m) I
+unfoldable pub pull : Target → Float → ℕ → Matrix → Matrix
+pull ConstantVariance δ n b i j = δ ⊗ averageVariance n b ⊗ identity i j
+pull ConstantCorrelation δ n b i j = δ ⊗ constantCorrelation n b i j
+
+-- δ F + (1 - δ) B
+unfoldable pub mixed : Target → Float → ℕ → Matrix → Matrix
+mixed F δ n b i j = pull F δ n b i j ⊕ (one ⊖ δ) ⊗ b i j
+
+unfoldable pub shrunk : Shrinkage → Float → ℕ → Matrix → Matrix
+shrunk Unshrunk δ n b = b
+shrunk (Fixed fixed) δ n b = mixed ConstantVariance δ n b
+shrunk (LedoitWolf F) δ n b = mixed F δ n b
+
+-- A + ε I
+unfoldable pub regularized : Regularization → Matrix → Matrix
+regularized Unregularized a i j = a i j
+regularized (Ridge ridge) a i j = a i j ⊕ ridge ⊗ identity i j
+
+unfoldable pub adjusted : Settings → Float → ℕ → Matrix → Matrix
+adjusted s δ n b = regularized (s .regularization) (shrunk (s .shrinkage) δ n b)
+
+-- an intensity or a regularization above 0
+unfoldable pub isAdjusted : Float → Regularization → Bool
+isAdjusted δ Unregularized = lt zero⁺ δ
+isAdjusted δ (Ridge ridge) = lt zero⁺ δ || lt zero⁺ ridge

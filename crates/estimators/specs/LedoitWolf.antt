@@ -1,0 +1,79 @@
+-- Document 01, "Estimators": the targets and the intensity of Ledoit and Wolf. Definitions only.
+-- [a] "A well-conditioned estimator for large-dimensional covariance matrices" (2004): the target is the average variance times the identity.
+-- [b] "Honey, I shrunk the sample covariance matrix" (2004): the target has the sample's variances and their average correlation.
+use Prim.Native.Nat.{ℕ, _*_, _-_}
+use mathlib.Core.Bool.{Bool, true, false, not, cond}
+use lib.Dec.{eqb}
+use lib.IntN.{ℤ}
+use lib.Ieee.{Float, lt}
+use Rattle.leaves.specs.Numbers.{_⊖_, _⊗_, _⊘_, count, zero⁺, clamp01}
+use Rattle.leaves.specs.Loops.{sumTo}
+use Rattle.leaves.specs.Scaling.{binaryExponent}
+use Rattle.leaves.specs.Root.{sqrt}
+use Rattle.matrix.specs.Matrix.{Matrix, at, rows, identity, trace, amax, sumOver, total, squares}
+use Rattle.estimators.specs.Sample.{deviation, gram, scaled}
+use Rattle.estimators.specs.declared.Target.{Target}
+use Rattle.estimators.specs.declared.Target.the-variants.{ConstantVariance, ConstantCorrelation}
+
+-- ---- the targets, for a covariance s of n assets
+
+abbrev pub deviationOf : Matrix → ℕ → Float
+deviationOf s i = sqrt (s i i)
+
+abbrev pub apart : ℕ → ℕ → Bool
+apart i j = not (eqb i j)
+
+unfoldable pub averageVariance : ℕ → Matrix → Float
+averageVariance n s = trace n s ⊘ count n
+
+-- r̄
+unfoldable pub averageCorrelation : ℕ → Matrix → Float
+averageCorrelation n s = sumOver n apart (λ i j. s i j ⊘ deviationOf s i ⊘ deviationOf s j) zero⁺ ⊘ count (n * (n - 1))
+
+-- F of [b]: the matrix itself for one asset, which has no pair
+unfoldable pub constantCorrelation : ℕ → Matrix → Matrix
+constantCorrelation n s i j = cond (eqb i j) (s i i) (averageCorrelation n s ⊗ deviationOf s i ⊗ deviationOf s j)
+
+-- F
+unfoldable pub target : Target → ℕ → Matrix → Matrix
+target ConstantVariance n s i j = averageVariance n s ⊗ identity i j
+target ConstantCorrelation n s i j = constantCorrelation n s i j
+
+-- ---- the intensity, from T periods of centered returns z with the second moments s
+
+-- π ᵢⱼ, the variance of √T sᵢⱼ
+unfoldable pub variation : ℕ → Matrix → Matrix → Matrix
+variation T z s i j = sumTo T (λ t. let d = z t i ⊗ z t j ⊖ s i j in d ⊗ d) ⊘ count T
+
+-- θ ᵢⱼ, the covariance of √T sᵢᵢ and √T sᵢⱼ
+unfoldable pub covariation : ℕ → Matrix → Matrix → Matrix
+covariation T z s i j = sumTo T (λ t. (z t i ⊗ z t i ⊖ s i i) ⊗ z t i ⊗ z t j) ⊘ count T
+
+-- ρ, the covariance of the target with the sample
+unfoldable pub targetVariation : ℕ → ℕ → Matrix → Matrix → Float
+targetVariation T n z s =
+    let r = averageCorrelation n s in
+    sumOver n apart (λ i j. r ⊗ deviationOf s j ⊘ deviationOf s i ⊗ covariation T z s i j) (trace n (variation T z s))
+
+-- the estimation error: π, less ρ for [b]
+unfoldable pub error : Target → ℕ → ℕ → Matrix → Matrix → Float
+error ConstantVariance T n z s = total n (variation T z s)
+error ConstantCorrelation T n z s = total n (variation T z s) ⊖ targetVariation T n z s
+
+-- γ, the squared distance to the target
+unfoldable pub distance : Target → ℕ → Matrix → Float
+distance F n s = squares n (λ i j. s i j ⊖ target F n s i j)
+
+-- δ
+unfoldable pub intensityOf : Target → ℕ → ℕ → Matrix → Matrix → Float
+intensityOf F T n z s =
+    let γ = distance F n s in
+    elim (lt zero⁺ γ) [ true ↦ clamp01 (error F T n z s ⊘ count T ⊘ γ) | false ↦ zero⁺ ]
+
+-- δ is a ratio of fourth moments: the centered returns are taken over a power of two near the largest
+unfoldable pub ledoitWolf : Target → ℕ → ℕ → Matrix → Float
+ledoitWolf F T n x =
+    let e = binaryExponent (amax T n (deviation T x)) in
+    let z = rows T n (scaled (λ i. e) (deviation T x)) in
+    let s = rows n n (λ i j. gram T (at z n) i j ⊘ count T) in
+    intensityOf F T n (at z n) (at s n)

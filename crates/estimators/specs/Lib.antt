@@ -1,0 +1,13 @@
+-- Document 01: "Records", "Estimators" and "Causes".
+pub mod Refusals
+pub mod Sample
+pub mod Weighted
+pub mod Semi
+pub mod Given
+pub mod LedoitWolf
+pub mod Adjusted
+pub mod Moments
+pub mod JamesStein
+pub mod BayesStein
+pub mod Order
+pub mod Calls

@@ -1,0 +1,150 @@
+-- Document 01, "Causes", the paragraph "Order": which refusals a call looks for, in their order. Definitions only.
+use Prim.Native.Nat.{ℕ, _*_}
+use mathlib.Core.Bool.{Bool, true, false, not, _&&_, _||_}
+use mathlib.Core.List.{List, [], _∷_, _++_}
+use lib.Dec.{eqb, ltb}
+use lib.ListN.{length}
+use lib.Ieee.{Float, le, eq}
+use Rattle.leaves.specs.Numbers.{_⊗_, zero⁺, one, isFinite}
+use Rattle.leaves.specs.Loops.{firstTo}
+use Rattle.matrix.specs.Limits.{maxSide, maxSweeps}
+use Rattle.matrix.specs.Matrix.{Matrix, at, amax, trace, firstEntry, allFinite}
+use Rattle.matrix.specs.Jacobi.{Decomposition}
+use Rattle.estimators.specs.Refusals.{Check, passes, when, whenSome}
+use Rattle.estimators.specs.Sample.{covariance, largest, constantAsset}
+use Rattle.estimators.specs.Weighted.{logDecay, accepted}
+use Rattle.estimators.specs.Given.{asymmetry, averaged, smallest, indefinite}
+use Rattle.estimators.specs.BayesStein.{singular}
+use Rattle.estimators.specs.Adjusted.{isSample, isGiven, isAdjusted}
+use Rattle.estimators.specs.declared.Estimate.{Estimate}
+use Rattle.estimators.specs.declared.Estimate.the-variants.{Sample, Given, Weighted, Semi, SemiBelow}
+use Rattle.estimators.specs.declared.Target.{Target}
+use Rattle.estimators.specs.declared.Target.the-variants.{ConstantVariance, ConstantCorrelation}
+use Rattle.estimators.specs.declared.Shrinkage.{Shrinkage}
+use Rattle.estimators.specs.declared.Shrinkage.the-variants.{Unshrunk, Fixed, LedoitWolf}
+use Rattle.estimators.specs.declared.Regularization.{Regularization}
+use Rattle.estimators.specs.declared.Regularization.the-variants.{Unregularized, Ridge}
+use Rattle.estimators.specs.declared.Settings.{Settings}
+use Rattle.estimators.specs.declared.Field.the-variants.{RegularizationField, ShrinkageField, HalfLifeField, ThresholdField, SweepLimitField}
+use Rattle.estimators.specs.declared.Refusal.the-variants.{NoAssets, TooLarge, TooFewPeriods, WrongLength, NotFinite, CovarianceNotFinite, BadSetting, NotTheSample, ZeroVariance, WrongSide, Asymmetric, Indefinite, NotDecomposed, Singular}
+
+-- the assets' limit is the matrices' side's
+abbrev pub maxPeriods : ℕ
+maxPeriods = 4096
+
+-- 5, at the first row and column
+unfoldable pub notFinite : ℕ → ℕ → Matrix → Check
+notFinite m n a = whenSome (firstEntry m n (λ i j. not (isFinite (a i j)))) (λ p. NotFinite (p .0) (p .1))
+
+-- 1, 2, 3, 4, 5, sample 6: for every call, with the length that its answer slice needs
+unfoldable pub opening : List Float → ℕ → ℕ → ℕ → List Float → List Check
+opening r n T needed answer =
+    when (eqb n 0) NoAssets ∷
+    when (ltb maxSide n || ltb maxPeriods T) TooLarge ∷
+    when (ltb T 2) (TooFewPeriods T) ∷
+    when (not (eqb (length r) (T * n)) || ltb (length answer) needed) WrongLength ∷
+    notFinite T n (at r n) ∷
+    when (not (allFinite n n (covariance T (at r n)))) CovarianceNotFinite ∷
+    []
+
+-- sweep limit: for given, James-Stein and Bayes-Stein
+unfoldable pub sweepLimit : ℕ → Check
+sweepLimit limit = when (ltb maxSweeps limit) (BadSetting SweepLimitField)
+
+-- the sweep limit; given's 1, 2, 10 (slice), 5, 11, 13, 12
+unfoldable pub ofGiven : Settings → List Float → ℕ → Decomposition → List Check
+ofGiven s g side d = elim (isGiven (s .estimate)) [
+  | true ↦
+      sweepLimit (s .limit) ∷
+      when (eqb side 0) NoAssets ∷
+      when (ltb maxSide side) TooLarge ∷
+      when (not (eqb (length g) (side * side))) (WrongSide side) ∷
+      notFinite side side (at g side) ∷
+      whenSome (asymmetry side (at g side)) (λ p. Asymmetric (p .0) (p .1)) ∷
+      when (not (d .found)) NotDecomposed ∷
+      when (indefinite side d) (Indefinite (smallest side d ⊗ amax side side (averaged (at g side)))) ∷
+      []
+  | false ↦ []
+]
+
+-- finite and at least 0, as -0 is
+unfoldable pub badRegularization : Regularization → Check
+badRegularization Unregularized = passes
+badRegularization (Ridge ridge) = when (not (isFinite ridge && le zero⁺ ridge)) (BadSetting RegularizationField)
+
+-- in [0, 1]
+unfoldable pub badShrinkage : Shrinkage → Check
+badShrinkage Unshrunk = passes
+badShrinkage (Fixed δ) = when (not (le zero⁺ δ && le δ one)) (BadSetting ShrinkageField)
+badShrinkage (LedoitWolf F) = passes
+
+unfoldable pub badHalfLife : Float → Check
+badHalfLife halfLife = when (not (accepted (logDecay halfLife))) (BadSetting HalfLifeField)
+
+-- fields 3 and 4
+unfoldable pub badEstimate : Estimate → Check
+badEstimate Sample = passes
+badEstimate Given = passes
+badEstimate (Weighted halfLife) = badHalfLife halfLife
+badEstimate Semi = passes
+badEstimate (SemiBelow threshold) = when (not (isFinite threshold)) (BadSetting ThresholdField)
+
+unfoldable pub notTheSample : Shrinkage → Estimate → Check
+notTheSample Unshrunk estimate = passes
+notTheSample (Fixed δ) estimate = passes
+notTheSample (LedoitWolf F) estimate = when (not (isSample estimate)) NotTheSample
+
+-- 9 by constant correlation
+unfoldable pub noCorrelation : Shrinkage → ℕ → ℕ → Matrix → Check
+noCorrelation Unshrunk T n x = passes
+noCorrelation (Fixed δ) T n x = passes
+noCorrelation (LedoitWolf ConstantVariance) T n x = passes
+noCorrelation (LedoitWolf ConstantCorrelation) T n x = whenSome (constantAsset n (covariance T x) (largest T x)) ZeroVariance
+
+-- unadjusted 9: a given variance is exact, one from the returns is 0 to rounding
+unfoldable pub noVariance : Bool → Estimate → ℕ → ℕ → Matrix → Matrix → Check
+noVariance true estimate T n x b = passes
+noVariance false estimate T n x b =
+    elim (isGiven estimate) [
+      | true ↦ whenSome (firstTo n (λ i. eq (b i i) zero⁺)) ZeroVariance
+      | false ↦ whenSome (constantAsset n b (largest T x)) ZeroVariance
+    ]
+
+-- fields 1 to 4; 8; 9 by constant correlation; 10 (side); unadjusted 9; 6; 14. b is the estimate, a the answer
+unfoldable pub ofSettings : Settings → Float → ℕ → ℕ → ℕ → Matrix → Matrix → Matrix → List Check
+ofSettings s δ T n side x b a =
+    badRegularization (s .regularization) ∷
+    badShrinkage (s .shrinkage) ∷
+    badEstimate (s .estimate) ∷
+    notTheSample (s .shrinkage) (s .estimate) ∷
+    noCorrelation (s .shrinkage) T n x ∷
+    when (isGiven (s .estimate) && not (eqb side n)) (WrongSide side) ∷
+    noVariance (isAdjusted δ (s .regularization)) (s .estimate) T n x b ∷
+    when (not (allFinite n n a)) CovarianceNotFinite ∷
+    when (eq (trace n a) zero⁺) Singular ∷
+    []
+
+-- ---- the five calls
+
+unfoldable pub adjustedOrder : List Float → ℕ → ℕ → Settings → List Float → ℕ → List Float → Decomposition → Float → Matrix → Matrix → List Check
+adjustedOrder r n T s given side slice d δ b a = opening r n T (n * n) slice ++ ofGiven s given side d ++ ofSettings s δ T n side (at r n) b a
+
+unfoldable pub ledoitWolfOrder : List Float → ℕ → ℕ → Target → List Check
+ledoitWolfOrder r n T F = opening r n T 0 [] ++ noCorrelation (LedoitWolf F) T n (at r n) ∷ []
+
+unfoldable pub weightedOrder : List Float → ℕ → ℕ → Float → List Float → List Check
+weightedOrder r n T halfLife slice = opening r n T n slice ++ badHalfLife halfLife ∷ []
+
+unfoldable pub jamesSteinOrder : List Float → ℕ → ℕ → ℕ → List Float → Decomposition → List Check
+jamesSteinOrder r n T limit slice d = opening r n T n slice ++ sweepLimit limit ∷ when (not (d .found)) Singular ∷ []
+
+-- in each asset's unit: the largest returns, the covariance Σ, and its correlations C with their decomposition
+unfoldable pub bayesSteinOrder : List Float → ℕ → ℕ → ℕ → List Float → (ℕ → Float) → Matrix → Matrix → Decomposition → List Check
+bayesSteinOrder r n T limit slice largest Σ C d =
+    opening r n T n slice ++
+    sweepLimit limit ∷
+    whenSome (constantAsset n Σ largest) ZeroVariance ∷
+    when (not (allFinite n n C)) Singular ∷
+    when (not (d .found)) Singular ∷
+    when (singular n d) Singular ∷
+    []

@@ -1,0 +1,70 @@
+// The records of document 01 that cross a call.
+
+// The weighted case carries its half-life, in periods, and the case below a threshold the threshold.
+pub enum Estimate {
+    Sample,
+    Given,
+    Weighted(f64),
+    Semi,
+    SemiBelow(f64),
+}
+
+pub enum Target {
+    ConstantVariance,
+    ConstantCorrelation,
+}
+
+pub enum Shrinkage {
+    Unshrunk,
+    Fixed(f64),
+    LedoitWolf(Target),
+}
+
+pub enum Regularization {
+    Unregularized,
+    Ridge(f64),
+}
+
+pub struct Settings {
+    pub estimate: Estimate,
+    pub shrinkage: Shrinkage,
+    pub regularization: Regularization,
+    pub limit: usize,
+}
+
+// The setting that refusal 7 names.
+pub enum Field {
+    RegularizationField,
+    ShrinkageField,
+    HalfLifeField,
+    ThresholdField,
+    SweepLimitField,
+}
+
+// Each with what is returned with it: a count of periods, a row and a column, a column, a side, an eigenvalue.
+pub enum Refusal {
+    NoAssets,
+    TooLarge,
+    TooFewPeriods(usize),
+    WrongLength,
+    NotFinite(usize, usize),
+    CovarianceNotFinite,
+    BadSetting(Field),
+    NotTheSample,
+    ZeroVariance(usize),
+    WrongSide(usize),
+    Asymmetric(usize, usize),
+    Indefinite(f64),
+    NotDecomposed,
+    Singular,
+}
+
+pub enum Answer {
+    Refused(Refusal),
+    // intensity, sweeps, rotations
+    Covariance(f64, usize, usize),
+    Intensity(f64),
+    Mean,
+    // intensity, target, sweeps, rotations
+    Shrunk(f64, f64, usize, usize),
+}

@@ -1,0 +1,216 @@
+-- Laws of `specs/Loops.antt`'s loop, tab, fill and columnLength, and of a cell's index in a table stored row by row. Assumes nothing.
+use mathlib.Core.Path.{_≡_, refl, sym, ap, _∙_, subst}
+use mathlib.Core.List.{List, [], _∷_, _++_}
+use Prim.Native.Nat.{ℕ, zero, suc, _+_, _*_, _/_, _%_, _≤_, _<_, zero-le, suc-le-suc}
+use native.Mathlib.Nat.{le-antisymm, lt-of-lt-of-le, div-mul-le-self, mul-div-cancel, suc-mul, mul-le-mul-right, not-suc-le-zero, le-of-suc-le-suc, mul-add-div-right, div-eq-of-lt, add-zero, mul-add-mod-self-right, mod-eq-of-lt, add-mul, one-mul, mul-zero, mod-lt, div-lt-iff-lt-mul}
+use native.Mathlib.Numerals.{add-one}
+use native.Mathlib.Omega.{arith}
+use mathlib.Core.Bool.{Bool, true, false, cond}
+use lib.Dec.{ltb}
+use borrow.Author.Tests.{ltb-true, lt-ltb}
+use lib.ListN.{length, getD, set, drop, length-append, length-drop, length-set}
+use lib.Ieee.{Float}
+use Rattle.leaves.specs.Numbers.{_⊕_, zero⁺, abs, larger}
+use Rattle.leaves.specs.Loops.{loop, sumTo, amaxTo, tab, fill, columnLength}
+
+-- a cell of row t and column j lies within the table
+pub cell : (t T j n : ℕ) → t < T → j < n → t * n + j < T * n
+cell t T j n ht hj = omega (arith, mul-le-mul-right n ht, suc-mul t n)
+
+-- row t lies within the table. With it in hand, or in an invariant, omega does the cells: j < n is linear
+pub row : (t T n : ℕ) → t < T → t * n + n ≤ T * n
+row t T n h = omega (arith, mul-le-mul-right n h, suc-mul t n)
+
+-- the row after row t begins where row t ends
+pub row-next : (t n : ℕ) → (t + 1) * n ≡ t * n + n
+row-next t n = add-mul t 1 n ∙ ap (λ (k : ℕ). t * n + k) (one-mul n)
+
+-- the row and the column of cell i * n + j
+pub cell-row : (i n j : ℕ) → j < n → (i * n + j) / n ≡ i
+cell-row i n j h = mul-add-div-right (omega arith) i j ∙ ap (λ (k : ℕ). i + k) (div-eq-of-lt h) ∙ add-zero i
+
+pub cell-col : (i n j : ℕ) → j < n → (i * n + j) % n ≡ j
+cell-col i n j h = mul-add-mod-self-right i n j ∙ mod-eq-of-lt h
+
+-- the row and the column of any cell of an n × n table are below n
+pub side : (k n : ℕ) → k < n * n → 0 < n
+side k zero h = absurd (not-suc-le-zero (rw mul-zero at h))
+side k (suc n) h = suc-le-suc zero-le
+
+pub row-below : (k n : ℕ) → k < n * n → k / n < n
+row-below k n h = div-lt-iff-lt-mul (side k n h) .1 h
+
+pub col-below : (k n : ℕ) → k < n * n → k % n < n
+col-below k n h = mod-lt k (side k n h)
+
+-- one step more
+pub loop-more : {S : Type 0} (step : ℕ → S → S) (n : ℕ) (s : S) → loop (n + 1) step s ≡ step n (loop n step s)
+unfolding loop
+loop-more step n s = ap (λ (k : ℕ). loop k step s) (add-one n)
+
+-- a loop's invariant s ≡ loop step i s₀, after a turn and at the end
+pub loop-turn : {S : Type 0} (step : ℕ → S → S) (i : ℕ) (s₀ s s′ : S) → s ≡ loop i step s₀ → s′ ≡ step i s → s′ ≡ loop (i + 1) step s₀
+loop-turn step i s₀ s s′ e e′ = e′ ∙ ap (step i) e ∙ sym (loop-more step i s₀)
+
+pub loop-end : {S : Type 0} (step : ℕ → S → S) (i n : ℕ) (s₀ s : S) → s ≡ loop i step s₀ → i ≡ n → s ≡ loop n step s₀
+loop-end step i n s₀ s e h = e ∙ ap (λ (k : ℕ). loop k step s₀) h
+
+pub loop-start : {S : Type 0} (step : ℕ → S → S) (s : S) → s ≡ loop 0 step s
+unfolding loop
+loop-start step s = refl
+
+module _ {A : Type 0} where
+  pub length-tab : (f : ℕ → A) (n : ℕ) → length (tab n f) ≡ n
+  unfolding tab
+  length-tab f zero = refl
+  length-tab f (suc n) = ap suc (length-tab (λ k. f (suc k)) n)
+
+  pub length-fill : (f : ℕ → A) (n : ℕ) (old : List A) → n ≤ length old → length (fill n f old) ≡ length old
+  unfolding fill
+  length-fill f n old h = omega (arith, length-append (tab n f) (drop n old), length-tab f n, length-drop n old)
+
+  fill-suc : (f : ℕ → A) (n : ℕ) (old : List A) → n < length old → set (fill n f old) n (f n) ≡ fill (suc n) f old
+  unfolding fill tab
+  fill-suc f n [] h = absurd (not-suc-le-zero h)
+  fill-suc f zero (x ∷ old) h = refl
+  fill-suc f (suc n) (x ∷ old) h = ap (λ (l : List A). f 0 ∷ l) (fill-suc (λ k. f (suc k)) n old (le-of-suc-le-suc h))
+
+  -- none filled
+  pub fill-none : (f : ℕ → A) (old : List A) → old ≡ fill 0 f old
+  unfolding fill tab
+  fill-none f old = refl
+
+  -- a store of f n at n fills one more
+  pub fill-more : (f : ℕ → A) (n : ℕ) (old : List A) → n < length old → set (fill n f old) n (f n) ≡ fill (n + 1) f old
+  fill-more f n old h = fill-suc f n old h ∙ ap (λ (k : ℕ). fill k f old) (sym (add-one n))
+
+  tab-at : (f : ℕ → A) (n : ℕ) (l : List A) (k : ℕ) (d : A) → k < n → getD (tab n f ++ l) k d ≡ f k
+  unfolding tab
+  tab-at f zero l k d h = absurd (not-suc-le-zero h)
+  tab-at f (suc n) l zero d h = refl
+  tab-at f (suc n) l (suc k) d h = tab-at (λ k. f (suc k)) n l k d (le-of-suc-le-suc h)
+
+  -- the first n elements are f's
+  pub fill-at : (f : ℕ → A) (n : ℕ) (old : List A) (k : ℕ) (d : A) → k < n → getD (fill n f old) k d ≡ f k
+  unfolding fill
+  fill-at f n old k d h = tab-at f n (drop n old) k d h
+
+  -- the others are old's
+  pub fill-past : (f : ℕ → A) (n : ℕ) (old : List A) (k : ℕ) (d : A) → n ≤ length old → n ≤ k → getD (fill n f old) k d ≡ getD old k d
+  unfolding fill tab
+  fill-past f zero old k d g h = refl
+  fill-past f (suc n) old zero d g h = absurd (not-suc-le-zero h)
+  fill-past f (suc n) [] (suc k) d g h = absurd (not-suc-le-zero g)
+  fill-past f (suc n) (x ∷ old) (suc k) d g h = fill-past (λ k. f (suc k)) n old k d (le-of-suc-le-suc g) (le-of-suc-le-suc h)
+
+  tab-ext : (f g : ℕ → A) (n : ℕ) → ((k : ℕ) → k < n → f k ≡ g k) → tab n f ≡ tab n g
+  unfolding tab
+  tab-ext f g zero h = refl
+  tab-ext f g (suc n) h = λ i. h 0 (suc-le-suc zero-le) i ∷ tab-ext (λ k. f (suc k)) (λ k. g (suc k)) n (λ k l. h (suc k) (suc-le-suc l)) i
+
+  -- two fills are equal where the functions are, below n
+  pub fill-ext : (f g : ℕ → A) (n : ℕ) (old : List A) → ((k : ℕ) → k < n → f k ≡ g k) → fill n f old ≡ fill n g old
+  unfolding fill
+  fill-ext f g n old h = ap (λ (l : List A). l ++ drop n old) (tab-ext f g n h)
+
+  -- a fill over a fill is the last one
+  pub fill-fill : (f g : ℕ → A) (n : ℕ) (old : List A) → n ≤ length old → fill n g (fill n f old) ≡ fill n g old
+  unfolding fill tab
+  fill-fill f g zero old h = refl
+  fill-fill f g (suc n) [] h = absurd (not-suc-le-zero h)
+  fill-fill f g (suc n) (x ∷ old) h = ap (λ (l : List A). g 0 ∷ l) (fill-fill (λ k. f (suc k)) (λ k. g (suc k)) n old (le-of-suc-le-suc h))
+
+  -- a table of F, each cell of which is changed by G, is the table of what G makes of F
+  pub fill-then : (F : ℕ → A) (G : ℕ → A → A) (n : ℕ) (old : List A) (d : A) → n ≤ length old
+      → fill n (λ k. G k (getD (fill n F old) k d)) (fill n F old) ≡ fill n (λ k. G k (F k)) old
+  fill-then F G n old d h =
+      fill-fill F (λ k. G k (getD (fill n F old) k d)) n old h
+      ∙ fill-ext (λ k. G k (getD (fill n F old) k d)) (λ k. G k (F k)) n old (λ k l. ap (G k) (fill-at F n old k d l))
+
+-- A loop that goes over the first n cells of a table, storing f k at cell k: what it has reached before cell i, where it began with old and has out.
+pub record Filled {A : Type 0} (f : ℕ → A) (i n : ℕ) (old out : List A) : Type 0 where
+  pub low : i ≤ n
+  pub is : out ≡ fill i f old
+  pub len : length out ≡ length old
+
+module _ {A : Type 0} {f : ℕ → A} {n : ℕ} {old out : List A} where
+  -- where it stands, the cell is old's
+  pub filled-here : {i : ℕ} (d : A) → Filled f i n old out → i < n → n ≤ length old → getD out i d ≡ getD old i d
+  filled-here {i} d F h l = ap (λ (o : List A). getD o i d) (F .is) ∙ fill-past f i old i d (omega arith) (omega arith)
+
+  -- a turn
+  pub filled-more : {i : ℕ} {v : A} → Filled f i n old out → i < n → n ≤ length old → v ≡ f i → Filled f (i + 1) n old (set out i v)
+  filled-more {i} {v} F h l e = record {
+    low = omega arith;
+    is = (λ k. set (F .is k) i (e k)) ∙ fill-more f i old (omega arith);
+    len = length-set out i v ∙ F .len;
+  }
+
+  -- at the end
+  pub filled-all : {i : ℕ} → Filled f i n old out → n ≤ i → out ≡ fill n f old
+  filled-all {i} F h = let e : i ≡ n = omega (arith, F .low) in F .is ∙ ap (λ (k : ℕ). fill k f old) e
+
+-- at the start
+pub filled-none : {A : Type 0} (f : ℕ → A) (n : ℕ) (old : List A) → Filled f 0 n old old
+filled-none f n old = record { low = zero-le; is = fill-none f old; len = refl }
+
+-- A loop over t that changes each of a table's first n cells once a turn, cell k from s to g t k s: after t turns cell k is the loop of g over t.
+module _ {A : Type 0} (g : ℕ → ℕ → A → A) (z d : A) (n : ℕ) (old : List A) (fits : n ≤ length old) where
+  -- the loop begins with out, each cell of which was set to z
+  pub table-none : (out : List A) → out ≡ fill n (λ k. z) old → out ≡ fill n (λ k. loop 0 (λ t. g t k) z) out
+  unfolding loop
+  table-none out e = e ∙ sym (fill-fill (λ k. z) (λ k. z) n old fits) ∙ ap (λ (o : List A). fill n (λ k. z) o) (sym e)
+
+  -- a turn, for a loop that begins with old
+  pub table-more : (t : ℕ) (out next : List A) → out ≡ fill n (λ k. loop t (λ t. g t k) z) old → next ≡ fill n (λ k. g t k (getD out k d)) out
+      → next ≡ fill n (λ k. loop (t + 1) (λ t. g t k) z) old
+  table-more t out next e e′ =
+      e′ ∙ ap (λ (o : List A). fill n (λ k. g t k (getD o k d)) o) e
+      ∙ fill-then (λ k. loop t (λ t. g t k) z) (g t) n old d fits
+      ∙ fill-ext (λ k. g t k (loop t (λ t. g t k) z)) (λ k. loop (t + 1) (λ t. g t k) z) n old (λ k l. sym (loop-more (λ t. g t k) t z))
+
+  -- the loop began with one, which was old with each cell set to z; after it each cell is changed by h
+  pub table-last : (t : ℕ) (h : A → A) (one out last : List A) → one ≡ fill n (λ k. z) old → out ≡ fill n (λ k. loop t (λ t. g t k) z) one
+      → last ≡ fill n (λ k. h (getD out k d)) out → last ≡ fill n (λ k. h (loop t (λ t. g t k) z)) old
+  table-last t h one out last e e′ e″ =
+      e″ ∙ ap (λ (o : List A). fill n (λ k. h (getD o k d)) o) (e′ ∙ ap (λ (o : List A). fill n (λ k. loop t (λ t. g t k) z) o) e ∙ fill-fill (λ k. z) (λ k. loop t (λ t. g t k) z) n old fits)
+      ∙ fill-then (λ k. loop t (λ t. g t k) z) (λ k. h) n old d fits
+
+-- ---- sums and the largest size, as invariants
+pub sum-none : (f : ℕ → Float) → zero⁺ ≡ sumTo 0 f
+unfolding sumTo loop
+sum-none f = refl
+
+pub sum-turn : (f : ℕ → Float) (i : ℕ) (s s′ : Float) → s ≡ sumTo i f → s′ ≡ s ⊕ f i → s′ ≡ sumTo (i + 1) f
+unfolding sumTo
+sum-turn f i s s′ e e′ = loop-turn (λ k s. s ⊕ f k) i zero⁺ s s′ e e′
+
+pub amax-none : (f : ℕ → Float) → zero⁺ ≡ amaxTo 0 f
+unfolding amaxTo loop
+amax-none f = refl
+
+pub amax-turn : (f : ℕ → Float) (i : ℕ) (m x m′ : Float) → m ≡ amaxTo i f → x ≡ abs (f i) → m′ ≡ larger m x → m′ ≡ amaxTo (i + 1) f
+unfolding amaxTo
+amax-turn f i m x m′ e h e′ = loop-turn (λ k m. larger m (abs (f k))) i zero⁺ m m′ e (e′ ∙ ap (larger m) h)
+
+-- a number made for i, at the end
+pub at-end : {A : Type 0} (g : ℕ → A) (i n : ℕ) (s : A) → s ≡ g i → i ≤ n → n ≤ i → s ≡ g n
+at-end g i n s e h k = e ∙ ap g (le-antisymm h k)
+
+-- ---- a column
+pub column-cell : (size n j t : ℕ) → t < columnLength size n j → t * n + j < size
+unfolding columnLength
+column-cell size n j t h = go (ltb j n) refl h
+  where
+    go : (b : Bool) → ltb j n ≡ b → t < cond b (size / n) 0 → t * n + j < size
+    go false e l = absurd (not-suc-le-zero l)
+    go true e l = lt-of-lt-of-le (cell t (size / n) j n l (ltb-true j n e)) (div-mul-le-self size n)
+
+-- the same, of a count of rows that is known to be the column's
+pub column-in : (size n j t rows : ℕ) → rows ≡ columnLength size n j → t < rows → t * n + j < size
+column-in size n j t rows e h = column-cell size n j t (subst (λ (r : ℕ). t < r) e h)
+
+-- a matrix of T rows
+pub column-length : (T n j : ℕ) → j < n → columnLength (T * n) n j ≡ T
+unfolding columnLength
+column-length T n j h = rw (lt-ltb j n h) (mul-div-cancel T (omega arith))

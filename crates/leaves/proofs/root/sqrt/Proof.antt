@@ -1,0 +1,216 @@
+-- `leaves::root::sqrt` meets its contract. Below, each step of the code in the machine's terms, where a signed number is read back from its bits.
+use mathlib.Core.Path.{_≡_, refl, sym, ap, _∙_, subst}
+use Prim.Native.Nat.{ℕ, zero, suc, _*_, _^_, _<_}
+use native.Mathlib.Omega.{arith}
+use mathlib.Core.Bool.{true, false}
+use lib.Dec.{T}
+use lib.IntN.{ℤ, pos, _-ℤ_}
+use lib.Signed.{mag, shrZ}
+use lib.Ieee.{Float, nan, inf, fin, binary64, fits, lt, div, ofBits, ofInt, toUnsigned, round}
+use mir.Syntax.{w32}
+use mir.Val.{SFits, toZ, ofZ}
+use mir.Facts.{toZ-ofZ}
+use borrow.Author.Needs.{needs}
+use Rattle.leaves.specs.Numbers.{zero⁺}
+use Rattle.leaves.specs.Scaling.{pow2Scaled, binaryExponent}
+use Rattle.leaves.specs.Root.{sticky, halfExponent, radicand, sqrt}
+use Rattle.leaves.proofs.Whole.{over, under, one-side, minus, fits-i32, back-i32}
+use Rattle.leaves.proofs.Laws.{Room, fits→room}
+use Rattle.leaves.proofs.Zero.{no, zero-not-above, zero-not-below, not-below, is-below, is-above}
+use Rattle.leaves.proofs.Sqrts.{halved, scaled, truncated, above, below64, M, M-lt, radicand-is, last}
+use Rattle.leaves.proofs.root.sqrt.Statement.{statement}
+use Rattle.leaves.proofs.root.sqrt.Tie as tie
+
+-- what the machine reads back from a number's bits
+abbrev rd : ℤ → ℤ
+rd z = toZ w32 (ofZ w32 z)
+
+-- ---- the values that the tests let through
+data Place : Float → Type 0 where
+  at : (m : ℕ) (e : ℤ) → Room (suc m) e → Place (fin false (suc m) e)
+
+place : (x : Float) → fits binary64 x ≡ true → lt zero⁺ x ≡ true → lt x (inf false) ≡ true → Place x
+unfolding lt
+place nan t h k = no h refl
+place (inf true) t h k = no h refl
+place (inf false) t h k = no k refl
+place (fin true m e) t h k = no h refl
+place (fin false zero e) t h k = no h (zero-not-above e)
+place (fin false (suc m) e) t h k = at m e (fits→room false m e (subst T (sym t) tt))
+
+negative : (x : Float) → lt x zero⁺ ≡ true → nan ≡ sqrt x
+unfolding lt sqrt
+negative nan h = no h refl
+negative (inf true) h = refl
+negative (inf false) h = no h refl
+negative (fin true zero e) h = no h (zero-not-below true e)
+negative (fin true (suc m) e) h = refl
+negative (fin false m e) h = no h (not-below m e)
+
+-- a NaN or a zero
+other : (x : Float) → lt x zero⁺ ≡ false → lt zero⁺ x ≡ false → x ≡ sqrt x
+unfolding lt sqrt
+other nan h k = refl
+other (inf true) h k = no refl h
+other (inf false) h k = no refl k
+other (fin s zero e) h k = refl
+other (fin true (suc m) e) h k = no (is-below m e) h
+other (fin false (suc m) e) h k = no (is-above m e) k
+
+endless : (x : Float) → lt zero⁺ x ≡ true → lt x (inf false) ≡ false → x ≡ sqrt x
+unfolding lt sqrt
+endless nan h k = refl
+endless (inf true) h k = no h refl
+endless (inf false) h k = refl
+endless (fin s m e) h k = no refl k
+
+-- ---- the steps
+module _ (m : ℕ) (e : ℤ) (p : Room (suc m) e) (b : ℤ) (fb : mag b < 2 ^ 31) (is-b : b ≡ binaryExponent (fin false (suc m) e)) where
+  abbrev h : ℤ
+  h = halfExponent (suc m) e
+
+  abbrev H : ℤ
+  H = rd (shrZ (rd b) 2)
+
+  shr-is : shrZ (rd b) 2 ≡ h
+  unfolding binaryExponent halfExponent
+  shr-is = ap (λ (z : ℤ). shrZ z 2) (back-i32 b fb ∙ is-b)
+
+  H-is : H ≡ h
+  H-is = rw shr-is (toZ-ofZ (fits-i32 h (omega (arith, halved m e p)) (omega (arith, halved m e p))))
+
+  fits-1 : SFits w32 (pos 52 -ℤ h)
+  unfolding over under
+  fits-1 = fits-i32 (pos 52 -ℤ h) (omega (arith, halved m e p, minus (pos 52) h, one-side (pos 52 -ℤ h))) (omega (arith, halved m e p, minus (pos 52) h, one-side (pos 52 -ℤ h)))
+
+  fits-2 : SFits w32 (pos 52 -ℤ h -ℤ h)
+  unfolding over under
+  fits-2 =
+      let z = pos 52 -ℤ h -ℤ h in
+      fits-i32 z (omega (arith, halved m e p, minus (pos 52) h, minus (pos 52 -ℤ h) h, one-side z)) (omega (arith, halved m e p, minus (pos 52) h, minus (pos 52 -ℤ h) h, one-side z))
+
+  fits-3 : SFits w32 (h -ℤ pos 55)
+  unfolding over under
+  fits-3 = fits-i32 (h -ℤ pos 55) (omega (arith, halved m e p, minus h (pos 55), one-side (h -ℤ pos 55))) (omega (arith, halved m e p, minus h (pos 55), one-side (h -ℤ pos 55)))
+
+  sub-1 : SFits w32 (pos 52 -ℤ H)
+  sub-1 = rw H-is fits-1
+
+  sub-2 : SFits w32 (rd (pos 52 -ℤ H) -ℤ H)
+  sub-2 = rw (H-is, toZ-ofZ fits-1) fits-2
+
+  sub-3 : SFits w32 (H -ℤ pos 55)
+  sub-3 = rw H-is fits-3
+
+  module _ (y : Float) (is-y : y ≡ pow2Scaled (fin false (suc m) e) (rd (rd (pos 52 -ℤ H) -ℤ H))) where
+    y-is : y ≡ pow2Scaled (fin false (suc m) e) (pos 52 -ℤ h -ℤ h)
+    y-is = rw (is-y, H-is, toZ-ofZ fits-1, toZ-ofZ fits-2)
+
+    y-in : T (lt (fin true 1 (pos 0)) y) × T (lt y (fin false 1 (pos 64)))
+    y-in = rw (y-is, scaled m e p) (above m e p, below64 m e p)
+
+    module _ (n : ℕ) (is-n : n ≡ toUnsigned 64 y) where
+      n-is : n ≡ M m e p
+      n-is = rw (is-n, y-is, scaled m e p) (truncated m e p)
+
+      n-lt : n < 18014398509481984
+      n-lt = rw n-is (M-lt m e p)
+
+      module _ (s : ℕ) (is-s : s ≡ sticky (n * 72057594037927936)) (w : Float) (is-w : w ≡ ofInt binary64 (pos s)) (r : Float) (is-r : r ≡ pow2Scaled w (rd (H -ℤ pos 55))) where
+        w-is : w ≡ round binary64 false (sticky (radicand (suc m) e)) 1
+        unfolding ofInt
+        w-is = is-w ∙ ap (λ (k : ℕ). round binary64 false k 1) (is-s ∙ ap sticky (ap (λ (k : ℕ). k * 72057594037927936) n-is ∙ sym (radicand-is m e p)))
+
+        found : r ≡ sqrt (fin false (suc m) e)
+        found = rw (is-r, H-is, toZ-ofZ fits-3, w-is) (last m e p)
+
+-- ---- the steps at any value that the tests let through
+step-1 : {x : Float} → Place x → (b : ℤ) → mag b < 2 ^ 31 → b ≡ binaryExponent x → SFits w32 (pos 52 -ℤ rd (shrZ (rd b) 2))
+step-1 (at m e p) b fb ib = sub-1 m e p b fb ib
+
+step-2 : {x : Float} → Place x → (b : ℤ) → mag b < 2 ^ 31 → b ≡ binaryExponent x → SFits w32 (rd (pos 52 -ℤ rd (shrZ (rd b) 2)) -ℤ rd (shrZ (rd b) 2))
+step-2 (at m e p) b fb ib = sub-2 m e p b fb ib
+
+step-3 : {x : Float} → Place x → (b : ℤ) → mag b < 2 ^ 31 → b ≡ binaryExponent x → SFits w32 (rd (shrZ (rd b) 2) -ℤ pos 55)
+step-3 (at m e p) b fb ib = sub-3 m e p b fb ib
+
+step-y : {x : Float} → Place x → (b : ℤ) → mag b < 2 ^ 31 → b ≡ binaryExponent x → (y : Float) → y ≡ pow2Scaled x (rd (rd (pos 52 -ℤ rd (shrZ (rd b) 2)) -ℤ rd (shrZ (rd b) 2)))
+    → T (lt (fin true 1 (pos 0)) y) × T (lt y (fin false 1 (pos 64)))
+step-y (at m e p) b fb ib y iy = y-in m e p b fb ib y iy
+
+step-n : {x : Float} → Place x → (b : ℤ) → mag b < 2 ^ 31 → b ≡ binaryExponent x → (y : Float) → y ≡ pow2Scaled x (rd (rd (pos 52 -ℤ rd (shrZ (rd b) 2)) -ℤ rd (shrZ (rd b) 2)))
+    → (n : ℕ) → n ≡ toUnsigned 64 y → n < 18014398509481984
+step-n (at m e p) b fb ib y iy n i = n-lt m e p b fb ib y iy n i
+
+step-r : {x : Float} → Place x → (b : ℤ) → mag b < 2 ^ 31 → b ≡ binaryExponent x → (y : Float) → y ≡ pow2Scaled x (rd (rd (pos 52 -ℤ rd (shrZ (rd b) 2)) -ℤ rd (shrZ (rd b) 2)))
+    → (n : ℕ) → n ≡ toUnsigned 64 y → (s : ℕ) → s ≡ sticky (n * 72057594037927936) → (w : Float) → w ≡ ofInt binary64 (pos s)
+    → (r : Float) → r ≡ pow2Scaled w (rd (rd (shrZ (rd b) 2) -ℤ pos 55)) → r ≡ sqrt x
+step-r (at m e p) b fb ib y iy n i s is w iw r ir = found m e p b fb ib y iy n i s is w iw r ir
+
+here : (c : tie.Then3) → Place (c .before .before .before .args .x)
+unfolding ofBits div
+here c = place (c .before .before .before .args .x) (c .before .before .before .good .0 .1) (c .before .if2 .taken) (c .if3 .taken)
+
+returns : tie.Need-returns
+unfolding ofBits div
+returns c = negative (c .before .args .x) (c .if1 .taken)
+
+binary-exponent-requires : tie.Need-binary-exponent-requires
+binary-exponent-requires c κs = search needs
+
+sub-pow2-scaled : tie.Need-sub-pow2-scaled
+sub-pow2-scaled c = let b = c .binary-exponent in step-1 (here (c .before)) (b .result) (b .ok) (b .ensures)
+
+sub-pow2-scaled-2 : tie.Need-sub-pow2-scaled-2
+sub-pow2-scaled-2 c = let b = c .binary-exponent in step-2 (here (c .before)) (b .result) (b .ok) (b .ensures)
+
+pow2-scaled-requires : tie.Need-pow2-scaled-requires
+pow2-scaled-requires c κs = search needs
+
+truncating-f64-to-u64-requires : tie.Need-truncating-f64-to-u64-requires
+truncating-f64-to-u64-requires c κs =
+    let y = c .pow2-scaled in
+    let b = c .before .binary-exponent in
+    step-y (here (c .before .before)) (b .result) (b .ok) (b .ensures) (y .result) (y .ensures)
+
+root-digits-requires : tie.Need-root-digits-requires
+root-digits-requires c κs =
+    let n = c .truncating-f64-to-u64 in
+    let y = c .before .pow2-scaled in
+    let b = c .before .before .binary-exponent in
+    step-n (here (c .before .before .before)) (b .result) (b .ok) (b .ensures) (y .result) (y .ensures) (n .result) (n .ensures)
+
+nearest-u64-to-f64-requires : tie.Need-nearest-u64-to-f64-requires
+nearest-u64-to-f64-requires c κs = search needs
+
+sub-pow2-scaled-3 : tie.Need-sub-pow2-scaled-3
+sub-pow2-scaled-3 c =
+    let d = c .before .before .before .before in
+    let b = d .binary-exponent in
+    step-3 (here (d .before)) (b .result) (b .ok) (b .ensures)
+
+pow2-scaled-requires-2 : tie.Need-pow2-scaled-requires-2
+pow2-scaled-requires-2 c κs = search needs
+
+returns-2 : tie.Need-returns-2
+returns-2 c =
+    let w = c .before .nearest-u64-to-f64 in
+    let s = c .before .before .root-digits in
+    let n = c .before .before .before .truncating-f64-to-u64 in
+    let d = c .before .before .before .before in
+    let y = d .pow2-scaled in
+    let b = d .before .binary-exponent in
+    step-r (here (d .before .before)) (b .result) (b .ok) (b .ensures) (y .result) (y .ensures) (n .result) (n .ensures) (s .result) (s .ensures) (w .result) (w .ensures) (c .pow2-scaled2 .result) (c .pow2-scaled2 .ensures)
+
+returns-3 : tie.Need-returns-3
+unfolding ofBits div
+returns-3 c = endless (c .before .before .before .args .x) (c .before .if2 .taken) (c .if3 .left)
+
+returns-4 : tie.Need-returns-4
+unfolding ofBits
+returns-4 c = other (c .before .before .args .x) (c .before .if1 .left) (c .if2 .left)
+
+pub sqrt-spec : {M : Type 1} → statement M
+sqrt-spec =
+    tie.close
+    (tie.spec returns binary-exponent-requires sub-pow2-scaled sub-pow2-scaled-2 pow2-scaled-requires truncating-f64-to-u64-requires root-digits-requires nearest-u64-to-f64-requires sub-pow2-scaled-3 pow2-scaled-requires-2 returns-2 returns-3 returns-4)

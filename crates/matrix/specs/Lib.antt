@@ -1,0 +1,5 @@
+-- Document 01, "Records", "Float leaves" (sums over matrices) and "Jacobi".
+pub mod Limits
+pub mod Matrix
+pub mod Rotation
+pub mod Jacobi

@@ -1,0 +1,56 @@
+-- Document 01, "Jacobi": one Jacobi rotation (Golub and Van Loan 2013, section 8.5.2, with the source's formulas for the tangent; eigen.rs, `rotate`).
+-- Definitions only.
+use Prim.Native.Nat.{ℕ, suc, _+_, _*_}
+use mathlib.Core.Bool.{true, false, cond}
+use mathlib.Core.List.{List}
+use lib.ListN.{getD, set}
+use lib.Ieee.{Float, nan, lt, eq}
+use Rattle.leaves.specs.Numbers.{_⊕_, _⊖_, _⊗_, _⊘_, zero⁺, half, one, two, 1e150, abs, signum}
+use Rattle.leaves.specs.Loops.{loop}
+use Rattle.leaves.specs.Root.{sqrt}
+use Rattle.matrix.specs.Matrix.{at}
+
+-- cot 2θ for the angle θ that zeroes y between the diagonal numbers x and z
+abbrev pub cotangent : Float → Float → Float → Float
+cotangent x y z = (z ⊖ x) ⊘ (two ⊗ y)
+
+-- tan θ, the smaller root of t² + 2τt - 1, which keeps θ below 45 degrees; near 1 / 2τ where τ² would overflow
+unfoldable pub tangent : Float → Float
+tangent τ = cond (lt 1e150 (abs τ)) (half ⊘ τ) (signum τ ⊘ (abs τ ⊕ sqrt (τ ⊗ τ ⊕ one)))
+
+abbrev pub cosine : Float → Float
+cosine t = one ⊘ sqrt (t ⊗ t ⊕ one)
+
+-- numbers i and j of a list, turned by the angle whose cosine is c and whose sine is s
+unfoldable pub turn : Float → Float → ℕ → ℕ → List Float → List Float
+turn c s i j l = set (set l i (c ⊗ getD l i nan ⊖ s ⊗ getD l j nan)) j (s ⊗ getD l i nan ⊕ c ⊗ getD l j nan)
+
+-- columns p and q turned, and rows p and q
+unfoldable pub turnColumns : ℕ → ℕ → ℕ → Float → Float → List Float → List Float
+turnColumns n p q c s = loop n (λ k. turn c s (k * n + p) (k * n + q))
+
+unfoldable pub turnRows : ℕ → ℕ → ℕ → Float → Float → List Float → List Float
+turnRows n p q c s = loop n (λ k. turn c s (p * n + k) (q * n + k))
+
+-- A, V and the count of rotations
+pub record State : Type 0 where
+  pub matrix : List Float
+  pub vectors : List Float
+  pub rotations : ℕ
+
+-- JᵀAJ with 0 where p and q meet, and VJ
+unfoldable pub rotated : ℕ → ℕ → ℕ → Float → Float → State → State
+rotated n p q c s st = record {
+  matrix = set (set (turnRows n p q c s (turnColumns n p q c s (st .matrix))) (p * n + q) zero⁺) (q * n + p) zero⁺;
+  vectors = turnColumns n p q c s (st .vectors);
+  rotations = suc (st .rotations);
+}
+
+unfoldable pub rotateBy : ℕ → ℕ → ℕ → Float → State → State
+rotateBy n p q t st = let c = cosine t in rotated n p q c (t ⊗ c) st
+
+-- nothing is done at an entry 0
+unfoldable pub rotate : ℕ → ℕ → ℕ → State → State
+rotate n p q st =
+    let a = at (st .matrix) n in
+    elim (eq (a p q) zero⁺) [ true ↦ st | false ↦ rotateBy n p q (tangent (cotangent (a p p) (a p q) (a q q))) st ]
