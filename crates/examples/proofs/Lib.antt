@@ -1,0 +1,3 @@
+-- The definitions at numbers.
+mod Evaluated
+pub mod Cases

@@ -1,0 +1,1 @@
+// The definitions at numbers: theorems by computation, in proofs/. No code.
