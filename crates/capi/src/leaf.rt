@@ -1,0 +1,128 @@
+// The float leaves with C linkage, each as it stands in `leaves`.
+ghost use mathlib.Core.Path.{_≡_};
+ghost use Prim.Native.Nat.{ℕ, _+_, _*_};
+ghost use lib.ListN.{length};
+ghost use Rattle.leaves.specs.Numbers as Numbers;
+ghost use Rattle.leaves.specs.Loops as Loops;
+ghost use Rattle.leaves.specs.Scaling as Scaling;
+ghost use Rattle.leaves.specs.Root as Root;
+ghost use Rattle.leaves.specs.Exp as Exp;
+
+#[no_mangle]
+pub extern "C" fn leaf_is_finite(x: f64) -> bool
+    ensures { λ r. ⌜ r ≡ Numbers.isFinite x ⌝ }
+{
+    leaves::numbers::is_finite(x)
+}
+
+#[no_mangle]
+pub extern "C" fn leaf_abs(x: f64) -> f64
+    ensures { λ r. ⌜ r ≡ Numbers.abs x ⌝ }
+{
+    leaves::numbers::abs(x)
+}
+
+#[no_mangle]
+pub extern "C" fn leaf_signum(x: f64) -> f64
+    ensures { λ r. ⌜ r ≡ Numbers.signum x ⌝ }
+{
+    leaves::numbers::signum(x)
+}
+
+#[no_mangle]
+pub extern "C" fn leaf_larger(m: f64, x: f64) -> f64
+    ensures { λ r. ⌜ r ≡ Numbers.larger m x ⌝ }
+{
+    leaves::numbers::larger(m, x)
+}
+
+#[no_mangle]
+pub extern "C" fn leaf_smaller(m: f64, x: f64) -> f64
+    ensures { λ r. ⌜ r ≡ Numbers.smaller m x ⌝ }
+{
+    leaves::numbers::smaller(m, x)
+}
+
+#[no_mangle]
+pub extern "C" fn leaf_min0(y: f64) -> f64
+    ensures { λ r. ⌜ r ≡ Numbers.min0 y ⌝ }
+{
+    leaves::numbers::min0(y)
+}
+
+#[no_mangle]
+pub extern "C" fn leaf_max0(y: f64) -> f64
+    ensures { λ r. ⌜ r ≡ Numbers.max0 y ⌝ }
+{
+    leaves::numbers::max0(y)
+}
+
+#[no_mangle]
+pub extern "C" fn leaf_clamp01(x: f64) -> f64
+    ensures { λ r. ⌜ r ≡ Numbers.clamp01 x ⌝ }
+{
+    leaves::numbers::clamp01(x)
+}
+
+#[no_mangle]
+pub extern "C" fn leaf_binary_exponent(x: f64) -> i32
+    ensures { λ r. ⌜ r ≡ Scaling.binaryExponent x ⌝ }
+{
+    leaves::scaling::binary_exponent(x)
+}
+
+#[no_mangle]
+pub extern "C" fn leaf_pow2_scaled(x: f64, k: i32) -> f64
+    ensures { λ r. ⌜ r ≡ Scaling.pow2Scaled x k ⌝ }
+{
+    leaves::scaling::pow2_scaled(x, k)
+}
+
+#[no_mangle]
+pub extern "C" fn leaf_sqrt(x: f64) -> f64
+    ensures { λ r. ⌜ r ≡ Root.sqrt x ⌝ }
+{
+    leaves::root::sqrt(x)
+}
+
+#[no_mangle]
+pub extern "C" fn leaf_exp(y: f64) -> f64
+    ensures { λ r. ⌜ r ≡ Exp.exp y ⌝ }
+{
+    leaves::exponential::exp(y)
+}
+
+#[no_mangle]
+pub extern "C" fn leaf_exp_m1(y: f64) -> f64
+    ensures { λ r. ⌜ r ≡ Exp.expM1 y ⌝ }
+{
+    leaves::exponential::exp_m1(y)
+}
+
+#[no_mangle]
+pub extern "C" fn leaf_sum(xs: &[f64]) -> f64
+    ensures { λ r. ⌜ r ≡ Loops.sumTo (length (now (xs .entry))) (Loops.nth (now (xs .entry))) ⌝ }
+{
+    leaves::sums::sum(xs)
+}
+
+#[no_mangle]
+pub extern "C" fn leaf_amax(xs: &[f64]) -> f64
+    ensures { λ r. ⌜ r ≡ Loops.amaxTo (length (now (xs .entry))) (Loops.nth (now (xs .entry))) ⌝ }
+{
+    leaves::sums::amax(xs)
+}
+
+#[no_mangle]
+pub extern "C" fn leaf_sum_column(xs: &[f64], n: usize, j: usize) -> f64
+    ensures { λ r. ⌜ r ≡ Loops.sumTo (Loops.columnLength (length (now (xs .entry))) n j) (λ (t : ℕ). Loops.nth (now (xs .entry)) (t * n + j)) ⌝ }
+{
+    leaves::sums::sum_column(xs, n, j)
+}
+
+#[no_mangle]
+pub extern "C" fn leaf_amax_column(xs: &[f64], n: usize, j: usize) -> f64
+    ensures { λ r. ⌜ r ≡ Loops.amaxTo (Loops.columnLength (length (now (xs .entry))) n j) (λ (t : ℕ). Loops.nth (now (xs .entry)) (t * n + j)) ⌝ }
+{
+    leaves::sums::amax_column(xs, n, j)
+}
