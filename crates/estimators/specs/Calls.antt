@@ -6,12 +6,11 @@ use lib.ListN.{getD}
 use lib.Ieee.{Float}
 use Rattle.leaves.specs.Loops.{tab, fill, nth}
 use Rattle.leaves.specs.Scaling.{binaryExponent, pow2Scaled}
-use Rattle.matrix.specs.Matrix.{at, rows, amax}
+use Rattle.matrix.specs.Matrix.{at, rows, amax, averaged}
 use Rattle.matrix.specs.Jacobi.{decompose}
 use Rattle.estimators.specs.Refusals.{Check, passes, refuses, first}
 use Rattle.estimators.specs.Sample.{largest, scaled}
 use Rattle.estimators.specs.Weighted.{logDecay, weights, weightedMean}
-use Rattle.estimators.specs.Given.{averaged}
 use Rattle.estimators.specs.LedoitWolf.{ledoitWolf}
 use Rattle.estimators.specs.Adjusted.{decompositionOf, base, intensity, adjusted}
 use Rattle.estimators.specs.Moments.{Moments, moments}

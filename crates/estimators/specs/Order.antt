@@ -8,12 +8,12 @@ use lib.Ieee.{Float, le, eq}
 use Rattle.leaves.specs.Numbers.{_⊗_, zero⁺, one, isFinite}
 use Rattle.leaves.specs.Loops.{firstTo}
 use Rattle.matrix.specs.Limits.{maxSide, maxSweeps}
-use Rattle.matrix.specs.Matrix.{Matrix, at, amax, trace, firstEntry, allFinite}
+use Rattle.matrix.specs.Matrix.{Matrix, at, amax, trace, averaged, firstEntry, allFinite}
 use Rattle.matrix.specs.Jacobi.{Decomposition}
 use Rattle.estimators.specs.Refusals.{Check, passes, when, whenSome}
 use Rattle.estimators.specs.Sample.{covariance, largest, constantAsset}
 use Rattle.estimators.specs.Weighted.{logDecay, accepted}
-use Rattle.estimators.specs.Given.{asymmetry, averaged, smallest, indefinite}
+use Rattle.estimators.specs.Given.{asymmetry, smallest, indefinite}
 use Rattle.estimators.specs.BayesStein.{singular}
 use Rattle.estimators.specs.Adjusted.{isSample, isGiven, isAdjusted}
 use Rattle.estimators.specs.declared.Estimate.{Estimate}
