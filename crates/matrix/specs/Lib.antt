@@ -3,3 +3,5 @@ pub mod Limits
 pub mod Matrix
 pub mod Rotation
 pub mod Jacobi
+pub mod Inner
+pub mod Places

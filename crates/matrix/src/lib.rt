@@ -1,1 +1,12 @@
 // Matrices, row by row, and the decomposition of a symmetric one by Jacobi rotations.
+pub mod entries;
+pub mod jacobi;
+pub mod places;
+pub mod rotation;
+pub mod sums;
+pub mod tables;
+
+// Document 01's largest side of a matrix and largest sweep limit.
+pub const MAX_SIDE: usize = 32;
+
+pub const MAX_SWEEPS: usize = 100;

@@ -1,0 +1,6 @@
+-- The laws that the proofs of the matrices share.
+pub mod Steps
+pub mod First
+pub mod Stored
+pub mod Counts
+pub mod Compare

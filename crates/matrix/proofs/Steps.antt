@@ -1,0 +1,63 @@
+-- Laws of `loop`: steps that are alike, that do nothing, that are taken in two parts or row by row. Assumes nothing.
+use mathlib.Core.Path.{_≡_, refl, sym, ap, _∙_}
+use Prim.Native.Nat.{ℕ, zero, suc, _+_, _*_, _/_, _%_, _≤_, _<_}
+use native.Mathlib.Nat.{le-refl, le-step, zero-mul, suc-mul}
+use native.Mathlib.Omega.{arith}
+use lib.Dec.{ltb}
+use lib.Ieee.{Float}
+use borrow.Author.Tests.{lt-ltb, le-ltb}
+use Rattle.leaves.specs.Numbers.{_⊕_, zero⁺, abs, larger}
+use Rattle.leaves.specs.Loops.{loop, sumTo, amaxTo}
+use Rattle.leaves.proofs.Loops.{cell-row, cell-col}
+use Rattle.matrix.specs.Matrix.{Matrix, sumOver, every}
+use Rattle.matrix.specs.Inner.{addKept}
+
+module _ {S : Type 0} where
+  -- alike below n
+  pub loop-ext : (f g : ℕ → S → S) (n : ℕ) (s : S) → ((k : ℕ) → k < n → (x : S) → f k x ≡ g k x) → loop n f s ≡ loop n g s
+  unfolding loop
+  loop-ext f g zero s h = refl
+  loop-ext f g (suc n) s h = ap (f n) (loop-ext f g n s (λ k l. h k (le-step l))) ∙ h n (le-refl (suc n)) (loop n g s)
+
+  -- nothing done below n
+  pub loop-still : (f : ℕ → S → S) (n : ℕ) (s : S) → ((k : ℕ) → k < n → (x : S) → f k x ≡ x) → loop n f s ≡ s
+  unfolding loop
+  loop-still f zero s h = refl
+  loop-still f (suc n) s h = h n (le-refl (suc n)) (loop n f s) ∙ loop-still f n s (λ k l. h k (le-step l))
+
+  loop-both : (f : ℕ → S → S) (a b : ℕ) (s : S) → loop (a + b) f s ≡ loop b (λ k. f (a + k)) (loop a f s)
+  unfolding loop
+  loop-both f a zero s = let e : a + 0 ≡ a = omega arith in ap (λ (j : ℕ). loop j f s) e
+  loop-both f a (suc b) s = let e : a + suc b ≡ suc (a + b) = omega arith in ap (λ (j : ℕ). loop j f s) e ∙ ap (f (a + b)) (loop-both f a b s)
+
+  -- m rows of n steps are m * n steps
+  pub loop-rows : (f : ℕ → ℕ → S → S) (m n : ℕ) (s : S) → loop m (λ i. loop n (f i)) s ≡ loop (m * n) (λ k. f (k / n) (k % n)) s
+  unfolding loop
+  loop-rows f zero n s = ap (λ (j : ℕ). loop j (λ k. f (k / n) (k % n)) s) (sym (zero-mul n))
+  loop-rows f (suc m) n s =
+      ap (loop n (f m)) (loop-rows f m n s)
+      ∙ loop-ext (f m) (λ j. f ((m * n + j) / n) ((m * n + j) % n)) n (loop (m * n) (λ k. f (k / n) (k % n)) s) (λ j h x i. f (sym (cell-row m n j h) i) (sym (cell-col m n j h) i) x)
+      ∙ sym (loop-both (λ k. f (k / n) (k % n)) (m * n) n s)
+      ∙ ap (λ (j : ℕ). loop j (λ k. f (k / n) (k % n)) s) (sym (suc-mul m n))
+
+-- ---- sums
+
+pub sum-ext : (f g : ℕ → Float) (n : ℕ) → ((k : ℕ) → k < n → f k ≡ g k) → sumTo n f ≡ sumTo n g
+unfolding sumTo
+sum-ext f g n h = loop-ext (λ k s. s ⊕ f k) (λ k s. s ⊕ g k) n zero⁺ (λ k l x. ap (λ (y : Float). x ⊕ y) (h k l))
+
+pub amax-ext : (f g : ℕ → Float) (n : ℕ) → ((k : ℕ) → k < n → f k ≡ g k) → amaxTo n f ≡ amaxTo n g
+unfolding amaxTo
+amax-ext f g n h = loop-ext (λ k m. larger m (abs (f k))) (λ k m. larger m (abs (g k))) n zero⁺ (λ k l x. ap (λ (y : Float). larger x (abs y)) (h k l))
+
+-- every entry, row by row
+pub sum-every : (f : Matrix) (n : ℕ) → sumTo (n * n) (λ k. f (k / n) (k % n)) ≡ sumOver n every f zero⁺
+unfolding sumTo sumOver
+sum-every f n = sym (loop-rows (λ i j s. s ⊕ f i j) n n zero⁺)
+
+-- those right of the diagonal: row p begins with column p + 1
+pub above-none : (f : Matrix) (p : ℕ) (s : Float) → s ≡ loop (p + 1) (addKept ltb f p) s
+above-none f p s = sym (loop-still (addKept ltb f p) (p + 1) s (λ j h x. let l : j ≤ p = omega arith in rw (addKept, le-ltb p j l)))
+
+pub above-more : (f : Matrix) (p q : ℕ) (s : Float) → p < q → s ⊕ f p q ≡ addKept ltb f p q s
+above-more f p q s h = rw (addKept, lt-ltb p q h)

@@ -1,0 +1,76 @@
+-- Laws of the matrices that are stored row by row, and of filling one. Assumes nothing.
+use mathlib.Core.Path.{_≡_, refl, sym, ap, _∙_}
+use mathlib.Core.List.{List, [], _++_, append-nil}
+use Prim.Native.Nat.{ℕ, zero, suc, _+_, _*_, _/_, _%_, _≤_, _<_, zero-le, suc-le-suc}
+use native.Mathlib.Nat.{div-add-mod', le-of-eq, mul-zero, not-suc-le-zero}
+use native.Mathlib.Omega.{arith}
+use mathlib.Core.Bool.{Bool, false, cond}
+use lib.Dec.{eqb, eqb·zero-suc, eqb·suc-zero, eqb·suc-suc}
+use lib.ListN.{length, getD, drop-of-length-le}
+use lib.Ieee.{Float, nan, inf, fin, binary64, round, unlike, up, down, mul, div}
+use Rattle.leaves.specs.Numbers.{_⊗_, _⊘_, zero⁺, one, half, two}
+use Rattle.leaves.specs.Loops.{tab, fill, nth}
+use Rattle.leaves.proofs.Loops.{row-below, col-below, cell, cell-row, cell-col, length-tab, fill-at, fill-ext, Filled, filled-all}
+use Rattle.matrix.specs.Matrix.{Matrix, at, rows, identity, product}
+use Rattle.matrix.proofs.Steps.{sum-ext}
+
+-- a matrix with a cell k has a column
+pub has-column : (k m n : ℕ) → k < m * n → 0 < n
+has-column k m zero h = absurd (not-suc-le-zero (rw mul-zero at h))
+has-column k m (suc n) h = suc-le-suc zero-le
+
+-- number k is the entry in row k / n and column k % n
+pub entry-at : (a : List Float) (n k : ℕ) → at a n (k / n) (k % n) ≡ nth a k
+entry-at a n k = ap (nth a) (div-add-mod' k n)
+
+pub length-rows : (f : Matrix) (m n : ℕ) → length (rows m n f) ≡ m * n
+unfolding rows
+length-rows f m n = length-tab (λ k. f (k / n) (k % n)) (m * n)
+
+-- a slice that is filled whole
+pub filled-whole : {f : ℕ → Float} {i n : ℕ} {old out : List Float} → Filled f i n old out → n ≤ i → length old ≡ n → out ≡ tab n f
+unfolding fill
+filled-whole {f} {i} {n} {old} {out} F h l =
+    filled-all F h ∙ ap (λ (r : List Float). tab n f ++ r) (drop-of-length-le old (le-of-eq l)) ∙ append-nil (tab n f)
+
+pub filled-rows : (f : Matrix) (n : ℕ) {i : ℕ} {old out : List Float} → Filled (λ k. f (k / n) (k % n)) i (n * n) old out → n * n ≤ i → length old ≡ n * n → out ≡ rows n n f
+unfolding rows
+filled-rows f n F h l = filled-whole F h l
+
+tab-fill : (f : ℕ → Float) (n : ℕ) → tab n f ≡ fill n f []
+unfolding fill
+tab-fill f n = sym (ap (λ (r : List Float). tab n f ++ r) (drop-of-length-le [] {i = n} (omega arith)) ∙ append-nil (tab n f))
+
+pub rows-at : (f : Matrix) (n i j : ℕ) → i < n → j < n → at (rows n n f) n i j ≡ f i j
+unfolding rows
+rows-at f n i j hi hj =
+    ap (λ (l : List Float). getD l (i * n + j) nan) (tab-fill (λ k. f (k / n) (k % n)) (n * n))
+    ∙ fill-at (λ k. f (k / n) (k % n)) (n * n) [] (i * n + j) nan (cell i n j n hi hj)
+    ∙ (λ t. f (cell-row i n j hj t) (cell-col i n j hj t))
+
+pub rows-ext : (f g : Matrix) (n : ℕ) → ((i j : ℕ) → i < n → j < n → f i j ≡ g i j) → rows n n f ≡ rows n n g
+unfolding rows
+rows-ext f g n h =
+    tab-fill (λ k. f (k / n) (k % n)) (n * n)
+    ∙ fill-ext (λ k. f (k / n) (k % n)) (λ k. g (k / n) (k % n)) (n * n) [] (λ k l. h (k / n) (k % n) (row-below k n l) (col-below k n l))
+    ∙ sym (tab-fill (λ k. g (k / n) (k % n)) (n * n))
+
+pub product-ext : (f f′ g g′ : Matrix) (n i j : ℕ) → ((k : ℕ) → k < n → f i k ≡ f′ i k) → ((k : ℕ) → k < n → g k j ≡ g′ k j) → product n f g i j ≡ product n f′ g′ i j
+product-ext f f′ g g′ n i j hf hg = sum-ext (λ k. f i k ⊗ g k j) (λ k. f′ i k ⊗ g′ k j) n (λ k h t. hf k h t ⊗ hg k h t)
+
+-- the identity is its transpose
+pub identity-sym : (i j : ℕ) → identity i j ≡ identity j i
+identity-sym i j = ap (λ (b : Bool). cond b one zero⁺) (eqb-sym i j)
+  where
+    eqb-sym : (i j : ℕ) → eqb i j ≡ eqb j i
+    eqb-sym zero zero = refl
+    eqb-sym zero (suc j) = eqb·zero-suc j ∙ sym (eqb·suc-zero j)
+    eqb-sym (suc i) zero = eqb·suc-zero i ∙ sym (eqb·zero-suc i)
+    eqb-sym (suc i) (suc j) = eqb·suc-suc i j ∙ eqb-sym i j ∙ sym (eqb·suc-suc j i)
+
+-- half a number, two ways
+pub halved : (x : Float) → x ⊘ two ≡ x ⊗ half
+unfolding div mul
+halved nan = refl
+halved (inf s) = refl
+halved (fin s m e) = let num : m * up e * 1 ≡ m * up e * (1 * 1) = omega arith in let den : 1 * 2 * down e ≡ down e * 2 = omega arith in λ i. round binary64 (unlike s false) (num i) (den i)

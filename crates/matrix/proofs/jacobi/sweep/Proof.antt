@@ -1,0 +1,57 @@
+-- `matrix::jacobi::sweep` meets its contract. The invariant: the rows swept so far, whatever was counted before.
+use mathlib.Core.Path.{_≡_, refl, sym, ap, _∙_}
+use Prim.Native.Nat.{ℕ, suc, _≤_, _<_, _-_, _+_, _*_}
+use native.Mathlib.Nat.{add-zero, add-assoc, le-refl, mul-le-mul}
+use native.Mathlib.Omega.{arith}
+use borrow.Author.Needs.{needs}
+use lib.ListN.{length}
+use Rattle.leaves.specs.Loops.{loop}
+use Rattle.leaves.proofs.Loops.{loop-start, loop-turn, loop-end, row}
+use Rattle.matrix.specs.Limits.{maxSide}
+use Rattle.matrix.specs.Rotation.{rotate}
+use Rattle.matrix.specs.Jacobi.{sweep}
+use Rattle.matrix.specs.Inner.{state}
+use Rattle.matrix.proofs.Counts.{places, places-most, row-count, rows-count}
+use Rattle.matrix.proofs.jacobi.sweep.Statement.{statement}
+use Rattle.matrix.proofs.jacobi.sweep.Tie as tie
+
+-- the count stays below the square of the side
+room : (n p r r′ : ℕ) → p < n → n ≤ maxSide → r ≤ 0 + places n p → r′ ≤ 0 + (n - suc p) → r + r′ ≤ maxSide * maxSide
+room n p r r′ h l e e′ = omega (arith, places-most n p, row p n n h, mul-le-mul l l)
+
+abbrev Inv-loop : tie.InvT-loop
+Inv-loop a₀ v₀ n rotations₀ p₀ a v rotations p = (p ≤ n) × (length a ≡ length a₀) × (length v ≡ length v₀) × ((k : ℕ) → state a v (k + rotations) ≡ loop p (λ p. loop (n - suc p) (λ k. rotate n p (suc p + k))) (state a₀ v₀ k))
+
+abbrev μ-loop : tie.MeasureT-loop
+μ-loop a₀ v₀ n rotations₀ p₀ a v rotations p = n - p
+
+loop-holds : tie.Need-loop-holds Inv-loop μ-loop
+loop-holds c = (omega arith, refl, refl, λ k. ap (state _ _) (add-zero k) ∙ loop-start _ _)
+
+sweep-row-requires : tie.Need-sweep-row-requires Inv-loop μ-loop
+sweep-row-requires c κs = search needs
+
+add-rotations : tie.Need-add-rotations Inv-loop μ-loop
+add-rotations c = let l = c .before .before .before .before .before .before .before .before in omega (arith, room _ _ _ _ (c .before .before .before .before .before .before .before .loop-test .taken) (c .before .before .before .before .before .before .before .before .before .before .before .pre .0) (rows-count _ _ _ _ (l .loop .inv .3 0)) (row-count _ _ _ _ _ (c .before .before .before .before .sweep-row .ensures 0) (le-refl _)))
+
+add-p : tie.Need-add-p Inv-loop μ-loop
+add-p c = search needs
+
+loop-less : tie.Need-loop-less Inv-loop μ-loop
+loop-less c = search needs
+
+loop-again : tie.Need-loop-again Inv-loop μ-loop
+loop-again c = (omega arith, search needs, search needs, λ k. loop-turn _ _ _ _ _ (c .before .before .before .before .before .before .before .before .loop .inv .3 k) (ap (state _ _) (sym (add-assoc k _ _)) ∙ c .before .before .before .before .sweep-row .ensures (k + c .before .before .before .before .before .before .before .before .loop .rotations)))
+
+same-length : tie.Need-same-length Inv-loop μ-loop
+same-length c = search needs
+
+same-length-2 : tie.Need-same-length-2 Inv-loop μ-loop
+same-length-2 c = search needs
+
+returns : tie.Need-returns Inv-loop μ-loop
+unfolding sweep
+returns c = λ k. loop-end _ _ _ _ _ (c .before .loop .inv .3 k) (omega arith)
+
+pub sweep-spec : {M : Type 1} → statement M
+sweep-spec = tie.close (tie.spec Inv-loop μ-loop loop-holds sweep-row-requires add-rotations add-p loop-less loop-again same-length same-length-2 returns)

@@ -1,0 +1,61 @@
+-- `matrix::jacobi::turned` meets its contract: what its calls ensure, put together.
+use mathlib.Core.Path.{_≡_, ap, _∙_}
+use mathlib.Core.Bool.{Bool}
+use mathlib.Core.List.{List}
+use Prim.Native.Nat.{ℕ}
+use borrow.Author.Needs.{needs}
+use lib.Ieee.{Float, ofBits}
+use Rattle.leaves.specs.Numbers.{_⊗_, ε}
+use Rattle.leaves.specs.Loops.{tab}
+use Rattle.leaves.specs.Root.{sqrt}
+use Rattle.matrix.specs.Matrix.{Matrix, at, rows, identity, squares}
+use Rattle.matrix.specs.Jacobi.{start, sweeping, swept, scaledBack}
+use Rattle.matrix.specs.Inner.{state, sweptTo, decomposed}
+use Rattle.matrix.proofs.jacobi.turned.Statement.{statement}
+use Rattle.matrix.proofs.jacobi.turned.Tie as tie
+
+finished : (n limit : ℕ) (scale : Float) (a : Matrix) {w₁ v₁ w₂ v₂ values : List Float} {q r : Float} {found : Bool} {k rotations : ℕ} → v₁ ≡ rows n n identity → w₁ ≡ start n scale a
+    → q ≡ squares n (at w₁ n) → r ≡ sqrt q → sweptTo found k (state w₂ v₂ rotations) ≡ sweeping limit n (ε ⊗ r) (state w₁ v₁ 0) → values ≡ tab n (λ i. at w₂ n i i ⊗ scale)
+    → decomposed found values v₂ k rotations ≡ scaledBack n scale (swept limit n (start n scale a))
+unfolding swept scaledBack
+finished n limit scale a {w₁} {v₁} {w₂} {v₂} {values} {q} {r} {found} {k} {rotations} ev ew eq er es el =
+    let root : r ≡ sqrt (squares n (at (start n scale a) n)) = er ∙ ap sqrt (eq ∙ ap (λ (w : List Float). squares n (at w n)) ew) in
+    let d : sweptTo found k (state w₂ v₂ rotations) ≡ swept limit n (start n scale a) = es ∙ (λ i. sweeping limit n (ε ⊗ root i) (state (ew i) (ev i) 0)) in
+    (λ i. decomposed found (el i) v₂ k rotations) ∙ ap (scaledBack n scale) d
+
+put-identity-requires : tie.Need-put-identity-requires
+put-identity-requires c κs = search needs
+
+start-requires : tie.Need-start-requires
+start-requires c κs = search needs
+
+squares-requires : tie.Need-squares-requires
+squares-requires c κs = search needs
+
+sqrt-requires : tie.Need-sqrt-requires
+sqrt-requires c κs = search needs
+
+sweeping-requires : tie.Need-sweeping-requires
+sweeping-requires c κs = search needs
+
+put-diagonal-requires : tie.Need-put-diagonal-requires
+put-diagonal-requires c κs = search needs
+
+same-length : tie.Need-same-length
+same-length c = search needs
+
+same-length-2 : tie.Need-same-length-2
+same-length-2 c = search needs
+
+same-length-3 : tie.Need-same-length-3
+same-length-3 c = search needs
+
+same-length-4 : tie.Need-same-length-4
+same-length-4 c = search needs
+
+returns : tie.Need-returns
+unfolding ofBits
+returns c = let a = c .before .before .before .before .before .before .before .before .before .before .before .before .before .before .before .before .before .before .before .before .before .before .before .before .before .before .before .before .before .before .before .before .args in finished (a .n) (a .limit) (a .scale) (at (a .a .now) (a .n)) (c .before .before .before .before .before .before .before .before .before .before .before .before .before .before .before .before .before .before .before .before .before .before .before .before .before .put-identity .ensures) (c .before .before .before .before .before .before .before .before .before .before .before .before .before .before .before .before .before .before .before .start .ensures) (c .before .before .before .before .before .before .before .before .before .before .before .before .before .squares .ensures) (c .before .before .before .before .before .before .before .before .before .before .before .before .sqrt .ensures) (c .before .before .before .before .before .before .before .before .before .sweeping .ensures) (c .before .before .put-diagonal .ensures)
+
+pub turned-spec : {M : Type 1} → statement M
+turned-spec = tie.close (tie.spec put-identity-requires start-requires squares-requires sqrt-requires sweeping-requires put-diagonal-requires same-length same-length-2 same-length-3 same-length-4 returns)

@@ -1,0 +1,35 @@
+-- Records put together from their parts, as contracts name them, and what only the contracts of private functions cite. Definitions only.
+use Prim.Native.Nat.{ℕ, suc, _+_, _*_}
+use mathlib.Core.Bool.{Bool, true, false, cond}
+use mathlib.Core.List.{List}
+use lib.ListN.{set}
+use lib.Ieee.{Float}
+use Rattle.leaves.specs.Numbers.{_⊕_, zero⁺}
+use Rattle.leaves.specs.Loops.{loop}
+use Rattle.matrix.specs.Matrix.{Matrix}
+use Rattle.matrix.specs.Rotation.{State, turnColumns, turnRows}
+use Rattle.matrix.specs.Jacobi.{Swept, Decomposition}
+
+abbrev pub state : List Float → List Float → ℕ → State
+state a v k = record { matrix = a; vectors = v; rotations = k }
+
+-- k, and one more where a rotation was made
+abbrev pub counted : Bool → ℕ → ℕ
+counted turned k = cond turned (suc k) k
+
+abbrev pub sweptTo : Bool → ℕ → State → Swept
+sweptTo done k st = record { done = done; sweeps = k; reached = st }
+
+abbrev pub decomposed : Bool → List Float → List Float → ℕ → ℕ → Decomposition
+decomposed found values vectors k r = record { found = found; values = values; vectors = vectors; sweeps = k; rotations = r }
+
+-- row i of `sumOver`, and its term j
+abbrev pub addKept : (ℕ → ℕ → Bool) → Matrix → ℕ → ℕ → Float → Float
+addKept keep f i j s = elim (keep i j) [ true ↦ s ⊕ f i j | false ↦ s ]
+
+abbrev pub sumRow : ℕ → (ℕ → ℕ → Bool) → Matrix → ℕ → Float → Float
+sumRow n keep f i = loop n (addKept keep f i)
+
+-- JᵀAJ with 0 where p and q meet
+abbrev pub turnedBoth : ℕ → ℕ → ℕ → Float → Float → List Float → List Float
+turnedBoth n p q c s a = set (set (turnRows n p q c s (turnColumns n p q c s a)) (p * n + q) zero⁺) (q * n + p) zero⁺
