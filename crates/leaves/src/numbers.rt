@@ -13,7 +13,7 @@ pub fn abs(x: f64) -> f64
     ensures { λ r. ⌜ r ≡ Numbers.abs x ⌝ }
 {
     if x == 0.0 {
-        0.0
+        0.0 // at -0 too
     } else if x < 0.0 {
         -x
     } else {
