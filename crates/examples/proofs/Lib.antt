@@ -1,3 +1,4 @@
 -- The definitions at numbers.
 mod Evaluated
 pub mod Cases
+pub mod Vectors

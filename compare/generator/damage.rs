@@ -1,0 +1,148 @@
+// Damages, each of which leads to a refusal of document 01's table unless an earlier one applies.
+
+use crate::given::draw_given;
+use crate::random::Random;
+use crate::returns::set_column;
+use crate::settings::draw_target;
+use reference::covariance::{Estimate, Settings, Shrinkage};
+use reference::input::{Call, Input};
+use reference::{MAX_SWEEPS, MOST_ASSETS, MOST_PERIODS};
+
+const NOT_FINITE: [f64; 3] = [f64::NAN, f64::INFINITY, f64::NEG_INFINITY];
+const BAD_LIMITS: [usize; 4] = [MAX_SWEEPS + 1, 200, 1 << 32, usize::MAX];
+const BAD_HALF_LIVES: [f64; 7] = [
+    0.0,
+    -0.0,
+    -1.0,
+    9e-4,
+    f64::NAN,
+    f64::INFINITY,
+    f64::NEG_INFINITY,
+];
+
+pub fn damage(random: &Random, input: &mut Input) {
+    if random.chance(65) {
+        damage_call(random, input);
+    } else {
+        damage_returns(random, input);
+    }
+}
+
+/// Towards 1 to 6, 9 and 14, which every call has or may have.
+fn damage_returns(random: &Random, input: &mut Input) {
+    match random.below(9) {
+        0 => input.n = 0,
+        1 => input.n = random.pick(&[MOST_ASSETS + 1, 1000, usize::MAX]),
+        2 => input.t = random.pick(&[MOST_PERIODS + 1, 1 << 40, usize::MAX]),
+        3 => input.t = random.below(2),
+        4 => wrong_length(random, &mut input.returns),
+        5 => input.answer.truncate(input.answer.len() / 2),
+        6 => put(random, &mut input.returns, random.pick(&NOT_FINITE)),
+        7 => put(random, &mut input.returns, random.pick(&[1e200, f64::MAX])),
+        _ => {
+            let width = input.n.clamp(1, MOST_ASSETS);
+            let columns = if random.chance(50) { width } else { 1 };
+            for j in 0..columns {
+                set_column(&mut input.returns, width, j, |_| 0.5);
+            }
+        }
+    }
+}
+
+/// Towards what only this call refuses.
+fn damage_call(random: &Random, input: &mut Input) {
+    let n = input.n.clamp(1, MOST_ASSETS);
+    match &mut input.call {
+        Call::AdjustedCovariance {
+            settings,
+            given,
+            side,
+        } => {
+            if random.chance(40) {
+                damage_settings(random, settings);
+            } else {
+                settings.estimate = Estimate::Given;
+                damage_given(random, n, given, side, &mut settings.limit);
+            }
+        }
+        Call::LedoitWolf(_) => set_column(&mut input.returns, n, random.below(n), |_| 0.25),
+        Call::ExponentiallyWeightedMean { half_life } => *half_life = random.pick(&BAD_HALF_LIVES),
+        Call::JamesSteinMean { limit } | Call::BayesSteinMean { limit } => {
+            *limit = random.pick(&[0, 1, 2, random.pick(&BAD_LIMITS)]);
+        }
+    }
+}
+
+/// Towards 7 and 8.
+fn damage_settings(random: &Random, settings: &mut Settings) {
+    match random.below(7) {
+        0 => {
+            let bad = [-1.0, -5e-324, f64::NAN, f64::INFINITY, f64::NEG_INFINITY];
+            settings.regularization = Some(random.pick(&bad));
+        }
+        1 => {
+            let bad = [-5e-324, 1.0 + f64::EPSILON, 2.0, f64::NAN, f64::INFINITY];
+            settings.shrinkage = Shrinkage::Fixed(random.pick(&bad));
+        }
+        2 => settings.estimate = Estimate::Weighted(random.pick(&BAD_HALF_LIVES)),
+        3 => settings.estimate = Estimate::SemiBelow(random.pick(&NOT_FINITE)),
+        4 => settings.limit = random.pick(&BAD_LIMITS),
+        _ => {
+            settings.shrinkage = Shrinkage::LedoitWolf(draw_target(random));
+            settings.estimate = random.pick(&[
+                Estimate::Given,
+                Estimate::Weighted(3.0),
+                Estimate::Semi,
+                Estimate::SemiBelow(0.0),
+            ]);
+        }
+    }
+}
+
+/// Towards a given matrix's 1, 2, 5, 7 and 10 to 13.
+fn damage_given(
+    random: &Random,
+    n: usize,
+    given: &mut Vec<f64>,
+    side: &mut usize,
+    limit: &mut usize,
+) {
+    *side = n;
+    *given = draw_given(random, n);
+    match random.below(11) {
+        0 => *side = 0,
+        1 => *side = random.pick(&[MOST_ASSETS + 1, 1 << 32, usize::MAX]),
+        2 => wrong_length(random, given),
+        3 => {
+            // Square, but of another side than the returns.
+            *side = 1 + n % MOST_ASSETS;
+            *given = draw_given(random, *side);
+        }
+        4 => put(random, given, random.pick(&NOT_FINITE)),
+        5 | 6 if n > 1 => given[n - 1] += 1.0,
+        5..=7 => {
+            for x in given {
+                *x = -*x;
+            }
+        }
+        8 => *limit = random.below(3),
+        _ => *limit = random.pick(&BAD_LIMITS),
+    }
+}
+
+fn wrong_length(random: &Random, numbers: &mut Vec<f64>) {
+    match random.below(3) {
+        0 => numbers.push(0.125),
+        1 => numbers.clear(),
+        _ => {
+            numbers.pop();
+        }
+    }
+}
+
+/// Replaces one number, if there is one.
+fn put(random: &Random, numbers: &mut [f64], value: f64) {
+    if !numbers.is_empty() {
+        numbers[random.below(numbers.len())] = value;
+    }
+}

@@ -1,0 +1,279 @@
+// Compares the copy's float leaves with the engine's, bit for bit, NaN equal to NaN, and prints
+// how many inputs each was given and on how many they differ. Ends with 1 if they ever do.
+
+use generator::random::Random;
+use reference::leaves as copy;
+use std::fmt::Debug;
+
+/// The engine's leaves, from its static library. A slice is a pointer and then a length.
+mod engine {
+    extern "C" {
+        pub fn leaf_is_finite(x: f64) -> bool;
+        pub fn leaf_abs(x: f64) -> f64;
+        pub fn leaf_signum(x: f64) -> f64;
+        pub fn leaf_larger(first: f64, second: f64) -> f64;
+        pub fn leaf_smaller(first: f64, second: f64) -> f64;
+        pub fn leaf_min0(y: f64) -> f64;
+        pub fn leaf_max0(y: f64) -> f64;
+        pub fn leaf_clamp01(y: f64) -> f64;
+        pub fn leaf_binary_exponent(x: f64) -> i32;
+        pub fn leaf_pow2_scaled(x: f64, k: i32) -> f64;
+        pub fn leaf_sqrt(x: f64) -> f64;
+        pub fn leaf_exp(y: f64) -> f64;
+        pub fn leaf_exp_m1(y: f64) -> f64;
+        pub fn leaf_sum(xs: *const f64, len: usize) -> f64;
+        pub fn leaf_amax(xs: *const f64, len: usize) -> f64;
+        pub fn leaf_sum_column(xs: *const f64, len: usize, n: usize, j: usize) -> f64;
+        pub fn leaf_amax_column(xs: *const f64, len: usize, n: usize, j: usize) -> f64;
+    }
+}
+
+/// A leaf of one number, as the engine exports it.
+type Leaf = unsafe extern "C" fn(f64) -> f64;
+
+fn main() {
+    let random = Random::new(2);
+    let floats = floats(&random);
+    let pairs = pairs(&random, &floats);
+    let scalings = scalings(&random, &floats);
+    let slices = slices(&random, &floats);
+    let columns = columns(&random, &slices);
+    let mut exponents = floats.clone();
+    exponents.extend(logarithms(&random));
+    let mut squares = floats.clone();
+    squares.extend(squares_and_neighbours(&random));
+
+    let mut table = Table { different: 0 };
+    table.heading();
+    table.leaf("is_finite", &floats, |&x| {
+        (copy::is_finite(x), unsafe { engine::leaf_is_finite(x) })
+    });
+    let mut unary = |name: &str, inputs: &[f64], ours: fn(f64) -> f64, theirs: Leaf| {
+        table.leaf(name, inputs, |&x| {
+            (bits(ours(x)), bits(unsafe { theirs(x) }))
+        });
+    };
+    unary("abs", &floats, copy::abs, engine::leaf_abs);
+    unary("signum", &floats, copy::signum, engine::leaf_signum);
+    unary("min0", &floats, copy::min0, engine::leaf_min0);
+    unary("max0", &floats, copy::max0, engine::leaf_max0);
+    unary("clamp01", &floats, copy::clamp01, engine::leaf_clamp01);
+    unary("sqrt", &squares, copy::sqrt, engine::leaf_sqrt);
+    unary("exp", &exponents, copy::exp, engine::leaf_exp);
+    unary("exp_m1", &exponents, copy::exp_m1, engine::leaf_exp_m1);
+    table.leaf("larger", &pairs, |&(x, y)| {
+        let theirs = unsafe { engine::leaf_larger(x, y) };
+        (bits(copy::larger(x, y)), bits(theirs))
+    });
+    table.leaf("smaller", &pairs, |&(x, y)| {
+        let theirs = unsafe { engine::leaf_smaller(x, y) };
+        (bits(copy::smaller(x, y)), bits(theirs))
+    });
+    table.leaf("binary_exponent", &floats, |&x| {
+        let theirs = unsafe { engine::leaf_binary_exponent(x) };
+        (copy::binary_exponent(x), theirs)
+    });
+    table.leaf("pow2_scaled", &scalings, |&(x, k)| {
+        let theirs = unsafe { engine::leaf_pow2_scaled(x, k) };
+        (bits(copy::pow2_scaled(x, k)), bits(theirs))
+    });
+    table.leaf("sum", &slices, |xs| {
+        let theirs = unsafe { engine::leaf_sum(xs.as_ptr(), xs.len()) };
+        (bits(copy::sum(xs)), bits(theirs))
+    });
+    table.leaf("amax", &slices, |xs| {
+        let theirs = unsafe { engine::leaf_amax(xs.as_ptr(), xs.len()) };
+        (bits(copy::amax(xs)), bits(theirs))
+    });
+    table.leaf("sum_column", &columns, |&(xs, n, j)| {
+        let theirs = unsafe { engine::leaf_sum_column(xs.as_ptr(), xs.len(), n, j) };
+        (bits(copy::sum_column(xs, n, j)), bits(theirs))
+    });
+    table.leaf("amax_column", &columns, |&(xs, n, j)| {
+        let theirs = unsafe { engine::leaf_amax_column(xs.as_ptr(), xs.len(), n, j) };
+        (bits(copy::amax_column(xs, n, j)), bits(theirs))
+    });
+    if table.different > 0 {
+        std::process::exit(1);
+    }
+}
+
+struct Table {
+    /// Leaves that differ somewhere.
+    different: usize,
+}
+
+impl Table {
+    fn heading(&self) {
+        println!("{:15} {:>8} {:>11}", "leaf", "inputs", "differences");
+    }
+
+    /// One line of the table, with the first inputs that differ below it.
+    fn leaf<I: Debug, O: PartialEq + Debug>(
+        &mut self,
+        name: &str,
+        inputs: &[I],
+        both: impl Fn(&I) -> (O, O),
+    ) {
+        let differs = |input: &&I| {
+            let (ours, theirs) = both(input);
+            ours != theirs
+        };
+        let different: Vec<&I> = inputs.iter().filter(differs).collect();
+        println!("{name:15} {:>8} {:>11}", inputs.len(), different.len());
+        for input in different.iter().take(3) {
+            let (ours, theirs) = both(input);
+            println!("    {input:?}: copy {ours:X?}, engine {theirs:X?}");
+        }
+        self.different += usize::from(!different.is_empty());
+    }
+}
+
+/// The bits, one pattern for every NaN.
+fn bits(x: f64) -> u64 {
+    if x.is_nan() {
+        0x7FF8000000000000
+    } else {
+        x.to_bits()
+    }
+}
+
+/// A number of the next larger or smaller bits.
+fn moved(x: f64, ulps: i64) -> f64 {
+    f64::from_bits(x.to_bits().wrapping_add_signed(ulps))
+}
+
+/// Every exponent with both signs: the powers of two (zeros and infinities among them), their
+/// neighbours, the middle, and drawn fractions; then drawn bits, and thresholds with neighbours.
+fn floats(random: &Random) -> Vec<f64> {
+    let mut floats = Vec::new();
+    let (all, middle) = ((1 << 52) - 1, 1 << 51);
+    for high in 0..1 << 12 {
+        let edges = [0, 1, 2, middle - 1, middle, middle + 1, all - 1, all];
+        let drawn = (0..16).map(|_| random.bits() & all);
+        let with_high = |fraction| f64::from_bits((high << 52) | fraction);
+        floats.extend(edges.into_iter().chain(drawn).map(with_high));
+    }
+    floats.extend((0..20_000).map(|_| f64::from_bits(random.bits())));
+    for threshold in [-746.0, -745.0, -708.0, -0.5, 0.5, 1.0, 1e150] {
+        floats.extend((-20..=20).map(|ulps| moved(threshold, ulps)));
+    }
+    floats
+}
+
+/// Each number beside another, beside itself, beside a neighbour and beside its negative.
+fn pairs(random: &Random, floats: &[f64]) -> Vec<(f64, f64)> {
+    let beside = |&x: &f64| match random.below(8) {
+        0 => (x, x),
+        1 => (x, moved(x, 1)),
+        2 => (moved(x, 1), x),
+        3 => (x, -x),
+        _ => (x, random.pick(floats)),
+    };
+    let mut pairs: Vec<(f64, f64)> = floats.iter().map(beside).collect();
+    let special = [0.0, -0.0, 1.0, f64::INFINITY, f64::NEG_INFINITY, f64::NAN];
+    for x in special {
+        pairs.extend(special.map(|y| (x, y)));
+    }
+    pairs
+}
+
+/// Numbers and powers: in the normal range, where the result is subnormal or just out of it, and
+/// far beyond. Few at the ends of `i32`, since the scaling goes there in steps.
+fn scalings(random: &Random, floats: &[f64]) -> Vec<(f64, i32)> {
+    let with_power = |&x: &f64| {
+        let k = match random.below(10) {
+            0..=3 => random.between(-1100, 1100),
+            4..=6 => -1074 - copy::binary_exponent(x) + random.between(-2, 60),
+            7 => 1023 - copy::binary_exponent(x) + random.between(-2, 2),
+            8 => random.between(-5000, 5000),
+            _ => random.between(-100_000, 100_000),
+        };
+        (x, k)
+    };
+    let mut scalings: Vec<(f64, i32)> = floats.iter().map(with_power).collect();
+    scalings.extend((0..10_000).map(|_| rounded_twice(random)));
+    for k in [
+        i32::MIN,
+        i32::MIN + 1,
+        -(1 << 30),
+        1 << 30,
+        i32::MAX - 1,
+        i32::MAX,
+    ] {
+        let ends = [0.0, -0.0, 1.0, -f64::MAX, f64::from_bits(1), f64::NAN];
+        scalings.extend(ends.map(|x| (x, k)));
+    }
+    scalings
+}
+
+/// A scaling whose first step loses the low bits of a number just above the middle of two results,
+/// so that the second step sees the middle itself.
+fn rounded_twice(random: &Random) -> (f64, i32) {
+    let lost = random.between(1, 50);
+    let kept = random.between(0, 51 - lost);
+    let top = random.bits() & ((1 << kept) - 1);
+    let low = random.bits() & ((1 << lost) - 1);
+    let fraction = (top << (52 - kept)) | (1 << (51 - kept)) | low;
+    let x = f64::from_bits((1023 << 52) | fraction);
+    (copy::pow2_scaled(x, -lost), -1074 + kept + lost)
+}
+
+/// Where exp and exp_m1 compute: from below -746 to above 0, and about the whole and half
+/// multiples of the logarithm of 2.
+fn logarithms(random: &Random) -> Vec<f64> {
+    let mut ys: Vec<f64> = (0..60_000).map(|_| -750.0 * random.unit()).collect();
+    ys.extend((0..20_000).map(|_| 2.0 * random.unit() - 1.0));
+    ys.extend((0..20_000).map(|_| random.sized(-60, 2)));
+    for halves in 0..=2160 {
+        let y = f64::from(-halves) * 0.5 * copy::LN_2;
+        ys.extend((-5..=5).map(|ulps| moved(y, ulps)));
+    }
+    ys
+}
+
+/// Squares of numbers with few bits and with many, at every size, and their neighbours.
+fn squares_and_neighbours(random: &Random) -> Vec<f64> {
+    let mut squares = Vec::new();
+    for _ in 0..20_000 {
+        let few = (random.bits() >> 38) as f64;
+        let many = 1.0 + random.unit();
+        let square = random.pick(&[few * few, many * many]);
+        let square = copy::pow2_scaled(square, random.between(-1100, 950));
+        squares.extend((-2..=2).map(|ulps| moved(square, ulps)));
+    }
+    squares
+}
+
+/// Slices of up to 40 numbers: of any size, of sizes near 1 so that sums round, or with the
+/// special numbers among them.
+fn slices(random: &Random, floats: &[f64]) -> Vec<Vec<f64>> {
+    let special = [0.0, -0.0, f64::INFINITY, f64::NEG_INFINITY, f64::NAN];
+    let slice = |_| {
+        let kind = random.below(4);
+        let entry = |_| match kind {
+            0 => random.pick(floats),
+            1 if random.chance(10) => random.pick(&special),
+            2 => random.pick(&special[..2]),
+            _ => random.sized(-30, 30),
+        };
+        (0..random.below(41)).map(entry).collect()
+    };
+    (0..100_000).map(slice).collect()
+}
+
+/// Each slice as rows of some width, with a column of it or one that is not there.
+fn columns<'a>(random: &Random, slices: &'a [Vec<f64>]) -> Vec<(&'a [f64], usize, usize)> {
+    let with_column = |xs: &'a Vec<f64>| {
+        let n = match random.below(10) {
+            0 => random.pick(&[0, xs.len(), xs.len() + 1, usize::MAX]),
+            _ => 1 + random.below(8),
+        };
+        let j = match random.below(10) {
+            0 => random.pick(&[n, n.wrapping_add(1), usize::MAX - 1, usize::MAX]),
+            _ => random.below(n.clamp(1, 100)),
+        };
+        (xs.as_slice(), n, j)
+    };
+    slices.iter().map(with_column).collect()
+}

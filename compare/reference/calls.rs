@@ -1,0 +1,152 @@
+// The five calls of document 01 over flat slices, with the refusals of 'Causes' in its order.
+// Lengths and counts may be any `usize`. A refusal leaves the answer slice as it was.
+
+use crate::covariance::{Estimate, Given, Settings, Target};
+use crate::expected_returns::Shrunk;
+use crate::matrix::Matrix;
+use crate::refusal::{Field, Refusal};
+use crate::returns::Returns;
+use crate::{MAX_SWEEPS, MOST_ASSETS, MOST_PERIODS};
+
+/// What a covariance reports: the intensity and the given matrix's counts, each 0 if none.
+#[derive(Debug, Clone, Copy)]
+pub struct Covariance {
+    pub intensity: f64,
+    pub sweeps: usize,
+    pub rotations: usize,
+}
+
+/// Fills the first `n × n` numbers of `answer`. `given` and `side` are read only where the
+/// estimate is given.
+pub fn adjusted_covariance(
+    returns: &[f64],
+    n: usize,
+    t: usize,
+    settings: &Settings,
+    given: &[f64],
+    side: usize,
+    answer: &mut [f64],
+) -> Result<Covariance, Refusal> {
+    check_shape(n, t)?;
+    check_lengths(returns, n, t, answer, n * n)?;
+    let data = Returns::new(Matrix::from_row_slice(t, n, returns))?;
+    let given = match settings.estimate {
+        Estimate::Given => given_matrix(given, side, settings.limit)?,
+        _ => Given::none(),
+    };
+    let (matrix, intensity) = data.adjusted_covariance(settings, &given.matrix)?;
+    answer[..n * n].copy_from_slice(matrix.entries());
+    Ok(Covariance {
+        intensity,
+        sweeps: given.sweeps,
+        rotations: given.rotations,
+    })
+}
+
+/// The intensity only.
+pub fn ledoit_wolf(returns: &[f64], n: usize, t: usize, target: Target) -> Result<f64, Refusal> {
+    check_shape(n, t)?;
+    check_lengths(returns, n, t, &[], 0)?;
+    Returns::new(Matrix::from_row_slice(t, n, returns))?.ledoit_wolf(target)
+}
+
+/// Fills the first `n` numbers of `answer`.
+pub fn exponentially_weighted_mean(
+    returns: &[f64],
+    n: usize,
+    t: usize,
+    half_life: f64,
+    answer: &mut [f64],
+) -> Result<(), Refusal> {
+    check_shape(n, t)?;
+    check_lengths(returns, n, t, answer, n)?;
+    let data = Returns::new(Matrix::from_row_slice(t, n, returns))?;
+    let mean = data.exponentially_weighted_mean(half_life)?;
+    answer[..n].copy_from_slice(&mean);
+    Ok(())
+}
+
+/// Fills the first `n` numbers of `answer`.
+pub fn james_stein_mean(
+    returns: &[f64],
+    n: usize,
+    t: usize,
+    limit: usize,
+    answer: &mut [f64],
+) -> Result<Shrunk, Refusal> {
+    check_shape(n, t)?;
+    check_lengths(returns, n, t, answer, n)?;
+    let data = Returns::new(Matrix::from_row_slice(t, n, returns))?;
+    check_limit(limit)?;
+    let (mean, report) = data.james_stein_mean(limit)?;
+    answer[..n].copy_from_slice(&mean);
+    Ok(report)
+}
+
+/// Fills the first `n` numbers of `answer`.
+pub fn bayes_stein_mean(
+    returns: &[f64],
+    n: usize,
+    t: usize,
+    limit: usize,
+    answer: &mut [f64],
+) -> Result<Shrunk, Refusal> {
+    check_shape(n, t)?;
+    check_lengths(returns, n, t, answer, n)?;
+    let data = Returns::new(Matrix::from_row_slice(t, n, returns))?;
+    check_limit(limit)?;
+    let (mean, report) = data.bayes_stein_mean(limit)?;
+    answer[..n].copy_from_slice(&mean);
+    Ok(report)
+}
+
+/// 1, 2, 3. After it, products of the counts are small.
+fn check_shape(n: usize, t: usize) -> Result<(), Refusal> {
+    if n == 0 {
+        return Err(Refusal::NoAssets);
+    }
+    if n > MOST_ASSETS || t > MOST_PERIODS {
+        return Err(Refusal::TooLarge);
+    }
+    if t < 2 {
+        return Err(Refusal::TooFewPeriods(t));
+    }
+    Ok(())
+}
+
+/// 4, where `needed` numbers of `answer` are to be filled.
+fn check_lengths(
+    returns: &[f64],
+    n: usize,
+    t: usize,
+    answer: &[f64],
+    needed: usize,
+) -> Result<(), Refusal> {
+    if returns.len() != t * n || answer.len() < needed {
+        return Err(Refusal::WrongLength);
+    }
+    Ok(())
+}
+
+/// 7, field 5.
+fn check_limit(limit: usize) -> Result<(), Refusal> {
+    if limit > MAX_SWEEPS {
+        return Err(Refusal::BadSetting(Field::SweepLimit));
+    }
+    Ok(())
+}
+
+/// The sweep limit's 7, then a given matrix's 1, 2, 10 (slice), 5, 11, 13, 12.
+fn given_matrix(given: &[f64], side: usize, limit: usize) -> Result<Given, Refusal> {
+    check_limit(limit)?;
+    if side == 0 {
+        return Err(Refusal::NoAssets);
+    }
+    if side > MOST_ASSETS {
+        return Err(Refusal::TooLarge);
+    }
+    if given.len() != side * side {
+        return Err(Refusal::WrongSide(side));
+    }
+    Given::new(Matrix::from_row_slice(side, side, given), limit)
+}

@@ -1,0 +1,21 @@
+// The comparison copy: the source's functions carried over as they stand, over a small stand-in
+// for its matrices, with document 01's float leaves, sweep limit, counts and refusals.
+// `rustc` alone builds it.
+
+pub mod calls;
+pub mod covariance;
+pub mod eigen;
+pub mod expected_returns;
+pub mod input;
+pub mod leaves;
+pub mod matrix;
+pub mod methods;
+pub mod refusal;
+pub mod returns;
+
+/// The most assets, or the largest side of a given matrix.
+pub const MOST_ASSETS: usize = 32;
+/// The most periods.
+pub const MOST_PERIODS: usize = 4096;
+/// The largest sweep limit, which is the source's own.
+pub const MAX_SWEEPS: usize = 100;

@@ -1,0 +1,88 @@
+// Document 01, 'Causes': the refusals 1 to 14, with what is returned with each.
+
+#[derive(Debug, Clone, Copy, PartialEq)]
+pub enum Refusal {
+    NoAssets,
+    TooLarge,
+    /// The periods.
+    TooFewPeriods(usize),
+    WrongLength,
+    /// The first row and column, of the returns or of the given matrix.
+    NotFinite(usize, usize),
+    CovarianceNotFinite,
+    BadSetting(Field),
+    NotTheSample,
+    /// The first column.
+    ZeroVariance(usize),
+    /// The given side.
+    WrongSide(usize),
+    /// The first row and column.
+    Asymmetric(usize, usize),
+    /// The smallest eigenvalue.
+    Indefinite(f64),
+    NotDecomposed,
+    Singular,
+}
+
+/// The setting that refusal 7 names.
+#[derive(Debug, Clone, Copy, PartialEq)]
+pub enum Field {
+    Regularization = 1,
+    Shrinkage = 2,
+    HalfLife = 3,
+    Threshold = 4,
+    SweepLimit = 5,
+}
+
+/// All that is returned with a refusal.
+#[derive(Debug, Clone, Copy, PartialEq)]
+pub enum Place {
+    Nothing,
+    /// A count, a field, a column or a side.
+    Whole(usize),
+    /// A row and a column.
+    Entry(usize, usize),
+    Value(f64),
+}
+
+impl Refusal {
+    /// Document 01's number of the cause.
+    pub fn number(self) -> usize {
+        match self {
+            Refusal::NoAssets => 1,
+            Refusal::TooLarge => 2,
+            Refusal::TooFewPeriods(_) => 3,
+            Refusal::WrongLength => 4,
+            Refusal::NotFinite(..) => 5,
+            Refusal::CovarianceNotFinite => 6,
+            Refusal::BadSetting(_) => 7,
+            Refusal::NotTheSample => 8,
+            Refusal::ZeroVariance(_) => 9,
+            Refusal::WrongSide(_) => 10,
+            Refusal::Asymmetric(..) => 11,
+            Refusal::Indefinite(_) => 12,
+            Refusal::NotDecomposed => 13,
+            Refusal::Singular => 14,
+        }
+    }
+
+    pub fn place(self) -> Place {
+        match self {
+            Refusal::TooFewPeriods(periods) => Place::Whole(periods),
+            Refusal::NotFinite(row, column) | Refusal::Asymmetric(row, column) => {
+                Place::Entry(row, column)
+            }
+            Refusal::BadSetting(field) => Place::Whole(field as usize),
+            Refusal::ZeroVariance(column) => Place::Whole(column),
+            Refusal::WrongSide(side) => Place::Whole(side),
+            Refusal::Indefinite(value) => Place::Value(value),
+            Refusal::NoAssets
+            | Refusal::TooLarge
+            | Refusal::WrongLength
+            | Refusal::CovarianceNotFinite
+            | Refusal::NotTheSample
+            | Refusal::NotDecomposed
+            | Refusal::Singular => Place::Nothing,
+        }
+    }
+}
