@@ -77,7 +77,7 @@ module _ (n d : ℕ) (D : 0 < d) where
   few-dropped = div-lt-iff-lt-mul D .0 (lt-of-lt-of-le (size-lt (n / d)) (pow-mono {i = size (n / d)} {j = 53 + drop 53 n d} (omega arith)))
 
 -- q * 2 ^ j as a multiple of 2 ^ k, and then in steps of d * 2 ^ k
-in-place : (q j k : ℕ) → k ≤ j → q * 2 ^ (j - k) * 2 ^ k ≡ q * 2 ^ j
+pub in-place : (q j k : ℕ) → k ≤ j → q * 2 ^ (j - k) * 2 ^ k ≡ q * 2 ^ j
 in-place q j k h = mul-assoc q (2 ^ (j - k)) (2 ^ k) ∙ ap (λ (z : ℕ). q * z) (sym (pow-add 2 (j - k) k) ∙ ap (λ (z : ℕ). 2 ^ z) (back j k h))
 
 in-steps : (q j k d : ℕ) → k ≤ j → q * 2 ^ j * d ≡ q * 2 ^ (j - k) * (d * 2 ^ k)
