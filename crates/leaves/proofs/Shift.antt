@@ -90,7 +90,7 @@ unfolding shift
 shift-fin k s zero e = refl
 shift-fin k s (suc m) e = refl
 
-expo-value : (k : ℤ) (m : ℕ) (e : ℤ) → m * up (expo k m e) * (down e * down k) ≡ m * up e * (up k * down (expo k m e))
+pub expo-value : (k : ℤ) (m : ℕ) (e : ℤ) → m * up (expo k m e) * (down e * down k) ≡ m * up e * (up k * down (expo k m e))
 expo-value k zero e = simp zero-mul
 expo-value k (suc m) e = rw (mul-assoc (suc m) (up (e +ℤ k)) (down e * down k), up-down e k, mul-assoc (up e) (up k) (down (e +ℤ k)), ← mul-assoc (suc m) (up e) (up k * down (e +ℤ k)))
 

@@ -1,0 +1,179 @@
+-- `Range g L B x`: x is a finite value of binary64, a multiple of 2 ^ g units, zero or of L units at least, and of B units at most. A unit is 2 ^ -1074, so 2 ^ n units are
+-- 2 ^ (n - 1074). The grain g and the least size L stand apart: a difference keeps its operands' grain and loses their size. Here is how a range is known: from a wider one, from the
+-- value's size, from a test that computes, of a shifted value, of a count, and of a fraction that is rounded. Design, section 5. Assumes nothing.
+use mathlib.Core.Path.{_≡_, refl, sym, ap, _∙_, subst}
+use mathlib.Core.Logic.{_⊎_, inl, inr}
+use Prim.Native.Nat.{ℕ, zero, suc, _+_, _-_, _*_, _^_, _≤_, _<_, zero-le}
+use native.Mathlib.Nat.{le-trans, le-of-eq, le-of-lt, lt-of-lt-of-le, lt-of-le-of-lt, lt-irrefl, eq-zero-or-pos, zero-mul, one-mul, mul-one, mul-assoc, mul-right-comm, mul-pos, mul-le-mul-right}
+use native.Mathlib.Omega.{arith}
+use mathlib.Core.Bool.{Bool, true, false, _&&_, _||_}
+use lib.Dec.{T, leb, eqb, leb→le, eqb→eq, lit<}
+use lib.IntN.{pos}
+use lib.Pow.{pow-add, pow-pos, pow-mono}
+use lib.Ieee.{Float, nan, inf, fin, binary64, up, down, neg, ofInt, fits}
+use lib.Ieee.Back.{round-whole}
+use lib.Ieee.Exact.{HasValue}
+use lib.Ieee.Fits.{and-l, and-r, neg-fits, ofInt-fits, round-fits}
+use lib.Ieee.Positive.{first-pos}
+use mir.Facts.{or-yes}
+use Rattle.leaves.specs.Numbers.{zero⁺, count, isFinite, abs}
+use Rattle.leaves.specs.Shift.{shift}
+use Rattle.leaves.proofs.Shift.{isFinite-shift}
+use Rattle.leaves.proofs.Rounding.{near, Held, Grained, near-most, near-least, near-grain, held-small, held-pow, held-grain, in-place}
+use Rattle.leaves.proofs.Units.{U, U-pos, U-is, Top, Val, rounded, sign, mag, val-mag, val-finite, mag-val, mag-held, mag-neg, mag-abs, mag-shift, fits-shift, rounded-fits, rounded-val}
+
+pub record Range (g L B : ℕ) (x : Float) : Type 0 where
+  pub fit : T (fits binary64 x)
+  pub finite : T (isFinite x)
+  pub count : ℕ
+  pub grain : mag x ≡ count * 2 ^ g
+  pub least : 0 < mag x → L ≤ mag x
+  pub most : mag x ≤ B
+
+-- a test that computes: zero, or from 2 ^ l to 2 ^ h units
+unfoldable pub sized : ℕ → ℕ → Float → Bool
+sized l h x = fits binary64 x && isFinite x && (eqb (mag x) 0 || leb (2 ^ l) (mag x)) && leb (mag x) (2 ^ h)
+
+pub range-value : {g L B : ℕ} {x : Float} → Range g L B x → Val x (sign x) (mag x)
+range-value {x = x} r = mag-val x (r .fit) (r .finite)
+
+-- ---- weaker ranges
+pub range-weaken : {g L B : ℕ} {x : Float} (L' B' : ℕ) → L' ≤ L → B ≤ B' → Range g L B x → Range g L' B' x
+range-weaken L' B' l b r = record { fit = r .fit; finite = r .finite; count = r .count; grain = r .grain; least = λ p. le-trans l (r .least p); most = le-trans (r .most) b }
+
+pub range-finer : {g L B : ℕ} {x : Float} (g' : ℕ) → g' ≤ g → Range g L B x → Range g' L B x
+range-finer {g} g' l r = record { fit = r .fit; finite = r .finite; count = r .count * 2 ^ (g - g'); grain = r .grain ∙ sym (in-place (r .count) g g' l); least = r .least; most = r .most }
+
+-- what is not zero is 2 ^ g units at least, whatever else is known
+pub range-grain : {g L B : ℕ} {x : Float} → Range g L B x → Range g (2 ^ g) B x
+range-grain {g} {x = x} r = record {
+  fit = r .fit;
+  finite = r .finite;
+  count = r .count;
+  grain = r .grain;
+  least = λ (p : 0 < mag x). go (eq-zero-or-pos (r .count)) p;
+  most = r .most;
+}
+  where
+    go : (r .count ≡ 0) ⊎ (0 < r .count) → 0 < mag x → 2 ^ g ≤ mag x
+    go (inl z) p = absurd (lt-irrefl 0 (subst (λ (n : ℕ). 0 < n) (r .grain ∙ ap (λ (n : ℕ). n * 2 ^ g) z ∙ zero-mul (2 ^ g)) p))
+    go (inr q) p = le-trans (le-of-eq (sym (one-mul (2 ^ g)))) (le-trans (mul-le-mul-right (2 ^ g) q) (le-of-eq (sym (r .grain))))
+
+-- ---- the sign
+finite-neg : (x : Float) → T (isFinite x) → T (isFinite (neg x))
+unfolding isFinite neg
+finite-neg nan t = t
+finite-neg (inf s) t = t
+finite-neg (fin s m e) t = t
+
+pub range-neg : {g L B : ℕ} {x : Float} → Range g L B x → Range g L B (neg x)
+range-neg {g} {L} {B} {x} r = record {
+  fit = neg-fits binary64 x (r .fit);
+  finite = finite-neg x (r .finite);
+  count = r .count;
+  grain = mag-neg x ∙ r .grain;
+  least = rw (mag-neg x) (r .least);
+  most = rw (mag-neg x) (r .most);
+}
+
+pub range-abs : {g L B : ℕ} {x : Float} → Range g L B x → Range g L B (abs x)
+range-abs {g} {L} {B} {x} r = go x r
+  where
+    go : (x : Float) → Range g L B x → Range g L B (abs x)
+    go nan r = unfold abs in r
+    go (inf s) r = unfold isFinite in absurd (r .finite)
+    go (fin true m e) r = unfold abs neg in range-neg r
+    go (fin false m e) r = unfold abs in r
+
+-- ---- zero
+pub range-zero : (g L B : ℕ) → Range g L B zero⁺
+unfolding fits isFinite mag
+range-zero g L B = record { fit = tt; finite = tt; count = 0; grain = z ∙ sym (zero-mul (2 ^ g)); least = λ p. absurd (lt-irrefl 0 (rw z at p)); most = rw z zero-le }
+  where
+    z : mag zero⁺ ≡ 0
+    z = val-mag zero⁺ false 0 (refl, simp zero-mul) .1
+
+-- ---- by the size: 2 ^ (g + 52) units and more are a multiple of 2 ^ g
+pub range-size : (g B : ℕ) (x : Float) → T (fits binary64 x) → T (isFinite x) → (mag x ≡ 0) ⊎ (2 ^ (g + 52) ≤ mag x) → mag x ≤ B → Range g (2 ^ (g + 52)) B x
+range-size g B x t f (inl z) h = record { fit = t; finite = f; count = 0; grain = z ∙ sym (zero-mul (2 ^ g)); least = λ p. absurd (lt-irrefl 0 (rw z at p)); most = h }
+range-size g B x t f (inr l) h = let c = held-grain g (mag x) (mag-held x t f .0) l in record { fit = t; finite = f; count = c .0; grain = c .1; least = λ p. l; most = h }
+
+pub range-sized : (g h : ℕ) (x : Float) → T (sized (g + 52) h x) → Range g (2 ^ (g + 52)) (2 ^ h) x
+unfolding sized
+range-sized g h x t =
+    let a : Bool = fits binary64 x in
+    let b : Bool = isFinite x in
+    let c : Bool = eqb (mag x) 0 || leb (2 ^ (g + 52)) (mag x) in
+    let d : Bool = leb (mag x) (2 ^ h) in
+    let u = and-l (a && b && c) d t in
+    range-size g (2 ^ h) x (and-l a b (and-l (a && b) c u)) (and-r a b (and-l (a && b) c u)) (go (or-yes (eqb (mag x) 0) (leb (2 ^ (g + 52)) (mag x)) (and-r (a && b) c u)))
+    (leb→le (mag x) (2 ^ h) (and-r (a && b && c) d t))
+  where
+    go : T (eqb (mag x) 0) ⊎ T (leb (2 ^ (g + 52)) (mag x)) → (mag x ≡ 0) ⊎ (2 ^ (g + 52) ≤ mag x)
+    go (inl z) = inl (eqb→eq (mag x) 0 z)
+    go (inr l) = inr (leb→le (2 ^ (g + 52)) (mag x) l)
+
+-- every finite value of the format
+pub range-fits : (x : Float) → T (fits binary64 x) → T (isFinite x) → Range 0 1 Top x
+range-fits x t f = record { fit = t; finite = f; count = mag x; grain = sym (mul-one (mag x)); least = λ p. p; most = le-of-lt (mag-held x t f .1) }
+
+-- ---- of a shifted value
+pub range-shift : {g L B : ℕ} {x : Float} (k : ℕ) → B * 2 ^ k < Top → Range g L B x → Range (g + k) (L * 2 ^ k) (B * 2 ^ k) (shift (pos k) x)
+range-shift {g} {L} {B} {x} k o r =
+    let e = mag-shift k x (r .fit) (r .finite) in
+    record {
+      fit = fits-shift k x (sign x) (mag x) (r .fit) (range-value r) (lt-of-le-of-lt (mul-le-mul-right (2 ^ k) (r .most)) o);
+      finite = rw (isFinite-shift (pos k) x) (r .finite);
+      count = r .count;
+      grain = e ∙ ap (λ (n : ℕ). n * 2 ^ k) (r .grain) ∙ mul-assoc (r .count) (2 ^ g) (2 ^ k) ∙ ap (λ (n : ℕ). r .count * n) (sym (pow-add 2 g k));
+      least = rw e (λ (p : 0 < mag x * 2 ^ k). mul-le-mul-right (2 ^ k) (r .least (first-pos (mag x) (2 ^ k) p)));
+      most = rw e (mul-le-mul-right (2 ^ k) (r .most));
+    }
+
+-- ---- of a count
+pub mag-count : (n : ℕ) → n ≤ 2 ^ 53 → mag (count n) ≡ n * U
+unfolding ofInt
+mag-count n h = val-mag (count n) false (n * U) (go (count n) (round-whole binary64 false n h)) .1
+  where
+    go : (x : Float) → HasValue x false n 1 → Val x false (n * U)
+    go nan v = v
+    go (inf s) v = v
+    go (fin s m e) v = (v .0, ap (λ (z : ℕ). z * U) (sym (mul-one (m * up e)) ∙ v .1) ∙ mul-right-comm n (down e) U)
+
+pub range-count : (c n : ℕ) → c ≤ 53 → n ≤ 2 ^ c → Range 1074 (2 ^ 1074) (2 ^ (c + 1074)) (count n)
+unfolding ofInt
+range-count c n l h =
+    let e : mag (count n) ≡ n * 2 ^ 1074 = mag-count n (le-trans h (pow-mono l)) ∙ ap (λ (z : ℕ). n * z) U-is in
+    range-grain (record {
+      fit = ofInt-fits binary64 (pos n);
+      finite = go (count n) (round-whole binary64 false n (le-trans h (pow-mono l)));
+      count = n;
+      grain = e;
+      least = λ p. p;
+      most = le-trans (le-of-eq e) (le-trans (mul-le-mul-right (2 ^ 1074) h) (le-of-eq (sym (pow-add 2 c 1074))));
+    })
+  where
+    go : (x : Float) → HasValue x false n 1 → T (isFinite x)
+    go nan v = absurd v
+    go (inf s) v = absurd v
+    go (fin s m e) v = unfold isFinite in tt
+
+-- ---- of n / d units, rounded
+pub range-rounded : (s : Bool) (n d g L B : ℕ) → 0 < d → Grained g n d → Held L → (0 < n → L * d ≤ n) → Held B → n ≤ B * d → B < Top → Range g L B (rounded s n d)
+range-rounded s n d g L B D G HL l HB h o =
+    let m = near-most n d B D HB h in
+    let v = rounded-val s n d D (lt-of-le-of-lt m o) in
+    let e = val-mag (rounded s n d) s (near n d) v .1 in
+    let c = near-grain g n d D G in
+    record {
+      fit = rounded-fits s n d;
+      finite = val-finite (rounded s n d) s (near n d) v;
+      count = c .0;
+      grain = e ∙ c .1;
+      least = rw e (λ (p : 0 < near n d). near-least n d L D HL (l (above (eq-zero-or-pos n) p)));
+      most = rw e m;
+    }
+  where
+    above : (n ≡ 0) ⊎ (0 < n) → 0 < near n d → 0 < n
+    above (inl z) p = absurd (lt-irrefl 0 (lt-of-lt-of-le p (near-most n d 0 D (held-small 0 (lit< tt)) (le-of-eq (z ∙ sym (zero-mul d))))))
+    above (inr q) p = q
