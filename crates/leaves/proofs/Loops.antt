@@ -1,8 +1,9 @@
 -- Laws of `specs/Loops.antt`'s loop, tab, fill and columnLength, and of a cell's index in a table stored row by row. Assumes nothing.
-use mathlib.Core.Path.{_≡_, refl, sym, ap, _∙_, subst}
+use mathlib.Core.Path.{_≡_, refl, sym, ap, ap₂, _∙_, subst}
 use mathlib.Core.List.{List, [], _∷_, _++_}
+use mathlib.Core.Option.{Option, none, some}
 use Prim.Native.Nat.{ℕ, zero, suc, _+_, _*_, _/_, _%_, _≤_, _<_, zero-le, suc-le-suc}
-use native.Mathlib.Nat.{le-antisymm, lt-of-lt-of-le, div-mul-le-self, mul-div-cancel, suc-mul, mul-le-mul-right, not-suc-le-zero, le-of-suc-le-suc, mul-add-div-right, div-eq-of-lt, add-zero, mul-add-mod-self-right, mod-eq-of-lt, add-mul, one-mul, mul-zero, mod-lt, div-lt-iff-lt-mul}
+use native.Mathlib.Nat.{lt-suc-self, lt-trans, le-antisymm, lt-of-lt-of-le, div-mul-le-self, mul-div-cancel, suc-mul, mul-le-mul-right, not-suc-le-zero, le-of-suc-le-suc, mul-add-div-right, div-eq-of-lt, add-zero, mul-add-mod-self-right, mod-eq-of-lt, add-mul, one-mul, mul-zero, mod-lt, div-lt-iff-lt-mul}
 use native.Mathlib.Numerals.{add-one}
 use native.Mathlib.Omega.{arith}
 use mathlib.Core.Bool.{Bool, true, false, cond}
@@ -11,7 +12,7 @@ use borrow.Author.Tests.{ltb-true, lt-ltb}
 use lib.ListN.{length, getD, set, drop, length-append, length-drop, length-set}
 use lib.Ieee.{Float}
 use Rattle.leaves.specs.Numbers.{_⊕_, zero⁺, abs, larger}
-use Rattle.leaves.specs.Loops.{loop, sumTo, amaxTo, tab, fill, columnLength}
+use Rattle.leaves.specs.Loops.{loop, sumTo, amaxTo, firstTo, tab, fill, columnLength}
 
 -- a cell of row t and column j lies within the table
 pub cell : (t T j n : ℕ) → t < T → j < n → t * n + j < T * n
@@ -59,6 +60,11 @@ pub loop-start : {S : Type 0} (step : ℕ → S → S) (s : S) → s ≡ loop 0 
 unfolding loop
 loop-start step s = refl
 
+pub loop-ext : {S : Type 0} (n : ℕ) (f g : ℕ → S → S) (s : S) → ((k : ℕ) → k < n → (s : S) → f k s ≡ g k s) → loop n f s ≡ loop n g s
+unfolding loop
+loop-ext zero f g s h = refl
+loop-ext (suc n) f g s h = h n (lt-suc-self n) (loop n f s) ∙ ap (g n) (loop-ext n f g s (λ k l. h k (lt-trans l (lt-suc-self n))))
+
 module _ {A : Type 0} where
   pub length-tab : (f : ℕ → A) (n : ℕ) → length (tab n f) ≡ n
   unfolding tab
@@ -103,7 +109,7 @@ module _ {A : Type 0} where
   fill-past f (suc n) [] (suc k) d g h = absurd (not-suc-le-zero g)
   fill-past f (suc n) (x ∷ old) (suc k) d g h = fill-past (λ k. f (suc k)) n old k d (le-of-suc-le-suc g) (le-of-suc-le-suc h)
 
-  tab-ext : (f g : ℕ → A) (n : ℕ) → ((k : ℕ) → k < n → f k ≡ g k) → tab n f ≡ tab n g
+  pub tab-ext : (f g : ℕ → A) (n : ℕ) → ((k : ℕ) → k < n → f k ≡ g k) → tab n f ≡ tab n g
   unfolding tab
   tab-ext f g zero h = refl
   tab-ext f g (suc n) h = λ i. h 0 (suc-le-suc zero-le) i ∷ tab-ext (λ k. f (suc k)) (λ k. g (suc k)) n (λ k l. h (suc k) (suc-le-suc l)) i
@@ -192,6 +198,23 @@ amax-none f = refl
 pub amax-turn : (f : ℕ → Float) (i : ℕ) (m x m′ : Float) → m ≡ amaxTo i f → x ≡ abs (f i) → m′ ≡ larger m x → m′ ≡ amaxTo (i + 1) f
 unfolding amaxTo
 amax-turn f i m x m′ e h e′ = loop-turn (λ k m. larger m (abs (f k))) i zero⁺ m m′ e (e′ ∙ ap (larger m) h)
+
+-- of the same numbers
+pub sum-ext : (n : ℕ) (f g : ℕ → Float) → ((k : ℕ) → k < n → f k ≡ g k) → sumTo n f ≡ sumTo n g
+unfolding sumTo
+sum-ext n f g h = loop-ext n (λ k s. s ⊕ f k) (λ k s. s ⊕ g k) zero⁺ (λ k l s. ap (λ (z : Float). s ⊕ z) (h k l))
+
+pub amax-ext : (n : ℕ) (f g : ℕ → Float) → ((k : ℕ) → k < n → f k ≡ g k) → amaxTo n f ≡ amaxTo n g
+unfolding amaxTo
+amax-ext n f g h = loop-ext n (λ k m. larger m (abs (f k))) (λ k m. larger m (abs (g k))) zero⁺ (λ k l s. ap (λ (z : Float). larger s (abs z)) (h k l))
+
+abbrev pick : ℕ → Bool → Option ℕ → Option ℕ
+pick n t found = elim found [ none ↦ cond t (some n) none | some k ↦ some k ]
+
+pub first-ext : (n : ℕ) (f g : ℕ → Bool) → ((k : ℕ) → k < n → f k ≡ g k) → firstTo n f ≡ firstTo n g
+unfolding firstTo
+first-ext zero f g h = refl
+first-ext (suc n) f g h = ap₂ (pick n) (h n (lt-suc-self n)) (first-ext n f g (λ k l. h k (lt-trans l (lt-suc-self n))))
 
 -- a number made for i, at the end
 pub at-end : {A : Type 0} (g : ℕ → A) (i n : ℕ) (s : A) → s ≡ g i → i ≤ n → n ≤ i → s ≡ g n

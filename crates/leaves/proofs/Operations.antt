@@ -91,7 +91,7 @@ module _ (x y : Float) (fx : T (fits binary64 x)) (fy : T (fits binary64 y)) (nx
 
 -- ---- ranges
 module _ {g L₁ B₁ L₂ B₂ : ℕ} {x y : Float} (r : Range g L₁ B₁ x) (p : Range g L₂ B₂ y) where
-  pub sum-at-most : total (sign x) (mag x) (sign y) (mag y) ≤ B₁ + B₂
+  sum-at-most : total (sign x) (mag x) (sign y) (mag y) ≤ B₁ + B₂
   sum-at-most = le-trans (total-le (sign x) (sign y) (mag x) (mag y)) (add-le-add (r .most) (p .most))
 
   pub range-add : (B : ℕ) → B₁ + B₂ ≤ B → Held B → B < Top → Range g (2 ^ g) B (x ⊕ y)
@@ -102,6 +102,12 @@ module _ {g L₁ B₁ L₂ B₂ : ℕ} {x y : Float} (r : Range g L₁ B₁ x) (
       subst (Range g (2 ^ g) B) (sym (add-rounded x y (sign x) (sign y) (mag x) (mag y) (range-value r) (range-value p)))
       (range-grain (range-rounded (sumSign (sign x) (mag x) (sign y) (mag y)) n 1 g 1 B (zero-lt-suc 0) (whole q (e ∙ sym (mul-one (q * 2 ^ g)))) (held-pow 0) (λ l. l) H
       (le-trans sum-at-most (le-trans h (le-of-eq (sym (mul-one B))))) o))
+
+  pub add-copy : (k B : ℕ) → (B₁ + B₂) * 2 ^ k ≤ B → Held B → B < Top → shift (pos k) x ⊕ shift (pos k) y ≡ shift (pos k) (x ⊕ y)
+  add-copy k B h H o =
+      let n = total (sign x) (mag x) (sign y) (mag y) in
+      add-shift-under x y (sign x) (sign y) (mag x) (mag y) (range-value r) (range-value p) k
+      (lt-of-le-of-lt (near-most (n * 2 ^ k) 1 B (zero-lt-suc 0) H (le-trans (mul-le-mul-right (2 ^ k) sum-at-most) (le-trans h (le-of-eq (sym (mul-one B)))))) o)
 
 -- a fraction that is zero or large
 zero-or-large : (g n d : ℕ) → (0 < n → 2 ^ (g + 52) * d ≤ n) → Grained g n d
@@ -172,10 +178,9 @@ twice : (h : ℕ) → 2 ^ h + 2 ^ h ≡ 2 ^ suc h
 twice h = omega arith
 
 pub moved-add : {k g l₁ l₂ h : ℕ} {x x' y y' : Float} → Moved k g l₁ h x x' → Moved k g l₂ h y y' → suc h + k ≤ 2097 → Moved k g g (suc h) (x ⊕ y) (x' ⊕ y')
-moved-add {k} {h = h} {x} {x'} {y} {y'} r p o = record {
+moved-add {k} {h = h} r p o = record {
   range = range-add (r .range) (p .range) (2 ^ suc h) (le-of-eq (twice h)) (held-pow (suc h)) (pow-under-Top (suc h) (omega arith));
-  copy = ap₂ _⊕_ (r .copy) (p .copy) ∙ add-shift-under x y (sign x) (sign y) (mag x) (mag y) (range-value (r .range)) (range-value (p .range)) k
-      (under (total (sign x) (mag x) (sign y) (mag y)) 1 (suc h) k (zero-lt-suc 0) (le-trans (sum-at-most (r .range) (p .range)) (le-of-eq (twice h ∙ sym (mul-one (2 ^ suc h))))) o);
+  copy = ap₂ _⊕_ (r .copy) (p .copy) ∙ add-copy (r .range) (p .range) k (2 ^ (suc h + k)) (le-of-eq (ap (λ (z : ℕ). z * 2 ^ k) (twice h) ∙ sym (pow-add 2 (suc h) k))) (held-pow (suc h + k)) (pow-under-Top (suc h + k) o);
 }
 
 pub moved-sub : {k g l₁ l₂ h : ℕ} {x x' y y' : Float} → Moved k g l₁ h x x' → Moved k g l₂ h y y' → suc h + k ≤ 2097 → Moved k g g (suc h) (x ⊖ y) (x' ⊖ y')

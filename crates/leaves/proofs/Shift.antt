@@ -127,13 +127,13 @@ module _ (x y p q a b : ℕ) (P : 0 < p) (Q : 0 < q) (e : x * p ≡ a * q) (g : 
 none : (p q : ℕ) → 0 * p ≡ 0 * q
 none p q = zero-mul p ∙ sym (zero-mul q)
 
-below-scaled : (s t : Bool) (x y p q a b : ℕ) → 0 < p → 0 < q → x * p ≡ a * q → y * p ≡ b * q → below s x t y ≡ below s a t b
+pub below-scaled : (s t : Bool) (x y p q a b : ℕ) → 0 < p → 0 < q → x * p ≡ a * q → y * p ≡ b * q → below s x t y ≡ below s a t b
 below-scaled false false x y p q a b P Q e g = ltb-scaled x y p q a b P Q e g
 below-scaled false true x y p q a b P Q e g = refl
 below-scaled true false x y p q a b P Q e g = ltb-scaled 0 (x + y) p q 0 (a + b) P Q (none p q) (add-mul x y p ∙ ap₂ (λ (u v : ℕ). u + v) e g ∙ sym (add-mul a b q))
 below-scaled true true x y p q a b P Q e g = ltb-scaled y x p q b a P Q g e
 
-level-scaled : (s t : Bool) (x y p q a b : ℕ) → 0 < p → 0 < q → x * p ≡ a * q → y * p ≡ b * q → level s x t y ≡ level s a t b
+pub level-scaled : (s t : Bool) (x y p q a b : ℕ) → 0 < p → 0 < q → x * p ≡ a * q → y * p ≡ b * q → level s x t y ≡ level s a t b
 level-scaled s t x y p q a b P Q e g = ap₂ (λ (u v : Bool). u && (Bool·beq s t || v)) (eqb-scaled x y p q a b P Q e g) (eqb-scaled x 0 p q a 0 P Q e (none p q))
 
 -- the two sides of a comparison: those of the shifted values, times down e * down d * down k, are the others times up k * the shifted values' downs

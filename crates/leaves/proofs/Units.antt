@@ -10,7 +10,7 @@ use mathlib.Core.Bool.{Bool, true, false, not, _&&_, Bool·beq, cond}
 use lib.Dec.{T, ltb, eqb, eqb·suc-zero, lit<}
 use lib.IntN.{ℤ, pos, _+ℤ_}
 use lib.Pow.{pow-add, pow-pos, pow-mono}
-use lib.Ieee.{Float, nan, inf, fin, binary64, up, down, size, unlike, odd, units, round, neg, sum, add, mul, div, fits}
+use lib.Ieee.{Float, nan, inf, fin, binary64, up, down, size, unlike, odd, units, round, neg, sum, add, mul, div, below, level, lt, eq, fits}
 use lib.Ieee.Digits.{size-lt}
 use lib.Ieee.Fits.{up-pos, down-pos, round-fits}
 use lib.Ieee.Exact.{HasValue, units-val}
@@ -22,7 +22,7 @@ use Rattle.leaves.specs.Numbers.{_⊕_, _⊖_, _⊗_, _⊘_, zero⁺, is
 use Rattle.leaves.specs.Shift.{shift}
 use Rattle.leaves.proofs.Whole.{over, under, plus, one-side, up-is, down-is}
 use Rattle.leaves.proofs.Laws.{Room, fits→room, room→fits, digits-in, digits-out, value-unique}
-use Rattle.leaves.proofs.Shift.{expo, shift-fin, shift-value, expo-value, ltb-scaled}
+use Rattle.leaves.proofs.Shift.{expo, shift-fin, shift-value, expo-value, ltb-scaled, below-scaled, level-scaled}
 use Rattle.leaves.proofs.Rounding.{near, Held, Grained, near-scale, round-near}
 
 -- ---- definitions
@@ -130,6 +130,35 @@ unfolding neg
 neg-val nan s u v = v
 neg-val (inf t) s u v = v
 neg-val (fin t m e) s u v = (ap not (v .0), v .1)
+
+-- ---- comparisons
+-- the two sides of a comparison, in units
+module _ (m : ℕ) (e : ℤ) (n : ℕ) (d : ℤ) (a b : ℕ) (v : m * up e * U ≡ a * down e) (w : n * up d * U ≡ b * down d) where
+  left : m * up e * down d * U ≡ a * (down e * down d)
+  left = mul-right-comm (m * up e) (down d) U ∙ ap (λ (z : ℕ). z * down d) v ∙ mul-assoc a (down e) (down d)
+
+  right : n * up d * down e * U ≡ b * (down e * down d)
+  right = mul-right-comm (n * up d) (down e) U ∙ ap (λ (z : ℕ). z * down e) w ∙ mul-right-comm b (down d) (down e) ∙ mul-assoc b (down e) (down d)
+
+pub lt-val : (x y : Float) (s t : Bool) (a b : ℕ) → Val x s a → Val y t b → lt x y ≡ below s a t b
+unfolding lt
+lt-val nan y s t a b v w = absurd v
+lt-val (inf r) y s t a b v w = absurd v
+lt-val (fin r m e) nan s t a b v w = absurd w
+lt-val (fin r m e) (inf q) s t a b v w = absurd w
+lt-val (fin r m e) (fin q n d) s t a b v w =
+    ap₂ (λ (i j : Bool). below i (m * up e * down d) j (n * up d * down e)) (v .0) (w .0)
+    ∙ below-scaled s t (m * up e * down d) (n * up d * down e) U (down e * down d) a b U-pos (mul-pos (down-pos e) (down-pos d)) (left m e n d a b (v .1) (w .1)) (right m e n d a b (v .1) (w .1))
+
+pub eq-val : (x y : Float) (s t : Bool) (a b : ℕ) → Val x s a → Val y t b → eq x y ≡ level s a t b
+unfolding eq
+eq-val nan y s t a b v w = absurd v
+eq-val (inf r) y s t a b v w = absurd v
+eq-val (fin r m e) nan s t a b v w = absurd w
+eq-val (fin r m e) (inf q) s t a b v w = absurd w
+eq-val (fin r m e) (fin q n d) s t a b v w =
+    ap₂ (λ (i j : Bool). level i (m * up e * down d) j (n * up d * down e)) (v .0) (w .0)
+    ∙ level-scaled s t (m * up e * down d) (n * up d * down e) U (down e * down d) a b U-pos (mul-pos (down-pos e) (down-pos d)) (left m e n d a b (v .1) (w .1)) (right m e n d a b (v .1) (w .1))
 
 -- ---- shifted
 pub val-shift : (k : ℕ) (x : Float) (s : Bool) (u : ℕ) → Val x s u → Val (shift (pos k) x) s (u * 2 ^ k)
@@ -239,8 +268,8 @@ add-rounded (fin u m e) (fin r n h) s t a b v w =
     let Y = n * up h * down e in
     let D = down e * down h in
     let D-pos : 0 < D = mul-pos (down-pos e) (down-pos h) in
-    let p : X * U ≡ a * D = mul-right-comm (m * up e) (down h) U ∙ ap (λ (z : ℕ). z * down h) (v .1) ∙ mul-assoc a (down e) (down h) in
-    let q : Y * U ≡ b * D = mul-right-comm (n * up h) (down e) U ∙ ap (λ (z : ℕ). z * down e) (w .1) ∙ mul-right-comm b (down h) (down e) ∙ mul-assoc b (down e) (down h) in
+    let p = left m e n h a b (v .1) (w .1) in
+    let q = right m e n h a b (v .1) (w .1) in
     ap₂ (λ (y z : Bool). sum binary64 y X z Y D) (v .0) (w .0) ∙ sum-is s X t Y D
     ∙ ap (λ (z : Bool). round binary64 z (total s X t Y) D) (sumSign-scaled s t X Y U D a b U-pos D-pos p q)
     ∙ round-same binary64 (sumSign s a t b) (total s X t Y) D (total s a t b) (1 * U) D-pos (rw (one-mul U) U-pos) (rw (one-mul U) (total-scaled s t X Y U D a b U-pos D-pos p q))

@@ -1,0 +1,126 @@
+-- Sums from +0 in rising index and the largest size, under a shift. `Part` is a sum under way: m terms of 2 ^ h units at most make m * 2 ^ h units at most, since that number has few
+-- digits and rounding does not pass it. So a sum of at most 2 ^ c terms stays exact under a shift as long as 2 ^ (c + h) units, shifted, do not overflow (`moved-sum`); a sum of products
+-- is this with `moved-mul` for each term. Design, section 5. Assumes nothing.
+use mathlib.Core.Path.{_≡_, refl, sym, ap, ap₂, _∙_, subst}
+use mathlib.Core.Logic.{inl, inr}
+use Prim.Native.Nat.{ℕ, zero, suc, _+_, _*_, _^_, _≤_, _<_, zero-le}
+use native.Mathlib.Nat.{le-refl, le-trans, le-of-eq, le-of-lt, le-of-suc-le-suc, lt-of-le-of-lt, lt-trans, lt-suc-self, eq-or-lt-of-le, not-suc-le-zero, zero-mul, one-mul, mul-one, suc-mul, mul-le-mul-left, mul-le-mul-right}
+use native.Mathlib.Omega.{arith}
+use mathlib.Core.Bool.{Bool, true, false, cond}
+use lib.Dec.{T, ltb}
+use lib.IntN.{ℤ, pos}
+use lib.Pow.{pow-add, pow-pos, pow-mono, pow-lt}
+use lib.Ieee.{Float, nan, inf, fin, binary64, lt, fits}
+use borrow.Author.Tests.{ltb-true, ltb-false}
+use Rattle.leaves.specs.Numbers.{_⊕_, zero⁺, isFinite, abs, larger}
+use Rattle.leaves.specs.Loops.{loop, sumTo, amaxTo}
+use Rattle.leaves.specs.Shift.{shift}
+use Rattle.leaves.proofs.Shift.{shift-zero⁺, abs-shift, larger-shift}
+use Rattle.leaves.proofs.Rounding.{Held, held-times, held-up}
+use Rattle.leaves.proofs.Units.{Top, pow-under-Top, Val, sign, mag, val-mag, mag-val, mag-abs, lt-val}
+use Rattle.leaves.proofs.Range.{Range, range-weaken, range-zero}
+use Rattle.leaves.proofs.Operations.{Moved, range-add, add-copy}
+
+-- ---- a sum under way, and its copy: m terms so far
+pub record Part (k g h m : ℕ) (x x' : Float) : Type 0 where
+  pub range : Range g (2 ^ g) (m * 2 ^ h) x
+  pub copy : x' ≡ shift (pos k) x
+
+module _ (k g h M c : ℕ) (S : M ≤ 2 ^ c) (C : c ≤ 52) (O : c + h + k ≤ 2097) where
+  held : (m : ℕ) → m ≤ M → Held (m * 2 ^ h)
+  held m e = held-times m h (lt-of-le-of-lt (le-trans e (le-trans S (pow-mono C))) (pow-lt {i = 52} {j = 53} (le-refl 53)))
+
+  most : (m : ℕ) → m ≤ M → m * 2 ^ h ≤ 2 ^ (c + h)
+  most m e = le-trans (mul-le-mul-right (2 ^ h) (le-trans e S)) (le-of-eq (sym (pow-add 2 c h)))
+
+  under-way : (m : ℕ) → m ≤ M → m * 2 ^ h * 2 ^ k < Top
+  under-way m e = lt-of-le-of-lt (le-trans (mul-le-mul-right (2 ^ k) (most m e)) (le-of-eq (sym (pow-add 2 (c + h) k)))) (pow-under-Top (c + h + k) O)
+
+  pub part-zero : Part k g h 0 zero⁺ zero⁺
+  part-zero = record { range = range-zero g (2 ^ g) (0 * 2 ^ h); copy = sym (shift-zero⁺ (pos k)) }
+
+  pub part-add : {m l : ℕ} {s s' x x' : Float} → suc m ≤ M → Part k g h m s s' → Moved k g l h x x' → Part k g h (suc m) (s ⊕ x) (s' ⊕ x')
+  part-add {m} e p u =
+      let B = suc m * 2 ^ h in
+      let o = under-way (suc m) e in
+      let b : m * 2 ^ h + 2 ^ h ≤ B = le-of-eq (sym (suc-mul m (2 ^ h))) in
+      record {
+        range = range-add (p .range) (u .range) B b (held (suc m) e) (lt-of-le-of-lt (le-trans (le-of-eq (sym (mul-one B))) (mul-le-mul-left B (pow-pos k))) o);
+        copy = ap₂ _⊕_ (p .copy) (u .copy) ∙ add-copy (p .range) (u .range) k (B * 2 ^ k) (mul-le-mul-right (2 ^ k) b) (held-up B k (held (suc m) e)) o;
+      }
+
+  -- a turn that adds nothing
+  pub part-more : {m m' : ℕ} {s s' : Float} → m ≤ m' → Part k g h m s s' → Part k g h m' s s'
+  part-more {m' = m'} e p = record { range = range-weaken (2 ^ g) (m' * 2 ^ h) (le-refl (2 ^ g)) (mul-le-mul-right (2 ^ h) e) (p .range); copy = p .copy }
+
+  -- a loop of n turns that each add d terms at most
+  pub part-loop : (n d : ℕ) (f f' : ℕ → Float → Float) → ((i m : ℕ) (s s' : Float) → i < n → m + d ≤ M → Part k g h m s s' → Part k g h (m + d) (f i s) (f' i s'))
+      → (m : ℕ) (s s' : Float) → m + n * d ≤ M → Part k g h m s s' → Part k g h (m + n * d) (loop n f s) (loop n f' s')
+  unfolding loop
+  part-loop zero d f f' each m s s' e p = part-more (omega arith) p
+  part-loop (suc n) d f f' each m s s' e p =
+      part-more (omega arith)
+      (each n (m + n * d) (loop n f s) (loop n f' s') (lt-suc-self n) (omega arith)
+      (part-loop n d f f' (λ i m s s' l. each i m s s' (lt-trans l (lt-suc-self n))) m s s' (omega arith) p))
+
+  pub part-moved : {m : ℕ} {s s' : Float} → m ≤ M → Part k g h m s s' → Moved k g g (c + h) s s'
+  part-moved {m} e p = record { range = range-weaken (2 ^ g) (2 ^ (c + h)) (le-refl (2 ^ g)) (most m e) (p .range); copy = p .copy }
+
+  part-sum : (l n : ℕ) (u u' : ℕ → Float) → n ≤ M → ((t : ℕ) → t < n → Moved k g l h (u t) (u' t)) → Part k g h n (sumTo n u) (sumTo n u')
+  unfolding sumTo loop
+  part-sum l zero u u' e each = part-zero
+  part-sum l (suc n) u u' e each = part-add e (part-sum l n u u' (le-trans (le-of-lt (lt-suc-self n)) e) (λ t i. each t (lt-trans i (lt-suc-self n)))) (each n (lt-suc-self n))
+
+  pub moved-sum : (l : ℕ) (u u' : ℕ → Float) → ((t : ℕ) → t < M → Moved k g l h (u t) (u' t)) → Moved k g g (c + h) (sumTo M u) (sumTo M u')
+  moved-sum l u u' each = part-moved (le-refl M) (part-sum l M u u' (le-refl M) each)
+
+-- ---- the largest size
+pub amax-shift : (k : ℤ) (n : ℕ) (f : ℕ → Float) → amaxTo n (λ t. shift k (f t)) ≡ shift k (amaxTo n f)
+unfolding amaxTo loop
+amax-shift k zero f = sym (shift-zero⁺ k)
+amax-shift k (suc n) f = ap₂ larger (amax-shift k n f) (abs-shift k (f n)) ∙ larger-shift k (amaxTo n f) (abs (f n))
+
+-- it is one of the sizes, or zero
+pub amax-one : (P : Float → Type 0) (n : ℕ) (f : ℕ → Float) → P zero⁺ → ((t : ℕ) → t < n → P (abs (f t))) → P (amaxTo n f)
+unfolding amaxTo loop larger
+amax-one P zero f z h = z
+amax-one P (suc n) f z h = go (lt (amaxTo n f) (abs (f n))) (amax-one P n f z (λ t l. h t (lt-trans l (lt-suc-self n)))) (h n (lt-suc-self n))
+  where
+    go : (b : Bool) → P (amaxTo n f) → P (abs (f n)) → P (cond b (abs (f n)) (amaxTo n f))
+    go true p q = q
+    go false p q = p
+
+-- and none is larger, of finite values of the format
+abs-val : (x : Float) → T (fits binary64 x) → T (isFinite x) → Val (abs x) false (mag (abs x))
+abs-val x t f = rw (mag-abs x) (go x (mag-val x t f))
+  where
+    go : (x : Float) → Val x (sign x) (mag x) → Val (abs x) false (mag x)
+    go nan v = absurd v
+    go (inf s) v = absurd v
+    go (fin s m e) v = unfold abs in (refl, v .1)
+
+larger-mag : (m x : Float) → Val m false (mag m) → Val x false (mag x) → (mag m ≤ mag (larger m x)) × (mag x ≤ mag (larger m x))
+unfolding larger
+larger-mag m x v w = go (lt m x) (sym (lt-val m x false false (mag m) (mag x) v w))
+  where
+    go : (b : Bool) → ltb (mag m) (mag x) ≡ b → (mag m ≤ mag (cond b x m)) × (mag x ≤ mag (cond b x m))
+    go true e = (le-of-lt (ltb-true (mag m) (mag x) e), le-refl (mag x))
+    go false e = (le-refl (mag m), ltb-false (mag m) (mag x) e)
+
+module _ (f : ℕ → Float) where
+  amax-val : (n : ℕ) → ((t : ℕ) → t < n → T (fits binary64 (f t)) × T (isFinite (f t))) → Val (amaxTo n f) false (mag (amaxTo n f))
+  amax-val n h = amax-one (λ z. Val z false (mag z)) n f zero-val (λ t l. abs-val (f t) (h t l .0) (h t l .1))
+    where
+      zero-val : Val zero⁺ false (mag zero⁺)
+      zero-val = unfold fits isFinite sign in mag-val zero⁺ tt tt
+
+  pub amax-most : (n : ℕ) → ((t : ℕ) → t < n → T (fits binary64 (f t)) × T (isFinite (f t))) → (t : ℕ) → t < n → mag (f t) ≤ mag (amaxTo n f)
+  unfolding amaxTo loop
+  amax-most zero h t l = absurd (not-suc-le-zero l)
+  amax-most (suc n) h t l =
+      let h' : (t : ℕ) → t < n → T (fits binary64 (f t)) × T (isFinite (f t)) = λ t l. h t (lt-trans l (lt-suc-self n)) in
+      let b = larger-mag (amaxTo n f) (abs (f n)) (amax-val n h') (abs-val (f n) (h n (lt-suc-self n) .0) (h n (lt-suc-self n) .1)) in
+      elim (eq-or-lt-of-le (le-of-suc-le-suc l)) [
+        | inl e ↦ subst (λ (i : ℕ). mag (f i) ≤ mag (amaxTo (suc n) f)) (sym e) (le-trans (le-of-eq (sym (mag-abs (f n)))) (b .1))
+        | inr i ↦ le-trans (amax-most n h' t i) (b .0)
+      ]
