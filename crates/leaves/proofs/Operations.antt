@@ -22,11 +22,11 @@ use Rattle.leaves.proofs.Units.{U, U-pos, U-is, Top, pow-under-Top, Val
 use Rattle.leaves.proofs.Range.{Range, range-value, range-weaken, range-finer, range-grain, range-neg, range-abs, range-zero, range-rounded}
 
 -- ---- powers of two, and U, which is 2 ^ 1074
-pow-le-U : (a b c : ℕ) → a + b ≤ c + 1074 → 2 ^ a * 2 ^ b ≤ 2 ^ c * U
+pub pow-le-U : (a b c : ℕ) → a + b ≤ c + 1074 → 2 ^ a * 2 ^ b ≤ 2 ^ c * U
 unfolding U
 pow-le-U a b c h = le-trans (le-of-eq (sym (pow-add 2 a b))) (le-trans (pow-mono h) (le-of-eq (pow-add 2 c 1074)))
 
-U-le-pow : (a b c : ℕ) → a + 1074 ≤ b + c → 2 ^ a * U ≤ 2 ^ b * 2 ^ c
+pub U-le-pow : (a b c : ℕ) → a + 1074 ≤ b + c → 2 ^ a * U ≤ 2 ^ b * 2 ^ c
 unfolding U
 U-le-pow a b c h = le-trans (le-of-eq (sym (pow-add 2 a 1074))) (le-trans (pow-mono h) (le-of-eq (pow-add 2 b c)))
 

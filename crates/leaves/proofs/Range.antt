@@ -20,7 +20,7 @@ use Rattle.leaves.specs.Numbers.{zero⁺, count, isFinite, abs}
 use Rattle.leaves.specs.Shift.{shift}
 use Rattle.leaves.proofs.Shift.{isFinite-shift}
 use Rattle.leaves.proofs.Rounding.{near, Held, Grained, near-most, near-least, near-grain, held-small, held-pow, held-grain, in-place}
-use Rattle.leaves.proofs.Units.{U, U-pos, U-is, Top, Val, rounded, sign, mag, val-mag, val-finite, mag-val, mag-held, mag-neg, mag-abs, mag-shift, fits-shift, rounded-fits, rounded-val}
+use Rattle.leaves.proofs.Units.{U, U-pos, U-is, Top, Val, val-of, rounded, sign, mag, val-mag, val-finite, mag-val, mag-held, mag-neg, mag-abs, mag-shift, fits-shift, rounded-fits, rounded-val}
 
 pub record Range (g L B : ℕ) (x : Float) : Type 0 where
   pub fit : T (fits binary64 x)
@@ -131,32 +131,22 @@ range-shift {g} {L} {B} {x} k o r =
     }
 
 -- ---- of a count
-pub mag-count : (n : ℕ) → n ≤ 2 ^ 53 → mag (count n) ≡ n * U
+pub count-val : (n : ℕ) → n ≤ 2 ^ 53 → Val (count n) false (n * U)
 unfolding ofInt
-mag-count n h = val-mag (count n) false (n * U) (go (count n) (round-whole binary64 false n h)) .1
-  where
-    go : (x : Float) → HasValue x false n 1 → Val x false (n * U)
-    go nan v = v
-    go (inf s) v = v
-    go (fin s m e) v = (v .0, ap (λ (z : ℕ). z * U) (sym (mul-one (m * up e)) ∙ v .1) ∙ mul-right-comm n (down e) U)
+count-val n h = val-of (count n) false n 1 (n * U) (lit< tt) (round-whole binary64 false n h) (sym (mul-one (n * U)))
 
 pub range-count : (c n : ℕ) → c ≤ 53 → n ≤ 2 ^ c → Range 1074 (2 ^ 1074) (2 ^ (c + 1074)) (count n)
-unfolding ofInt
 range-count c n l h =
-    let e : mag (count n) ≡ n * 2 ^ 1074 = mag-count n (le-trans h (pow-mono l)) ∙ ap (λ (z : ℕ). n * z) U-is in
+    let v = count-val n (le-trans h (pow-mono l)) in
+    let e : mag (count n) ≡ n * 2 ^ 1074 = val-mag (count n) false (n * U) v .1 ∙ ap (λ (z : ℕ). n * z) U-is in
     range-grain (record {
       fit = ofInt-fits binary64 (pos n);
-      finite = go (count n) (round-whole binary64 false n (le-trans h (pow-mono l)));
+      finite = val-finite (count n) false (n * U) v;
       count = n;
       grain = e;
       least = λ p. p;
       most = le-trans (le-of-eq e) (le-trans (mul-le-mul-right (2 ^ 1074) h) (le-of-eq (sym (pow-add 2 c 1074))));
     })
-  where
-    go : (x : Float) → HasValue x false n 1 → T (isFinite x)
-    go nan v = absurd v
-    go (inf s) v = absurd v
-    go (fin s m e) v = unfold isFinite in tt
 
 -- ---- of n / d units, rounded
 pub range-rounded : (s : Bool) (n d g L B : ℕ) → 0 < d → Grained g n d → Held L → (0 < n → L * d ≤ n) → Held B → n ≤ B * d → B < Top → Range g L B (rounded s n d)

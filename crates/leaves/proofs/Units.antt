@@ -76,6 +76,15 @@ val-finite nan s u v = v
 val-finite (inf t) s u v = v
 val-finite (fin t m e) s u v = tt
 
+-- by any fraction a / c that x equals
+pub val-of : (x : Float) (s : Bool) (a c u : ℕ) → 0 < c → HasValue x s a c → a * U ≡ u * c → Val x s u
+val-of nan s a c u C v e = v
+val-of (inf t) s a c u C v e = v
+val-of (fin t m e) s a c u C v h = (v .0, eq-of-mul-eq-mul-right c C (m * up e * U) (u * down e) (turn (m * up e) c a (down e) U u (v .1) h))
+  where
+    turn : (x c a d l u : ℕ) → x * c ≡ a * d → a * l ≡ u * c → x * l * c ≡ u * d * c
+    turn x c a d l u p q = let p' = ap (λ (z : ℕ). z * l) p in let q' = ap (λ (z : ℕ). z * d) q in omega arith
+
 pub val-unique : (x y : Float) (s : Bool) (u : ℕ) → T (fits binary64 x) → T (fits binary64 y) → Val x s u → Val y s u → x ≡ y
 val-unique x y s u p q v w = value-unique binary64 x y s u U U-pos p q v w
 
