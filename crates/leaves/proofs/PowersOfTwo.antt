@@ -1,0 +1,145 @@
+-- b(x) and pow2_scaled under a shift. b(x) grows by k (`exponent-shift`) and says where the leading bit is (`exponent-range`). pow2_scaled x j is the shift by j wherever the result is a value of
+-- the format: that is, where x's last bit stays a unit or more and x stays below 2 ^ 1024 (`scaled-moves`). So scaling by the power of two of a number that is shifted too gives the same
+-- float (`same-scaled`), and one number scaled by 2 ^ j and by 2 ^ (j + k) gives a float and its shift (`scaled-copy`). Design, section 5. Assumes nothing.
+use mathlib.Core.Path.{_≡_, refl, sym, ap, ap₂, _∙_, subst}
+use mathlib.Core.Logic.{_⊎_, inl, inr}
+use Prim.Native.Nat.{ℕ, zero, suc, _+_, _-_, _*_, _%_, _^_, _≤_, _<_, zero-le}
+use native.Mathlib.Nat.{le-refl, le-trans, le-of-eq, lt-of-lt-of-le, lt-of-le-of-lt, lt-irrefl, lt-suc-self, zero-lt-suc, zero-mul, one-mul, mul-one, mul-assoc, mul-right-comm, mul-pos, mul-le-mul-right, le-of-mul-le-mul-right, eq-of-mul-eq-mul-right, pow-succ'}
+use native.Mathlib.Omega.{arith}
+use mathlib.Core.Bool.{Bool, true, false}
+use lib.Dec.{T}
+use lib.IntN.{ℤ, pos, negsuc, negℤ, _+ℤ_}
+use lib.Pow.{pow-add, pow-pos, pow-mono, pow-lt}
+use lib.Ieee.{Float, nan, inf, fin, binary64, up, down, size, fits}
+use lib.Ieee.Digits.{size-lt}
+use lib.Ieee.Exact.{HasValue}
+use lib.Ieee.Fits.{up-pos, down-pos}
+use lib.Ieee.Positive.{first-pos}
+use Rattle.leaves.specs.Numbers.{isFinite}
+use Rattle.leaves.specs.Scaling.{binaryExponent, pow2Scaled}
+use Rattle.leaves.specs.Shift.{shift}
+use Rattle.leaves.proofs.Whole.{le-or-lt, over, under, plus, same, one-side, over-neg, under-neg, up-is, down-is}
+use Rattle.leaves.proofs.Laws.{Room, fits→room, room→fits, digits-in, size-pos, zero-exp}
+use Rattle.leaves.proofs.Scale.{scaled-exact}
+use Rattle.leaves.proofs.Shift.{shift-shift, shift-value, isFinite-shift}
+use Rattle.leaves.proofs.Rounding.{in-place}
+use Rattle.leaves.proofs.Units.{U, U-pos, Val, sign, mag, val-mag, mag-val}
+use Rattle.leaves.proofs.Range.{Range, range-value}
+use Rattle.leaves.proofs.Operations.{Moved}
+
+-- ---- the last and the leading bit of a value in range
+-- an odd number times 2 ^ a is a multiple of no higher power
+odd-multiple : (m c a b : ℕ) → m % 2 ≡ 1 → m * 2 ^ a ≡ c * 2 ^ b → b ≤ a
+odd-multiple m c a b o h = elim (le-or-lt b a) [ inl l ↦ l | inr l ↦ absurd (go l) ]
+  where
+    go : a < b → ⊥
+    go l =
+        let e : m ≡ c * 2 ^ (b - suc a) * 2 = eq-of-mul-eq-mul-right (2 ^ a) (pow-pos a) m (c * 2 ^ (b - suc a) * 2) (h ∙ sym (in-place c b (suc a) l) ∙ ap (λ (z : ℕ). c * 2 ^ (b - suc a) * z) (pow-succ' 2 a) ∙ sym (mul-assoc (c * 2 ^ (b - suc a)) 2 (2 ^ a))) in
+        omega arith
+
+pub record Bits (g h : ℕ) (m : ℕ) (e : ℤ) : Type 0 where
+  pub last : g + under e ≤ over e + 1074
+  pub leading : size m + over e + 1074 ≤ suc h + under e
+
+range-bits : {g L : ℕ} (h : ℕ) (s : Bool) (m : ℕ) (e : ℤ) → Range g L (2 ^ h) (fin s (suc m) e) → Bits g h (suc m) e
+unfolding U
+range-bits {g} h s m e r =
+    let x = fin s (suc m) e in
+    let v : suc m * 2 ^ (over e + 1074) ≡ mag x * 2 ^ under e = ap (λ (z : ℕ). suc m * z) (pow-add 2 (over e) 1074) ∙ sym (mul-assoc (suc m) (2 ^ over e) (2 ^ 1074)) ∙ (rw (up-is e, down-is e) at (range-value r .1)) in
+    let q = fits→room s m e (r .fit) in
+    record {
+      last = odd-multiple (suc m) (r .count) (over e + 1074) (g + under e) (q .odd) (v ∙ ap (λ (z : ℕ). z * 2 ^ under e) (r .grain) ∙ mul-assoc (r .count) (2 ^ g) (2 ^ under e) ∙ ap (λ (z : ℕ). r .count * z) (sym (pow-add 2 g (under e))));
+      leading = let l = digits-in m (over e + 1074) (suc (h + under e)) (lt-of-le-of-lt (le-trans (le-of-eq v) (le-trans (mul-le-mul-right (2 ^ under e) (r .most)) (le-of-eq (sym (pow-add 2 h (under e)))))) (pow-lt (lt-suc-self (h + under e)))) in omega arith;
+    }
+
+-- ---- a shift either way
+module _ {g L : ℕ} (h : ℕ) (x : Float) (r : Range g L (2 ^ h) x) (j : ℤ) (low : under j ≤ g + over j) (high : h + over j ≤ 2097 + under j) where
+  pub fits-move : T (fits binary64 (shift j x))
+  unfolding shift isFinite
+  fits-move = go x r
+    where
+      go : (x : Float) → Range g L (2 ^ h) x → T (fits binary64 (shift j x))
+      go nan r = absurd (r .finite)
+      go (inf s) r = absurd (r .finite)
+      go (fin s zero e) r = r .fit
+      go (fin s (suc m) e) r =
+          let b = range-bits h s m e r in
+          let q = fits→room s m e (r .fit) in
+          room→fits s m (e +ℤ j) (record { odd = q .odd; digits = q .digits; low = omega (arith, plus e j, one-side (e +ℤ j), b .last); high = omega (arith, plus e j, b .leading) })
+
+  finite-move : T (isFinite (shift j x))
+  finite-move = rw (isFinite-shift j x) (r .finite)
+
+  mag-move : mag (shift j x) * 2 ^ under j ≡ mag x * 2 ^ over j
+  mag-move = go (shift j x) (mag-val (shift j x) fits-move finite-move) (shift-value j x (sign x) (mag x) U (range-value r))
+    where
+      turn : (n d a b u w l : ℕ) → n * l ≡ a * d → n * (l * w) ≡ b * u * d → a * w * d ≡ b * u * d
+      turn n d a b u w l p q = let p' = ap (λ (z : ℕ). z * w) p in omega arith
+
+      go : (y : Float) → Val y (sign y) (mag y) → HasValue y (sign x) (mag x * up j) (U * down j) → mag y * 2 ^ under j ≡ mag x * 2 ^ over j
+      go nan v w = absurd v
+      go (inf s) v w = absurd v
+      go (fin s m e) v w =
+          rw (← up-is j, ← down-is j) (eq-of-mul-eq-mul-right (down e) (down-pos e) (mag (fin s m e) * down j) (mag x * up j) (turn (m * up e) (down e) (mag (fin s m e)) (mag x) (up j) (down j) U (v .1) (w .1)))
+
+  pub range-move : (g' L' B' : ℕ) → g' + under j ≡ g + over j → L' * 2 ^ under j ≤ L * 2 ^ over j → 2 ^ h * 2 ^ over j ≤ B' * 2 ^ under j → Range g' L' B' (shift j x)
+  range-move g' L' B' eg el eh = record {
+    fit = fits-move;
+    finite = finite-move;
+    count = r .count;
+    grain = eq-of-mul-eq-mul-right (2 ^ under j) (pow-pos (under j)) (mag (shift j x)) (r .count * 2 ^ g')
+        (mag-move ∙ ap (λ (z : ℕ). z * 2 ^ over j) (r .grain) ∙ mul-assoc (r .count) (2 ^ g) (2 ^ over j) ∙ ap (λ (z : ℕ). r .count * z) (sym (pow-add 2 g (over j)) ∙ ap (λ (z : ℕ). 2 ^ z) (sym eg) ∙ pow-add 2 g' (under j)) ∙ sym (mul-assoc (r .count) (2 ^ g') (2 ^ under j)));
+    least = λ (p : 0 < mag (shift j x)).
+        let q : 0 < mag x = first-pos (mag x) (2 ^ over j) (subst (λ (z : ℕ). 0 < z) mag-move (mul-pos p (pow-pos (under j)))) in
+        le-of-mul-le-mul-right {k = 2 ^ under j} (le-trans el (le-trans (mul-le-mul-right (2 ^ over j) (r .least q)) (le-of-eq (sym mag-move)))) (pow-pos (under j));
+    most = le-of-mul-le-mul-right {k = 2 ^ under j} (le-trans (le-of-eq mag-move) (le-trans (mul-le-mul-right (2 ^ over j) (r .most)) eh)) (pow-pos (under j));
+  }
+
+  pub scaled-moves : pow2Scaled x j ≡ shift j x
+  scaled-moves = scaled-exact x j (r .fit) fits-move
+
+-- a zero is its own shift
+pub shift-null : (k : ℤ) (x : Float) → T (fits binary64 x) → T (isFinite x) → mag x ≡ 0 → shift k x ≡ x
+unfolding shift isFinite
+shift-null k nan t f z = absurd f
+shift-null k (inf s) t f z = absurd f
+shift-null k (fin s zero e) t f z = refl
+shift-null k (fin s (suc m) e) t f z = absurd (lt-irrefl 0 (subst (λ (n : ℕ). 0 < n) (mag-val (fin s (suc m) e) t f .1 ∙ ap (λ (n : ℕ). n * down e) z ∙ zero-mul (down e)) (mul-pos (mul-pos (zero-lt-suc m) (up-pos e)) U-pos)))
+
+-- ---- b(x)
+zero-mag : (s : Bool) (e : ℤ) → mag (fin s zero e) ≡ 0
+zero-mag s e = val-mag (fin s zero e) s 0 (refl, simp zero-mul) .1
+
+pub exponent-shift : (k : ℤ) (x : Float) → T (isFinite x) → 0 < mag x → binaryExponent (shift k x) ≡ binaryExponent x +ℤ k
+unfolding binaryExponent shift isFinite over under
+exponent-shift k nan f p = absurd f
+exponent-shift k (inf s) f p = absurd f
+exponent-shift k (fin s zero e) f p = absurd (lt-irrefl 0 (rw (zero-mag s e) at p))
+exponent-shift k (fin s (suc m) e) f p = let z = pos (size (suc m) - 1) in same (z +ℤ (e +ℤ k)) (z +ℤ e +ℤ k) (omega (arith, plus z (e +ℤ k), plus e k, plus z e, plus (z +ℤ e) k))
+
+-- a value from 2 ^ g to 2 ^ h units has an exponent from g - 1074 to h - 1074
+pub exponent-range : {g L : ℕ} (h : ℕ) (x : Float) → Range g L (2 ^ h) x → 0 < mag x → (g + under (binaryExponent x) ≤ over (binaryExponent x) + 1074) × (over (binaryExponent x) + 1074 ≤ h + under (binaryExponent x))
+unfolding binaryExponent isFinite over under
+exponent-range h nan r p = absurd (r .finite)
+exponent-range h (inf s) r p = absurd (r .finite)
+exponent-range h (fin s zero e) r p = absurd (lt-irrefl 0 (rw (zero-mag s e) at p))
+exponent-range h (fin s (suc m) e) r p =
+    let z = pos (size (suc m) - 1) in
+    let b = range-bits h s m e r in
+    (omega (arith, plus z e, b .last, size-pos m), omega (arith, plus z e, b .leading, size-pos m))
+
+-- ---- two scalings
+-- by the power of two of A, d and A shifted alike: the same float
+pub same-scaled : (k : ℤ) (d A : Float) → T (fits binary64 d) → T (fits binary64 (shift k d)) → T (fits binary64 (shift (negℤ (binaryExponent A)) d)) → T (isFinite A) → 0 < mag A
+    → pow2Scaled (shift k d) (negℤ (binaryExponent (shift k A))) ≡ pow2Scaled d (negℤ (binaryExponent A))
+unfolding over under
+same-scaled k d A td tk tb f p =
+    let b = binaryExponent A in
+    let back : k +ℤ negℤ (b +ℤ k) ≡ negℤ b = same (k +ℤ negℤ (b +ℤ k)) (negℤ b) (omega (arith, plus k (negℤ (b +ℤ k)), plus b k, over-neg b, under-neg b, over-neg (b +ℤ k), under-neg (b +ℤ k))) in
+    let e : shift (negℤ (b +ℤ k)) (shift k d) ≡ shift (negℤ b) d = shift-shift k (negℤ (b +ℤ k)) d ∙ ap (λ (z : ℤ). shift z d) back in
+    ap (λ (z : ℤ). pow2Scaled (shift k d) (negℤ z)) (exponent-shift k A f p)
+    ∙ scaled-exact (shift k d) (negℤ (b +ℤ k)) tk (subst (λ (z : Float). T (fits binary64 z)) (sym e) tb) ∙ e ∙ sym (scaled-exact d (negℤ b) td tb)
+
+-- one number by 2 ^ j and by 2 ^ (j + k): a float and its shift
+pub scaled-copy : (j k : ℤ) (x : Float) → T (fits binary64 x) → T (fits binary64 (shift j x)) → T (fits binary64 (shift (j +ℤ k) x)) → pow2Scaled x (j +ℤ k) ≡ shift k (pow2Scaled x j)
+scaled-copy j k x t a b = scaled-exact x (j +ℤ k) t b ∙ sym (shift-shift j k x) ∙ ap (shift k) (sym (scaled-exact x j t a))
