@@ -1,6 +1,6 @@
 -- Laws of `specs/Loops.antt`'s loop, tab, fill and columnLength, and of a cell's index in a table stored row by row. Assumes nothing.
 use mathlib.Core.Path.{_≡_, refl, sym, ap, ap₂, _∙_, subst}
-use mathlib.Core.List.{List, [], _∷_, _++_}
+use mathlib.Core.List.{[], List, _∷_, _++_}
 use mathlib.Core.Option.{Option, none, some}
 use Prim.Native.Nat.{ℕ, zero, suc, _+_, _*_, _/_, _%_, _≤_, _<_, zero-le, suc-le-suc}
 use native.Mathlib.Nat.{lt-suc-self, lt-trans, le-antisymm, lt-of-lt-of-le, div-mul-le-self, mul-div-cancel, suc-mul, mul-le-mul-right, not-suc-le-zero, le-of-suc-le-suc, mul-add-div-right, div-eq-of-lt, add-zero, mul-add-mod-self-right, mod-eq-of-lt, add-mul, one-mul, mul-zero, mod-lt, div-lt-iff-lt-mul}

@@ -4,22 +4,22 @@
 -- `Moved k g l h x x'` puts a value and its copy together: x is a multiple of 2 ^ g units, zero or from 2 ^ l to 2 ^ h units, and x' is x shifted by k. One law for each operation gives
 -- the result and its copy from the operands and theirs. Assumes nothing.
 use mathlib.Core.Path.{_≡_, refl, sym, ap, ap₂, _∙_, subst}
-use mathlib.Core.Logic.{_⊎_, inl, inr}
-use Prim.Native.Nat.{ℕ, zero, suc, _+_, _-_, _*_, _^_, _≤_, _<_, zero-le}
-use native.Mathlib.Nat.{le-refl, le-trans, le-of-eq, lt-of-le-of-lt, lt-irrefl, eq-zero-or-pos, zero-lt-suc, add-zero, zero-mul, mul-one, mul-comm, mul-assoc, mul-right-comm, mul-mul-mul-comm, add-mul, add-le-add, mul-pos, mul-le-mul, mul-le-mul-left, mul-le-mul-right}
+use mathlib.Core.Logic.{inl, inr}
+use Prim.Native.Nat.{ℕ, suc, _+_, _-_, _*_, _^_, _≤_, _<_, zero-le}
+use native.Mathlib.Nat.{le-trans, le-of-eq, lt-of-le-of-lt, eq-zero-or-pos, zero-lt-suc, add-zero, zero-mul, mul-one, mul-comm, mul-assoc, mul-right-comm, mul-mul-mul-comm, add-le-add, mul-le-mul, mul-le-mul-left, mul-le-mul-right}
 use native.Mathlib.Omega.{arith}
-use mathlib.Core.Bool.{Bool, true, false, not}
+use mathlib.Core.Bool.{Bool}
 use lib.Dec.{T}
 use lib.IntN.{pos}
 use lib.Pow.{pow-add, pow-pos, pow-mono}
-use lib.Ieee.{Float, nan, inf, fin, binary64, unlike, neg, sub, fits}
+use lib.Ieee.{Float, binary64, unlike, neg, sub, fits}
 use lib.Ieee.Positive.{first-pos}
 use Rattle.leaves.specs.Numbers.{_⊕_, _⊖_, _⊗_, _⊘_, zero⁺, isFinite, abs}
 use Rattle.leaves.specs.Shift.{shift}
 use Rattle.leaves.proofs.Shift.{shift-zero, shift-shift, shift-zero⁺, neg-shift, abs-shift}
 use Rattle.leaves.proofs.Rounding.{near, Held, Grained, whole, normal, near-most, held-pow, grained-finer}
-use Rattle.leaves.proofs.Units.{U, U-pos, U-is, Top, pow-under-Top, Val, rounded, sign, mag, val-mag, mag-val, val-shift, rounded-under, rounded-shift, sumSign, total, sumSign-times, total-times, total-le, add-rounded, mul-rounded, div-rounded, div-alike}
-use Rattle.leaves.proofs.Range.{Range, range-value, range-weaken, range-finer, range-grain, range-neg, range-abs, range-zero, range-rounded}
+use Rattle.leaves.proofs.Units.{U, U-pos, Top, pow-under-Top, Val, rounded, sign, mag, mag-val, val-shift, rounded-under, rounded-shift, sumSign, total, sumSign-times, total-times, total-le, add-rounded, mul-rounded, div-rounded, div-alike}
+use Rattle.leaves.proofs.Range.{Range, range-value, range-weaken, range-finer, range-grain, range-neg, range-abs, range-zero, range-shift, range-rounded}
 
 -- ---- powers of two, and U, which is 2 ^ 1074
 pub pow-le-U : (a b c : ℕ) → a + b ≤ c + 1074 → 2 ^ a * 2 ^ b ≤ 2 ^ c * U
@@ -173,6 +173,10 @@ moved-neg {k} {x = x} r = record { range = range-neg (r .range); copy = ap neg (
 
 pub moved-abs : {k g l h : ℕ} {x x' : Float} → Moved k g l h x x' → Moved k g l h (abs x) (abs x')
 moved-abs {k} {x = x} r = record { range = range-abs (r .range); copy = ap abs (r .copy) ∙ abs-shift (pos k) x }
+
+-- the copy's own range
+pub copy-range : {k g l h : ℕ} {x x' : Float} → h + k ≤ 2097 → Moved k g l h x x' → Range (g + k) (2 ^ (l + k)) (2 ^ (h + k)) x'
+copy-range {k} {g} {l} {h} o r = rw (r .copy, pow-add 2 l k, pow-add 2 h k) (range-shift k (rw (pow-add 2 h k) at (pow-under-Top (h + k) o)) (r .range))
 
 twice : (h : ℕ) → 2 ^ h + 2 ^ h ≡ 2 ^ suc h
 twice h = omega arith

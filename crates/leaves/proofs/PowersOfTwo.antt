@@ -1,17 +1,16 @@
 -- b(x) and pow2_scaled under a shift. b(x) grows by k (`exponent-shift`) and says where the leading bit is (`exponent-range`). pow2_scaled x j is the shift by j wherever the result is a value of
 -- the format: that is, where x's last bit stays a unit or more and x stays below 2 ^ 1024 (`scaled-moves`). So scaling by the power of two of a number that is shifted too gives the same
 -- float (`same-scaled`), and one number scaled by 2 ^ j and by 2 ^ (j + k) gives a float and its shift (`scaled-copy`). Design, section 5. Assumes nothing.
-use mathlib.Core.Path.{_≡_, refl, sym, ap, ap₂, _∙_, subst}
-use mathlib.Core.Logic.{_⊎_, inl, inr}
-use Prim.Native.Nat.{ℕ, zero, suc, _+_, _-_, _*_, _%_, _^_, _≤_, _<_, zero-le}
-use native.Mathlib.Nat.{le-refl, le-trans, le-of-eq, lt-of-lt-of-le, lt-of-le-of-lt, lt-irrefl, lt-suc-self, zero-lt-suc, zero-mul, one-mul, mul-one, mul-assoc, mul-right-comm, mul-pos, mul-le-mul-right, le-of-mul-le-mul-right, eq-of-mul-eq-mul-right, pow-succ'}
+use mathlib.Core.Path.{_≡_, refl, sym, ap, _∙_, subst}
+use mathlib.Core.Logic.{inl, inr}
+use Prim.Native.Nat.{ℕ, zero, suc, _+_, _-_, _*_, _%_, _^_, _≤_, _<_}
+use native.Mathlib.Nat.{le-trans, le-of-eq, lt-of-le-of-lt, lt-irrefl, lt-suc-self, zero-lt-suc, zero-mul, mul-assoc, mul-pos, mul-le-mul-right, le-of-mul-le-mul-right, eq-of-mul-eq-mul-right, pow-succ'}
 use native.Mathlib.Omega.{arith}
-use mathlib.Core.Bool.{Bool, true, false}
+use mathlib.Core.Bool.{Bool}
 use lib.Dec.{T}
-use lib.IntN.{ℤ, pos, negsuc, negℤ, _+ℤ_}
-use lib.Pow.{pow-add, pow-pos, pow-mono, pow-lt}
+use lib.IntN.{ℤ, pos, negℤ, _+ℤ_}
+use lib.Pow.{pow-add, pow-pos, pow-lt}
 use lib.Ieee.{Float, nan, inf, fin, binary64, up, down, size, fits}
-use lib.Ieee.Digits.{size-lt}
 use lib.Ieee.Exact.{HasValue}
 use lib.Ieee.Fits.{up-pos, down-pos}
 use lib.Ieee.Positive.{first-pos}
@@ -19,13 +18,12 @@ use Rattle.leaves.specs.Numbers.{isFinite}
 use Rattle.leaves.specs.Scaling.{binaryExponent, pow2Scaled}
 use Rattle.leaves.specs.Shift.{shift}
 use Rattle.leaves.proofs.Whole.{le-or-lt, over, under, plus, same, one-side, over-neg, under-neg, up-is, down-is}
-use Rattle.leaves.proofs.Laws.{Room, fits→room, room→fits, digits-in, size-pos, zero-exp}
+use Rattle.leaves.proofs.Laws.{fits→room, room→fits, digits-in, size-pos}
 use Rattle.leaves.proofs.Scale.{scaled-exact}
 use Rattle.leaves.proofs.Shift.{shift-shift, shift-value, isFinite-shift}
 use Rattle.leaves.proofs.Rounding.{in-place}
 use Rattle.leaves.proofs.Units.{U, U-pos, Val, sign, mag, val-mag, mag-val}
 use Rattle.leaves.proofs.Range.{Range, range-value}
-use Rattle.leaves.proofs.Operations.{Moved}
 
 -- ---- the last and the leading bit of a value in range
 -- an odd number times 2 ^ a is a multiple of no higher power

@@ -3,24 +3,22 @@
 -- value's size, from a test that computes, of a shifted value, of a count, and of a fraction that is rounded. Design, section 5. Assumes nothing.
 use mathlib.Core.Path.{_≡_, refl, sym, ap, _∙_, subst}
 use mathlib.Core.Logic.{_⊎_, inl, inr}
-use Prim.Native.Nat.{ℕ, zero, suc, _+_, _-_, _*_, _^_, _≤_, _<_, zero-le}
-use native.Mathlib.Nat.{le-trans, le-of-eq, le-of-lt, lt-of-lt-of-le, lt-of-le-of-lt, lt-irrefl, eq-zero-or-pos, zero-mul, one-mul, mul-one, mul-assoc, mul-right-comm, mul-pos, mul-le-mul-right}
-use native.Mathlib.Omega.{arith}
+use Prim.Native.Nat.{ℕ, _+_, _-_, _*_, _^_, _≤_, _<_, zero-le}
+use native.Mathlib.Nat.{le-trans, le-of-eq, le-of-lt, lt-of-lt-of-le, lt-of-le-of-lt, lt-irrefl, eq-zero-or-pos, zero-mul, one-mul, mul-one, mul-assoc, mul-le-mul-right}
 use mathlib.Core.Bool.{Bool, true, false, _&&_, _||_}
-use lib.Dec.{T, leb, eqb, leb→le, eqb→eq, lit<}
+use lib.Dec.{leb→le, eqb→eq, T, leb, eqb, lit<}
 use lib.IntN.{pos}
-use lib.Pow.{pow-add, pow-pos, pow-mono}
-use lib.Ieee.{Float, nan, inf, fin, binary64, up, down, neg, ofInt, fits}
+use lib.Pow.{pow-add, pow-mono}
+use lib.Ieee.{Float, nan, inf, fin, binary64, neg, ofInt, fits}
 use lib.Ieee.Back.{round-whole}
-use lib.Ieee.Exact.{HasValue}
-use lib.Ieee.Fits.{and-l, and-r, neg-fits, ofInt-fits, round-fits}
+use lib.Ieee.Fits.{and-l, and-r, neg-fits, ofInt-fits}
 use lib.Ieee.Positive.{first-pos}
 use mir.Facts.{or-yes}
 use Rattle.leaves.specs.Numbers.{zero⁺, count, isFinite, abs}
 use Rattle.leaves.specs.Shift.{shift}
 use Rattle.leaves.proofs.Shift.{isFinite-shift}
-use Rattle.leaves.proofs.Rounding.{near, Held, Grained, near-most, near-least, near-grain, held-small, held-pow, held-grain, in-place}
-use Rattle.leaves.proofs.Units.{U, U-pos, U-is, Top, Val, val-of, rounded, sign, mag, val-mag, val-finite, mag-val, mag-held, mag-neg, mag-abs, mag-shift, fits-shift, rounded-fits, rounded-val}
+use Rattle.leaves.proofs.Rounding.{near, Held, Grained, near-most, near-least, near-grain, held-small, held-grain, in-place}
+use Rattle.leaves.proofs.Units.{U, U-is, Top, Val, val-of, rounded, sign, mag, val-mag, val-finite, mag-val, mag-held, mag-neg, mag-shift, fits-shift, rounded-fits, rounded-val}
 
 pub record Range (g L B : ℕ) (x : Float) : Type 0 where
   pub fit : T (fits binary64 x)

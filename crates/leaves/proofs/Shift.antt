@@ -1,14 +1,14 @@
 -- `shift k x` is 2 ^ k times x, with no rounding. Shifts add up and undo one another; no sign, test of finiteness or comparison sees them, so they go
 -- through neg, abs, min and max. Design, section 5, first row of the table: always, for every value and every k. Assumes nothing.
-use mathlib.Core.Path.{_≡_, refl, sym, ap, ap₂, _∙_, subst}
+use mathlib.Core.Path.{_≡_, refl, sym, ap, ap₂, _∙_}
 use Prim.Native.Nat.{ℕ, zero, suc, _+_, _*_, _<_}
 use native.Mathlib.Nat.{le-of-eq, lt-of-lt-of-le, lt-of-le-of-lt, zero-mul, mul-assoc, mul-pos, add-mul, mul-lt-mul-of-pos-right, lt-of-mul-lt-mul-right, eq-of-mul-eq-mul-right}
 use native.Mathlib.Omega.{arith}
 use mathlib.Core.Bool.{Bool, true, false, not, _&&_, _||_, Bool·beq, cond}
 use lib.IntN.{ℤ, pos, negℤ, _+ℤ_, +ℤ-idr, +ℤ-assoc, +ℤ-invr, +ℤ-invl}
-use lib.Dec.{T, ltb, eqb, ltb→lt, lt→ltb, eqb→eq}
+use lib.Dec.{ltb→lt, lt→ltb, eqb→eq, T, ltb, eqb}
 use lib.Ieee.{Float, nan, inf, fin, up, down, neg, below, level, lt, le, eq, ne, isNan}
-use lib.Ieee.Fits.{up-pos, down-pos, eq→eqb}
+use lib.Ieee.Fits.{eq→eqb, up-pos, down-pos}
 use lib.Ieee.Exact.{HasValue}
 use Rattle.leaves.specs.Numbers.{zero⁺, isFinite, abs, signum, max0, min0, larger, smaller}
 use Rattle.leaves.specs.Shift.{shift}

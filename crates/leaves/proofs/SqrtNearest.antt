@@ -6,26 +6,25 @@
 -- 2 ^ (p + 52) it is farther still. From this the root's range, and its copy under a shift. Document 01, "Float leaves", sqrt. Assumes nothing.
 use mathlib.Core.Path.{_≡_, refl, sym, ap, ap₂, _∙_, subst}
 use mathlib.Core.Logic.{_⊎_, inl, inr}
-use Prim.Native.Nat.{ℕ, zero, suc, _+_, _-_, _*_, _/_, _%_, _^_, _≤_, _<_, zero-le}
-use native.Mathlib.Nat.{le-refl, le-trans, le-of-eq, le-of-lt, lt-of-lt-of-le, lt-of-le-of-lt, lt-irrefl, not-le-of-lt, lt-of-not-le, eq-or-lt-of-le, eq-zero-or-pos, zero-lt-suc, zero-mul, one-mul, mul-comm, mul-assoc, mul-right-comm, mul-mul-mul-comm, mul-pos, mul-le-mul, mul-le-mul-right, mul-lt-mul-of-pos-right, le-of-mul-le-mul-right, lt-of-mul-lt-mul-right, eq-of-mul-eq-mul-right, pow-suc}
+use Prim.Native.Nat.{ℕ, zero, suc, _+_, _-_, _*_, _%_, _^_, _≤_, _<_, zero-le}
+use native.Mathlib.Nat.{le-refl, le-trans, le-of-eq, le-of-lt, lt-of-lt-of-le, lt-of-le-of-lt, eq-or-lt-of-le, zero-lt-suc, zero-mul, one-mul, mul-comm, mul-assoc, mul-pos, mul-le-mul, mul-le-mul-right, mul-lt-mul-of-pos-right, lt-of-mul-lt-mul-right, eq-of-mul-eq-mul-right, pow-suc}
 use native.Mathlib.Omega.{arith}
 use mathlib.Core.Bool.{Bool, true, false}
-use lib.Dec.{T, lit≤, lit<}
-use lib.IntN.{ℤ, pos, negsuc, _+ℤ_, _-ℤ_}
+use lib.Dec.{T, lit<}
+use lib.IntN.{ℤ, pos, _+ℤ_, _-ℤ_}
 use lib.Pow.{pow-add, pow-pos, pow-mono}
-use lib.Ieee.{Float, nan, inf, fin, binary64, up, down, size, round, lt, fits}
+use lib.Ieee.{Float, nan, inf, fin, binary64, up, down, round, lt, fits}
 use lib.Ieee.Digits.{size-lt}
 use lib.Ieee.Fits.{down-pos, up-pos}
-use lib.Ieee.Exact.{HasValue}
 use lib.Ieee.Positive.{first-pos}
 use Rattle.leaves.specs.Numbers.{zero⁺, isFinite}
 use Rattle.leaves.specs.Shift.{shift}
 use Rattle.leaves.specs.Root.{sticky, halfExponent, radicand, sqrt}
 use Rattle.leaves.proofs.Whole.{le-or-lt, over, under, plus, minus, one-side, up-is, down-is}
-use Rattle.leaves.proofs.Laws.{Room, fits→room, room→fits}
+use Rattle.leaves.proofs.Laws.{fits→room, room→fits, Room}
 use Rattle.leaves.proofs.Zero.{no, is-below, not-above, zero-not-above}
 use Rattle.leaves.proofs.Shift.{shift-value}
-use Rattle.leaves.proofs.Sqrts.{Halved, halved, whole, g, radicand-is, radicand-in, digits-of, result-room}
+use Rattle.leaves.proofs.Sqrts.{halved, whole, g, radicand-is, radicand-in, digits-of, result-room}
 use Rattle.leaves.proofs.SqrtLaws.{eighth, sqrt-near, sqrt-shift}
 use Rattle.leaves.proofs.Rounding.{Held, held-pow, held-grain}
 use Rattle.leaves.proofs.Units.{U, U-pos, Val, sign, mag, val-mag, val-finite, mag-val, mag-held, val-of}
@@ -102,6 +101,23 @@ module _ (n q p w : ℕ) (least : 4503599627370496 ≤ q) (large : 3245185536584
       let c = held-grain p u H l in
       let m : q < c .0 = lt-of-mul-lt-mul-right (2 ^ p) (lt-of-lt-of-le h (le-of-eq (c .1))) in
       lt-of-lt-of-le (above-root (c .0 + q) (omega arith)) (le-of-eq (let f = c .1 in ap (λ (a : ℕ). a * a) (omega arith)))
+
+  -- so V is within 2 ^ -53 of R, relatively
+  error-below : q * 2 ^ p * 9007199254740991 * (q * 2 ^ p * 9007199254740991) ≤ w * 81129638414606681695789005144064
+  error-below = squares-up (q * 2 ^ p * 9007199254740991) ((2 * q - 1) * 2 ^ p) w (below-step q (2 ^ p) least) (le-of-lt (below-root (2 * q - 1) (le-refl (2 * q - 1))))
+    where
+      below-step : (q t : ℕ) → 4503599627370496 ≤ q → q * t * 9007199254740991 ≤ (2 * q - 1) * t * 4503599627370496
+      below-step (suc q) t h = let l = mul-le-mul-right t h in let e : 2 * suc q - 1 ≡ 2 * q + 1 = omega arith in rw e (omega arith)
+      below-step zero t h = absurd (omega arith)
+
+      squares-up : (a b w : ℕ) → a ≤ b * 4503599627370496 → b * b ≤ 4 * w → a * a ≤ w * 81129638414606681695789005144064
+      squares-up a b w h k = let f = mul-le-mul h h in omega arith
+
+  error-above : w * 81129638414606681695789005144064 ≤ q * 2 ^ p * 9007199254740993 * (q * 2 ^ p * 9007199254740993)
+  error-above = squares-down (q * 2 ^ p * 9007199254740993) ((2 * q + 1) * 2 ^ p) w (let l = mul-le-mul-right (2 ^ p) least in omega arith) (le-of-lt (above-root (2 * q + 1) (le-refl (2 * q + 1))))
+    where
+      squares-down : (a b w : ℕ) → b * 4503599627370496 ≤ a → 4 * w ≤ b * b → w * 81129638414606681695789005144064 ≤ a * a
+      squares-down a b w h k = let f = mul-le-mul h h in omega arith
 
 -- ---- the root of x = (suc m) * 2 ^ e: n, q and p of the definition
 twos : (a u p : ℕ) → 2 ^ (a + 56 + u + (p + p)) ≡ 2 ^ a * 72057594037927936 * 2 ^ u * (2 ^ p * 2 ^ p)
@@ -199,6 +215,8 @@ pub record Nearest (x : Float) : Type 0 where
   pub plus : sign (sqrt x) ≡ false
   pub above : (u : ℕ) → Held u → u < mag (sqrt x) → (u + mag (sqrt x)) * (u + mag (sqrt x)) < 4 * (mag x * U)
   pub below : (u : ℕ) → Held u → mag (sqrt x) < u → 4 * (mag x * U) < (u + mag (sqrt x)) * (u + mag (sqrt x))
+  pub at-most : mag (sqrt x) * 9007199254740991 * (mag (sqrt x) * 9007199254740991) ≤ mag x * U * 81129638414606681695789005144064
+  pub at-least : mag x * U * 81129638414606681695789005144064 ≤ mag (sqrt x) * 9007199254740993 * (mag (sqrt x) * 9007199254740993)
 
 pub root-nearest : (m : ℕ) (e : ℤ) → T (fits binary64 (fin false (suc m) e)) → Nearest (fin false (suc m) e)
 root-nearest m e t =
@@ -214,6 +232,8 @@ root-nearest m e t =
       plus = s .0;
       above = rw (s .1) (under-nearest (n m e t) (q m e t) (p m e t) (mag x * U) (c .digits .0) (radicand-in m e (fits→room false m e t) .0) (low-side m e t) (high-side m e t) at);
       below = rw (s .1) (over-nearest (n m e t) (q m e t) (p m e t) (mag x * U) (c .digits .0) (radicand-in m e (fits→room false m e t) .0) (low-side m e t) (high-side m e t) at);
+      at-most = rw (s .1) (error-below (n m e t) (q m e t) (p m e t) (mag x * U) (c .digits .0) (radicand-in m e (fits→room false m e t) .0) (low-side m e t) (high-side m e t) at);
+      at-least = rw (s .1) (error-above (n m e t) (q m e t) (p m e t) (mag x * U) (c .digits .0) (radicand-in m e (fits→room false m e t) .0) (low-side m e t) (high-side m e t) at);
     }
   where
     finite-fin : (s : Bool) (m : ℕ) (e : ℤ) → T (isFinite (fin s m e))

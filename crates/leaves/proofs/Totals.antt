@@ -1,10 +1,10 @@
 -- Sums from +0 in rising index and the largest size, under a shift. `Part` is a sum under way: m terms of 2 ^ h units at most make m * 2 ^ h units at most, since that number has few
 -- digits and rounding does not pass it. So a sum of at most 2 ^ c terms stays exact under a shift as long as 2 ^ (c + h) units, shifted, do not overflow (`moved-sum`); a sum of products
 -- is this with `moved-mul` for each term. Design, section 5. Assumes nothing.
-use mathlib.Core.Path.{_≡_, refl, sym, ap, ap₂, _∙_, subst}
+use mathlib.Core.Path.{_≡_, refl, sym, ap₂, _∙_, subst}
 use mathlib.Core.Logic.{inl, inr}
-use Prim.Native.Nat.{ℕ, zero, suc, _+_, _*_, _^_, _≤_, _<_, zero-le}
-use native.Mathlib.Nat.{le-refl, le-trans, le-of-eq, le-of-lt, le-of-suc-le-suc, lt-of-le-of-lt, lt-trans, lt-suc-self, eq-or-lt-of-le, not-suc-le-zero, zero-mul, one-mul, mul-one, suc-mul, mul-le-mul-left, mul-le-mul-right}
+use Prim.Native.Nat.{ℕ, zero, suc, _+_, _*_, _^_, _≤_, _<_}
+use native.Mathlib.Nat.{le-refl, le-trans, le-of-eq, le-of-lt, le-of-suc-le-suc, lt-of-le-of-lt, lt-trans, lt-suc-self, eq-or-lt-of-le, not-suc-le-zero, mul-one, suc-mul, mul-le-mul-left, mul-le-mul-right}
 use native.Mathlib.Omega.{arith}
 use mathlib.Core.Bool.{Bool, true, false, cond}
 use lib.Dec.{T, ltb}
@@ -17,7 +17,7 @@ use Rattle.leaves.specs.Loops.{loop, sumTo, amaxTo}
 use Rattle.leaves.specs.Shift.{shift}
 use Rattle.leaves.proofs.Shift.{shift-zero⁺, abs-shift, larger-shift}
 use Rattle.leaves.proofs.Rounding.{Held, held-times, held-up}
-use Rattle.leaves.proofs.Units.{Top, pow-under-Top, Val, sign, mag, val-mag, mag-val, mag-abs, lt-val}
+use Rattle.leaves.proofs.Units.{Top, pow-under-Top, Val, sign, mag, mag-val, mag-abs, lt-val}
 use Rattle.leaves.proofs.Range.{Range, range-weaken, range-zero}
 use Rattle.leaves.proofs.Operations.{Moved, range-add, add-copy}
 

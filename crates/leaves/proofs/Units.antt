@@ -1,16 +1,16 @@
 -- Values of binary64 as whole numbers of units, a unit being the format's smallest value, 2 ^ -1074. `Val x s u` says that x is finite, of u units and with the sign s.
 -- The sum, product and quotient of such values is `rounded s n d`: the exact result, n / d units, rounded once (`add-rounded`, `mul-rounded`, `div-rounded`).
 -- And 2 ^ t times a fraction rounds to the rounded fraction, shifted, where nothing overflows (`rounded-shift`). Assumes nothing.
-use mathlib.Core.Path.{_≡_, refl, sym, ap, ap₂, _∙_, subst}
+use mathlib.Core.Path.{_≡_, refl, sym, ap, ap₂, _∙_}
 use mathlib.Core.Logic.{_⊎_, inl, inr}
 use Prim.Native.Nat.{ℕ, zero, suc, _+_, _-_, _*_, _/_, _^_, _≤_, _<_}
-use native.Mathlib.Nat.{le-trans, le-of-eq, lt-of-lt-of-le, lt-of-le-of-lt, lt-irrefl, eq-zero-or-pos, zero-lt-suc, zero-mul, one-mul, mul-one, mul-comm, mul-assoc, mul-right-comm, mul-mul-mul-comm, mul-sub, add-mul, mul-pos, mul-le-mul-left, mul-lt-mul-of-pos-right, eq-of-mul-eq-mul-right, mul-div-cancel}
+use native.Mathlib.Nat.{le-trans, le-of-eq, lt-of-lt-of-le, lt-of-le-of-lt, lt-irrefl, zero-lt-suc, zero-mul, one-mul, mul-one, mul-comm, mul-assoc, mul-right-comm, mul-mul-mul-comm, mul-sub, add-mul, mul-pos, mul-le-mul-left, mul-lt-mul-of-pos-right, eq-of-mul-eq-mul-right, mul-div-cancel}
 use native.Mathlib.Omega.{arith}
 use mathlib.Core.Bool.{Bool, true, false, not, _&&_, Bool·beq, cond}
 use lib.Dec.{T, ltb, eqb, eqb·suc-zero, lit<}
 use lib.IntN.{ℤ, pos, _+ℤ_}
 use lib.Pow.{pow-add, pow-pos, pow-mono}
-use lib.Ieee.{Float, nan, inf, fin, binary64, up, down, size, unlike, odd, units, round, neg, sum, add, mul, div, below, level, lt, eq, fits}
+use lib.Ieee.{Float, nan, inf, fin, binary64, up, down, unlike, odd, units, round, neg, sum, add, mul, div, below, level, lt, eq, fits}
 use lib.Ieee.Digits.{size-lt}
 use lib.Ieee.Fits.{up-pos, down-pos, round-fits}
 use lib.Ieee.Exact.{HasValue, units-val}
@@ -18,10 +18,10 @@ use lib.Ieee.Order.{drop, kept}
 use lib.Ieee.Positive.{first-pos}
 use lib.Ieee.Scale.{round-same}
 use borrow.Author.Tests.{ltb-true, ltb-false}
-use Rattle.leaves.specs.Numbers.{_⊕_, _⊖_, _⊗_, _⊘_, zero⁺, isFinite, abs}
+use Rattle.leaves.specs.Numbers.{_⊕_, _⊗_, _⊘_, isFinite, abs}
 use Rattle.leaves.specs.Shift.{shift}
 use Rattle.leaves.proofs.Whole.{over, under, plus, one-side, up-is, down-is}
-use Rattle.leaves.proofs.Laws.{Room, fits→room, room→fits, digits-in, digits-out, value-unique}
+use Rattle.leaves.proofs.Laws.{Room, fits→room, room→fits, place, up-place, digits-in, digits-out, value-unique}
 use Rattle.leaves.proofs.Shift.{expo, shift-fin, shift-value, expo-value, ltb-scaled, below-scaled, level-scaled}
 use Rattle.leaves.proofs.Rounding.{near, Held, Grained, near-scale, round-near}
 
@@ -89,11 +89,9 @@ pub val-unique : (x y : Float) (s : Bool) (u : ℕ) → T (fits binary64 x) → 
 val-unique x y s u p q v w = value-unique binary64 x y s u U U-pos p q v w
 
 -- a finite value of the format: m digits and the zeros after them
-places : (m : ℕ) (e : ℤ) → under e ≤ 1074 → m * up e * U ≡ m * 2 ^ (over e + 1074 - under e) * down e
+places : (m : ℕ) (e : ℤ) → under e ≤ 1074 → m * up e * U ≡ m * 2 ^ place e * down e
 unfolding U
-places m e h =
-    let p : 2 ^ over e * 2 ^ 1074 ≡ 2 ^ (over e + 1074 - under e) * 2 ^ under e = sym (pow-add 2 (over e) 1074) ∙ ap (λ (z : ℕ). 2 ^ z) (omega arith) ∙ pow-add 2 (over e + 1074 - under e) (under e) in
-    rw (up-is, down-is) (mul-assoc m (2 ^ over e) (2 ^ 1074) ∙ ap (λ (z : ℕ). m * z) p ∙ sym (mul-assoc m (2 ^ (over e + 1074 - under e)) (2 ^ under e)))
+places m e h = mul-assoc m (up e) (2 ^ 1074) ∙ ap (λ (z : ℕ). m * z) (up-place e h) ∙ sym (mul-assoc m (2 ^ place e) (down e))
 
 pub record Units (x : Float) : Type 0 where
   pub count : ℕ
@@ -108,7 +106,7 @@ units-of (inf s) t f = absurd f
 units-of (fin s zero e) t f = record { count = 0; val = (refl, simp zero-mul); held = record { digits = 0; zeros = 0; few = lit< tt; is = refl }; below = lit< tt }
 units-of (fin s (suc m) e) t f =
     let r = fits→room s m e t in
-    let j = over e + 1074 - under e in
+    let j = place e in
     record {
       count = suc m * 2 ^ j;
       val = (refl, places (suc m) e (r .low));
@@ -200,14 +198,19 @@ pub rounded-val : (s : Bool) (n d : ℕ) → 0 < d → near n d < Top → Val (r
 unfolding U Top
 rounded-val s n d D h = rw (round-near s n d D) (units-val binary64 s (kept 53 n d) (drop 53 n d) h)
 
+-- it is an infinity exactly from Top units on
+pub rounded-cases : (s : Bool) (n d : ℕ) → 0 < d → (near n d < Top) ⊎ ((Top ≤ near n d) × (rounded s n d ≡ inf s))
+unfolding U Top units
+rounded-cases s n d D = go (ltb (near n d) (2 ^ 2098)) refl (round-near s n d D)
+  where
+    go : (b : Bool) → ltb (near n d) (2 ^ 2098) ≡ b → rounded s n d ≡ cond b (odd 54 s (kept 53 n d) (drop 53 n d) 1074) (inf s) → (near n d < 2 ^ 2098) ⊎ ((2 ^ 2098 ≤ near n d) × (rounded s n d ≡ inf s))
+    go true e f = inl (ltb-true (near n d) (2 ^ 2098) e)
+    go false e f = inr (ltb-false (near n d) (2 ^ 2098) e, f)
+
 -- a finite result has not overflowed
 pub rounded-under : (s : Bool) (n d : ℕ) → 0 < d → T (isFinite (rounded s n d)) → near n d < Top
-unfolding U Top isFinite units
-rounded-under s n d D t = go (ltb (near n d) (2 ^ 2098)) refl (rw (round-near s n d D) at t)
-  where
-    go : (b : Bool) → ltb (near n d) (2 ^ 2098) ≡ b → T (isFinite (cond b (odd 54 s (kept 53 n d) (drop 53 n d) 1074) (inf s))) → near n d < 2 ^ 2098
-    go true e f = ltb-true (near n d) (2 ^ 2098) e
-    go false e f = absurd f
+unfolding isFinite
+rounded-under s n d D t = elim (rounded-cases s n d D) [ inl h ↦ h | inr (h, e) ↦ absurd (rw e at t) ]
 
 pub rounded-shift : (s : Bool) (n d t : ℕ) → 0 < d → Grained 0 n d → near (n * 2 ^ t) d < Top → rounded s (n * 2 ^ t) d ≡ shift (pos t) (rounded s n d)
 rounded-shift s n d t D c o =
@@ -282,6 +285,43 @@ add-rounded (fin u m e) (fin r n h) s t a b v w =
     ap₂ (λ (y z : Bool). sum binary64 y X z Y D) (v .0) (w .0) ∙ sum-is s X t Y D
     ∙ ap (λ (z : Bool). round binary64 z (total s X t Y) D) (sumSign-scaled s t X Y U D a b U-pos D-pos p q)
     ∙ round-same binary64 (sumSign s a t b) (total s X t Y) D (total s a t b) (1 * U) D-pos (rw (one-mul U) U-pos) (rw (one-mul U) (total-scaled s t X Y U D a b U-pos D-pos p q))
+
+-- a finite sum has finite terms, and a finite product finite factors
+pub add-finite : (x y : Float) → T (isFinite (x ⊕ y)) → T (isFinite x) × T (isFinite y)
+unfolding add isFinite
+add-finite nan y t = absurd t
+add-finite (inf s) nan t = absurd t
+add-finite (inf true) (inf true) t = absurd t
+add-finite (inf true) (inf false) t = absurd t
+add-finite (inf false) (inf true) t = absurd t
+add-finite (inf false) (inf false) t = absurd t
+add-finite (inf s) (fin r n d) t = absurd t
+add-finite (fin s m e) nan t = absurd t
+add-finite (fin s m e) (inf r) t = absurd t
+add-finite (fin s m e) (fin r n d) t = (tt, tt)
+
+neither : (b s : Bool) → T (isFinite (cond b nan (inf s))) → ⊥
+unfolding isFinite
+neither true s t = t
+neither false s t = t
+
+pub mul-finite : (x y : Float) → T (isFinite (x ⊗ y)) → T (isFinite x) × T (isFinite y)
+unfolding mul isFinite
+mul-finite nan y t = absurd t
+mul-finite (inf s) nan t = absurd t
+mul-finite (inf s) (inf r) t = absurd t
+mul-finite (inf s) (fin r n d) t = absurd (neither (eqb n 0) (unlike s r) t)
+mul-finite (fin s m e) nan t = absurd t
+mul-finite (fin s m e) (inf r) t = absurd (neither (eqb m 0) (unlike s r) t)
+mul-finite (fin s m e) (fin r n d) t = (tt, tt)
+
+pub div-finite : (x y : Float) → T (isFinite (x ⊘ y)) → T (isFinite x)
+unfolding div isFinite
+div-finite nan y t = absurd t
+div-finite (inf s) nan t = absurd t
+div-finite (inf s) (inf r) t = absurd t
+div-finite (inf s) (fin r n d) t = absurd t
+div-finite (fin s m e) y t = tt
 
 -- ---- the product
 pub mul-rounded : (x y : Float) (s t : Bool) (a b : ℕ) → Val x s a → Val y t b → x ⊗ y ≡ rounded (unlike s t) (a * b) U
