@@ -6,7 +6,7 @@ use mathlib.Core.Logic.{_⊎_, inl, inr}
 use Prim.Native.Nat.{ℕ, zero, suc, _+_, _-_, _*_, _/_, _^_, _≤_, _<_}
 use native.Mathlib.Nat.{le-trans, le-of-eq, lt-of-lt-of-le, lt-of-le-of-lt, lt-irrefl, zero-lt-suc, zero-mul, one-mul, mul-one, mul-comm, mul-assoc, mul-right-comm, mul-mul-mul-comm, mul-sub, add-mul, mul-pos, mul-le-mul-left, mul-lt-mul-of-pos-right, eq-of-mul-eq-mul-right, mul-div-cancel}
 use native.Mathlib.Omega.{arith}
-use mathlib.Core.Bool.{Bool, true, false, not, _&&_, Bool·beq, cond}
+use mathlib.Core.Bool.{Bool, true, false, not, _&&_, _||_, Bool·beq, cond}
 use lib.Dec.{T, ltb, eqb, eqb·suc-zero, lit<}
 use lib.IntN.{ℤ, pos, _+ℤ_}
 use lib.Pow.{pow-add, pow-pos, pow-mono}
@@ -18,7 +18,7 @@ use lib.Ieee.Order.{drop, kept}
 use lib.Ieee.Positive.{first-pos}
 use lib.Ieee.Scale.{round-same}
 use borrow.Author.Tests.{ltb-true, ltb-false}
-use Rattle.leaves.specs.Numbers.{_⊕_, _⊗_, _⊘_, isFinite, abs}
+use Rattle.leaves.specs.Numbers.{_⊕_, _⊗_, _⊘_, zero⁺, isFinite, abs}
 use Rattle.leaves.specs.Shift.{shift}
 use Rattle.leaves.proofs.Whole.{over, under, plus, one-side, up-is, down-is}
 use Rattle.leaves.proofs.Laws.{Room, fits→room, room→fits, place, up-place, digits-in, digits-out, value-unique}
@@ -70,6 +70,12 @@ val-mag nan s u v = absurd v
 val-mag (inf t) s u v = absurd v
 val-mag (fin t m e) s u v = (v .0, ap (λ (z : ℕ). z / down e) (v .1) ∙ mul-div-cancel u (down-pos e))
 
+pub zero-val : (s : Bool) (e : ℤ) → Val (fin s zero e) s 0
+zero-val s e = (refl, simp zero-mul)
+
+pub zero-mag : (s : Bool) (e : ℤ) → mag (fin s zero e) ≡ 0
+zero-mag s e = val-mag (fin s zero e) s 0 (zero-val s e) .1
+
 pub val-finite : (x : Float) (s : Bool) (u : ℕ) → Val x s u → T (isFinite x)
 unfolding isFinite
 val-finite nan s u v = v
@@ -103,7 +109,7 @@ pub units-of : (x : Float) → T (fits binary64 x) → T (isFinite x) → Units 
 unfolding sign isFinite Top
 units-of nan t f = absurd f
 units-of (inf s) t f = absurd f
-units-of (fin s zero e) t f = record { count = 0; val = (refl, simp zero-mul); held = record { digits = 0; zeros = 0; few = lit< tt; is = refl }; below = lit< tt }
+units-of (fin s zero e) t f = record { count = 0; val = zero-val s e; held = record { digits = 0; zeros = 0; few = lit< tt; is = refl }; below = lit< tt }
 units-of (fin s (suc m) e) t f =
     let r = fits→room s m e t in
     let j = place e in
@@ -166,6 +172,15 @@ eq-val (fin r m e) (inf q) s t a b v w = absurd w
 eq-val (fin r m e) (fin q n d) s t a b v w =
     ap₂ (λ (i j : Bool). level i (m * up e * down d) j (n * up d * down e)) (v .0) (w .0)
     ∙ level-scaled s t (m * up e * down d) (n * up d * down e) U (down e * down d) a b U-pos (mul-pos (down-pos e) (down-pos d)) (left m e n d a b (v .1) (w .1)) (right m e n d a b (v .1) (w .1))
+
+-- with zero
+pub eq-zero : (x : Float) → T (fits binary64 x) → T (isFinite x) → eq x zero⁺ ≡ eqb (mag x) 0
+eq-zero x t f = eq-val x zero⁺ (sign x) false (mag x) 0 (mag-val x t f) (zero-val false (pos 0)) ∙ go (eqb (mag x) 0) (Bool·beq (sign x) false)
+  where
+    go : (b c : Bool) → b && (c || b) ≡ b
+    go true true = refl
+    go true false = refl
+    go false c = refl
 
 -- ---- shifted
 pub val-shift : (k : ℕ) (x : Float) (s : Bool) (u : ℕ) → Val x s u → Val (shift (pos k) x) s (u * 2 ^ k)
