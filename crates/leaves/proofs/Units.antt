@@ -153,25 +153,25 @@ module _ (m : ℕ) (e : ℤ) (n : ℕ) (d : ℤ) (a b : ℕ) (v : m * up e * U �
   right : n * up d * down e * U ≡ b * (down e * down d)
   right = mul-right-comm (n * up d) (down e) U ∙ ap (λ (z : ℕ). z * down e) w ∙ mul-right-comm b (down d) (down e) ∙ mul-assoc b (down e) (down d)
 
+both-val : (x y : Float) (s t : Bool) (a b : ℕ) → Val x s a → Val y t b → (lt x y ≡ below s a t b) × (eq x y ≡ level s a t b)
+unfolding lt eq
+both-val nan y s t a b v w = absurd v
+both-val (inf r) y s t a b v w = absurd v
+both-val (fin r m e) nan s t a b v w = absurd w
+both-val (fin r m e) (inf q) s t a b v w = absurd w
+both-val (fin r m e) (fin q n d) s t a b v w =
+    let X = m * up e * down d in
+    let Y = n * up d * down e in
+    let D : 0 < down e * down d = mul-pos (down-pos e) (down-pos d) in
+    let l = left m e n d a b (v .1) (w .1) in
+    let g = right m e n d a b (v .1) (w .1) in
+    rw (v .0, w .0) (below-scaled s t X Y U (down e * down d) a b U-pos D l g, level-scaled s t X Y U (down e * down d) a b U-pos D l g)
+
 pub lt-val : (x y : Float) (s t : Bool) (a b : ℕ) → Val x s a → Val y t b → lt x y ≡ below s a t b
-unfolding lt
-lt-val nan y s t a b v w = absurd v
-lt-val (inf r) y s t a b v w = absurd v
-lt-val (fin r m e) nan s t a b v w = absurd w
-lt-val (fin r m e) (inf q) s t a b v w = absurd w
-lt-val (fin r m e) (fin q n d) s t a b v w =
-    ap₂ (λ (i j : Bool). below i (m * up e * down d) j (n * up d * down e)) (v .0) (w .0)
-    ∙ below-scaled s t (m * up e * down d) (n * up d * down e) U (down e * down d) a b U-pos (mul-pos (down-pos e) (down-pos d)) (left m e n d a b (v .1) (w .1)) (right m e n d a b (v .1) (w .1))
+lt-val x y s t a b v w = both-val x y s t a b v w .0
 
 pub eq-val : (x y : Float) (s t : Bool) (a b : ℕ) → Val x s a → Val y t b → eq x y ≡ level s a t b
-unfolding eq
-eq-val nan y s t a b v w = absurd v
-eq-val (inf r) y s t a b v w = absurd v
-eq-val (fin r m e) nan s t a b v w = absurd w
-eq-val (fin r m e) (inf q) s t a b v w = absurd w
-eq-val (fin r m e) (fin q n d) s t a b v w =
-    ap₂ (λ (i j : Bool). level i (m * up e * down d) j (n * up d * down e)) (v .0) (w .0)
-    ∙ level-scaled s t (m * up e * down d) (n * up d * down e) U (down e * down d) a b U-pos (mul-pos (down-pos e) (down-pos d)) (left m e n d a b (v .1) (w .1)) (right m e n d a b (v .1) (w .1))
+eq-val x y s t a b v w = both-val x y s t a b v w .1
 
 -- with zero
 pub eq-zero : (x : Float) → T (fits binary64 x) → T (isFinite x) → eq x zero⁺ ≡ eqb (mag x) 0
