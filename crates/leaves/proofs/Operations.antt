@@ -18,7 +18,8 @@ use Rattle.leaves.specs.Numbers.{_⊕_, _⊖_, _⊗_, _⊘_, zero⁺, is
 use Rattle.leaves.specs.Shift.{shift}
 use Rattle.leaves.proofs.Shift.{shift-zero, shift-shift, shift-zero⁺, neg-shift, abs-shift}
 use Rattle.leaves.proofs.Rounding.{near, Held, Grained, whole, normal, near-most, held-pow, grained-finer}
-use Rattle.leaves.proofs.Units.{U, U-pos, Top, pow-under-Top, Val, rounded, sign, mag, mag-val, val-shift, rounded-under, rounded-shift, sumSign, total, sumSign-times, total-times, total-le, add-rounded, mul-rounded, div-rounded, div-alike}
+use Rattle.leaves.proofs.Units.{U, U-pos, Top, pow-under-Top, Val, rounded, sign, mag, mag-val, val-shift, rounded-under, rounded-shift}
+use Rattle.leaves.proofs.Arithmetic.{sumSign, total, sumSign-times, total-times, total-le, add-rounded, mul-rounded, div-rounded, div-alike}
 use Rattle.leaves.proofs.Range.{Range, range-value, range-weaken, range-finer, range-grain, range-neg, range-abs, range-zero, range-shift, range-rounded}
 
 -- ---- powers of two, and U, which is 2 ^ 1074
