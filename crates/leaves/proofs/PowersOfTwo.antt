@@ -1,6 +1,6 @@
 -- b(x) and pow2_scaled under a shift. b(x) grows by k (`exponent-shift`) and says where the leading bit is (`exponent-range`). pow2_scaled x j is the shift by j wherever the result is a value of
 -- the format: that is, where x's last bit stays a unit or more and x stays below 2 ^ 1024 (`scaled-moves`). So scaling by the power of two of a number that is shifted too gives the same
--- float (`same-scaled`), and one number scaled by 2 ^ j and by 2 ^ (j + k) gives a float and its shift (`scaled-copy`). Design, section 5. Assumes nothing.
+-- float (`same-scaled`), and one number scaled by 2 ^ j and by 2 ^ (j + k) gives a float and its shift (`scaled-copy`). Assumes nothing.
 use mathlib.Core.Path.{_≡_, refl, sym, ap, _∙_, subst}
 use mathlib.Core.Logic.{inl, inr}
 use Prim.Native.Nat.{ℕ, zero, suc, _+_, _-_, _*_, _%_, _^_, _≤_, _<_}

@@ -1,6 +1,6 @@
 -- `Range g L B x`: x is a finite value of binary64, a multiple of 2 ^ g units, zero or of L units at least, and of B units at most. A unit is 2 ^ -1074, so 2 ^ n units are
 -- 2 ^ (n - 1074). The grain g and the least size L stand apart: a difference keeps its operands' grain and loses their size. Here is how a range is known: from a wider one, from the
--- value's size, from a test that computes, of a shifted value, of a count, and of a fraction that is rounded. Design, section 5. Assumes nothing.
+-- value's size, from a test that computes, of a shifted value, of a count, and of a fraction that is rounded. Assumes nothing.
 use mathlib.Core.Path.{_≡_, sym, ap, _∙_, subst}
 use mathlib.Core.Logic.{_⊎_, inl, inr}
 use Prim.Native.Nat.{ℕ, _+_, _-_, _*_, _^_, _≤_, _<_, zero-le}
@@ -58,7 +58,7 @@ range-grain {g} {x = x} r = record {
     go (inr q) p = le-trans (le-of-eq (sym (one-mul (2 ^ g)))) (le-trans (mul-le-mul-right (2 ^ g) q) (le-of-eq (sym (r .grain))))
 
 -- ---- the sign
-finite-neg : (x : Float) → T (isFinite x) → T (isFinite (neg x))
+pub finite-neg : (x : Float) → T (isFinite x) → T (isFinite (neg x))
 unfolding isFinite neg
 finite-neg nan t = t
 finite-neg (inf s) t = t

@@ -1,5 +1,5 @@
 -- `shift k x` is 2 ^ k times x, with no rounding. Shifts add up and undo one another; no sign, test of finiteness or comparison sees them, so they go
--- through neg, abs, min and max. Design, section 5, first row of the table: always, for every value and every k. Assumes nothing.
+-- through neg, abs, min and max, for every value and every k. Assumes nothing.
 use mathlib.Core.Path.{_≡_, refl, sym, ap, ap₂, _∙_}
 use Prim.Native.Nat.{ℕ, zero, suc, _+_, _*_, _<_}
 use native.Mathlib.Nat.{le-of-eq, lt-of-lt-of-le, lt-of-le-of-lt, zero-mul, mul-assoc, mul-pos, add-mul, mul-lt-mul-of-pos-right, lt-of-mul-lt-mul-right, eq-of-mul-eq-mul-right}
