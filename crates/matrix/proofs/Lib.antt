@@ -4,3 +4,5 @@ pub mod First
 pub mod Stored
 pub mod Counts
 pub mod Compare
+pub mod Alike
+pub mod Sweeps

@@ -16,21 +16,21 @@ module _ (n : ℕ) (scale : Float) (a : List Float) {v x₁ x₂ x₃ x₄ : Lis
     (e₂ : x₂ ≡ rows n n (product n (at v n) (at x₁ n))) (e₃ : x₃ ≡ rows n n (product n (at x₂ n) (at v n))) (e₄ : x₄ ≡ rows n n (averaged (at x₃ n))) where
   -- an entry of what is known to be stored
   entry : {x : List Float} (f : Matrix) → x ≡ rows n n f → (i j : ℕ) → i < n → j < n → at x n i j ≡ f i j
-  entry f e i j hi hj = ap (λ (x : List Float). at x n i j) e ∙ rows-at f n i j hi hj
+  entry f e i j hi hj = ap (λ (x : List Float). at x n i j) e ∙ rows-at f n n i j hi hj
 
   unfoldable left : Matrix
   left = product n (transpose identity) (λ i j. at a n i j ⊘ scale)
 
   second : x₂ ≡ rows n n left
   unfolding left
-  second = e₂ ∙ rows-ext (product n (at v n) (at x₁ n)) left n (λ i j hi hj. product-ext (at v n) (transpose identity) (at x₁ n) (λ i j. at a n i j ⊘ scale) n i j (λ k h. entry identity ev i k hi h ∙ identity-sym i k) (λ k h. entry (λ i j. at a n i j ⊘ scale) e₁ k j h hj))
+  second = e₂ ∙ rows-ext n n (product n (at v n) (at x₁ n)) left (λ i j hi hj. product-ext n (at v n) (transpose identity) (at x₁ n) (λ i j. at a n i j ⊘ scale) i j (λ k h. entry identity ev i k hi h ∙ identity-sym i k) (λ k h. entry (λ i j. at a n i j ⊘ scale) e₁ k j h hj))
 
   third : x₃ ≡ rows n n (product n left identity)
-  third = e₃ ∙ rows-ext (product n (at x₂ n) (at v n)) (product n left identity) n (λ i j hi hj. product-ext (at x₂ n) left (at v n) identity n i j (λ k h. entry left second i k hi h) (λ k h. entry identity ev k j h hj))
+  third = e₃ ∙ rows-ext n n (product n (at x₂ n) (at v n)) (product n left identity) (λ i j hi hj. product-ext n (at x₂ n) left (at v n) identity i j (λ k h. entry left second i k hi h) (λ k h. entry identity ev k j h hj))
 
   opened : x₄ ≡ start n scale (at a n)
   unfolding start left
-  opened = e₄ ∙ rows-ext (averaged (at x₃ n)) (λ i j. (at x₃ n i j ⊕ at x₃ n j i) ⊗ half) n (λ i j hi hj. halved (at x₃ n i j ⊕ at x₃ n j i)) ∙ ap (λ (x : List Float). rows n n (λ i j. (at x n i j ⊕ at x n j i) ⊗ half)) third
+  opened = e₄ ∙ rows-ext n n (averaged (at x₃ n)) (λ i j. (at x₃ n i j ⊕ at x₃ n j i) ⊗ half) (λ i j hi hj. halved (at x₃ n i j ⊕ at x₃ n j i)) ∙ ap (λ (x : List Float). rows n n (λ i j. (at x n i j ⊕ at x n j i) ⊗ half)) third
 
 divide-requires : tie.Need-divide-requires
 divide-requires c κs = search needs

@@ -15,7 +15,7 @@ use Rattle.matrix.proofs.sums.total.Tie as tie
 by-rows : (a : List Float) (n : ℕ) {x : Float} → x ≡ sumTo (length a) (nth a) → length a ≡ n * n → x ≡ total n (at a n)
 unfolding total
 by-rows a n e l =
-    e ∙ ap (λ (k : ℕ). sumTo k (nth a)) l ∙ sum-ext (nth a) (λ k. at a n (k / n) (k % n)) (n * n) (λ k h. sym (entry-at a n k)) ∙ sum-every (at a n) n
+    e ∙ ap (λ (k : ℕ). sumTo k (nth a)) l ∙ sum-ext (n * n) (nth a) (λ k. at a n (k / n) (k % n)) (λ k h. sym (entry-at a n k)) ∙ sum-every (at a n) n
 
 sum-requires : tie.Need-sum-requires
 sum-requires c κs = search needs
