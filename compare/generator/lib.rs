@@ -2,7 +2,8 @@
 // number and setting, the rest damaged so that each refusal occurs.
 
 mod damage;
-mod given;
+pub mod given;
+pub mod matrices;
 pub mod random;
 mod returns;
 mod settings;

@@ -1,2 +1,3 @@
 // The engine with C linkage, over flat numbers and slices.
+pub mod jacobi;
 pub mod leaf;

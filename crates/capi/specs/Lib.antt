@@ -1,0 +1,2 @@
+-- The exports with C linkage: what each leaves in the numbers and slices lent to it.
+pub mod Jacobi
