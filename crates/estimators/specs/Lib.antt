@@ -10,4 +10,5 @@ pub mod Moments
 pub mod JamesStein
 pub mod BayesStein
 pub mod Order
+pub mod Checks
 pub mod Calls

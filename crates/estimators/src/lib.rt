@@ -1,4 +1,7 @@
 // The records of document 01 that cross a call.
+mod checks;
+mod given;
+mod validate;
 
 // The weighted case carries its half-life, in periods, and the case below a threshold the threshold.
 pub enum Estimate {
