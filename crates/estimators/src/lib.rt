@@ -1,4 +1,6 @@
 // The records of document 01 that cross a call.
+mod james_stein;
+mod moments;
 
 // The weighted case carries its half-life, in periods, and the case below a threshold the threshold.
 pub enum Estimate {
