@@ -9,17 +9,16 @@ use lib.Dec.{ltb}
 use lib.ListN.{length, List·getD-eq-default}
 use lib.Ieee.{Float, nan}
 use Rattle.leaves.specs.Loops.{nth}
-use Rattle.leaves.proofs.Loops.{row-below, col-below}
+use Rattle.leaves.proofs.Loops.{row-below, col-below, amax-ext}
 use Rattle.matrix.specs.Matrix.{Matrix, at, rows, amax}
-use Rattle.matrix.proofs.Steps.{amax-ext}
 use Rattle.matrix.proofs.Stored.{entry-at, length-rows, rows-at}
 
 pub rows-nth : (f : Matrix) (n k : ℕ) → k < n * n → nth (rows n n f) k ≡ f (k / n) (k % n)
-rows-nth f n k h = sym (entry-at (rows n n f) n k) ∙ rows-at f n (k / n) (k % n) (row-below k n h) (col-below k n h)
+rows-nth f n k h = sym (entry-at (rows n n f) n k) ∙ rows-at f n n (k / n) (k % n) (row-below k n h) (col-below k n h)
 
 pub amax-rows : (f : Matrix) (n : ℕ) → amax n n (at (rows n n f) n) ≡ amax n n f
 unfolding amax
-amax-rows f n = amax-ext (λ k. at (rows n n f) n (k / n) (k % n)) (λ k. f (k / n) (k % n)) (n * n) (λ k h. entry-at (rows n n f) n k ∙ rows-nth f n k h)
+amax-rows f n = amax-ext (n * n) (λ k. at (rows n n f) n (k / n) (k % n)) (λ k. f (k / n) (k % n)) (λ k h. entry-at (rows n n f) n k ∙ rows-nth f n k h)
 
 -- h of every entry, also past the end, where there is none
 pub mapped-at : (h : Float → Float) → h nan ≡ nan → (a : List Float) (n : ℕ) → length a ≡ n * n → at (rows n n (λ i j. h (at a n i j))) n ≡ (λ i j. h (at a n i j))

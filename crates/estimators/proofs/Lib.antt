@@ -2,3 +2,4 @@
 pub mod Firsts
 pub mod Entries
 pub mod OfGiven
+pub mod Exponents

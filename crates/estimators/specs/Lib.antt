@@ -7,6 +7,7 @@ pub mod Given
 pub mod LedoitWolf
 pub mod Adjusted
 pub mod Moments
+pub mod Held
 pub mod JamesStein
 pub mod BayesStein
 pub mod Order
