@@ -33,7 +33,7 @@ pub U-big : 1073741824 ≤ U
 unfolding U
 U-big = lit≤ tt
 
-Top-big : U * 1099511627776 < Top
+pub Top-big : U * 1099511627776 < Top
 unfolding U Top
 Top-big = lit< tt
 

@@ -14,3 +14,4 @@ pub mod Angle
 pub mod Turn
 pub mod Rows
 pub mod Vectors
+pub mod Identity
