@@ -6,7 +6,7 @@ pub mod given;
 pub mod matrices;
 pub mod pairs;
 pub mod random;
-mod returns;
+pub mod returns;
 mod settings;
 
 use damage::damage;
