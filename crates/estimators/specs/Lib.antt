@@ -7,7 +7,9 @@ pub mod Given
 pub mod LedoitWolf
 pub mod Adjusted
 pub mod Moments
+pub mod Held
 pub mod JamesStein
 pub mod BayesStein
 pub mod Order
+pub mod Checks
 pub mod Calls

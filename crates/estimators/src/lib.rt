@@ -1,4 +1,9 @@
 // The records of document 01 that cross a call.
+mod checks;
+mod given;
+mod james_stein;
+mod moments;
+mod validate;
 
 // The weighted case carries its half-life, in periods, and the case below a threshold the threshold.
 pub enum Estimate {

@@ -8,10 +8,9 @@ use Prim.Native.Nat.{ℕ, _*_, _/_, _%_, _<_}
 use lib.Ieee.{Float, eq}
 use Rattle.leaves.specs.Numbers.{_⊕_, _⊗_, _⊘_, zero⁺, half, isFinite}
 use Rattle.leaves.specs.Loops.{loop}
+use Rattle.leaves.proofs.Loops.{loop-ext, sum-ext, amax-ext, first-ext}
 use Rattle.matrix.specs.Matrix.{Matrix, at, rows, identity, product, transpose, trace, amax, sumOver, total, firstEntry, allFinite}
 use Rattle.matrix.specs.Jacobi.{Decomposition, start, swept, scaledBack, unturned, decompose}
-use Rattle.matrix.proofs.Steps.{loop-ext, sum-ext, amax-ext}
-use Rattle.matrix.proofs.First.{first-ext}
 use Rattle.matrix.proofs.Stored.{cell-ext, rows-ext, rows-at, product-ext}
 
 pub first-entry-alike : (m n : ℕ) (f g : ℕ → ℕ → Bool) → ((i j : ℕ) → i < m → j < n → f i j ≡ g i j) → firstEntry m n f ≡ firstEntry m n g

@@ -3,7 +3,7 @@ use mathlib.Core.Path.{_≡_, refl, sym, ap, _∙_}
 use mathlib.Core.Bool.{Bool, true, false, cond}
 use mathlib.Core.Option.{Option, none, some}
 use Prim.Native.Nat.{ℕ, zero, suc, _+_, _*_, _/_, _%_, _-_, _≤_, _<_}
-use native.Mathlib.Nat.{le-antisymm, le-refl, le-step}
+use native.Mathlib.Nat.{le-antisymm, le-step}
 use native.Mathlib.Numerals.{add-one}
 use native.Mathlib.Omega.{arith}
 use Rattle.leaves.specs.Loops.{firstTo}
@@ -43,11 +43,6 @@ module _ (test : ℕ → Bool) where
       go none h true e = let q : n ≡ k = cc in omega arith
       go none h false e = let z : _≡_ {A = ℕ} 0 1 = cc in omega arith
       go (some j) h b e = le-step (h e)
-
-pub first-ext : (n : ℕ) (f g : ℕ → Bool) → ((k : ℕ) → k < n → f k ≡ g k) → firstTo n f ≡ firstTo n g
-unfolding firstTo
-first-ext zero f g h = refl
-first-ext (suc n) f g h = λ i. elim (first-ext n f g (λ k l. h k (le-step l)) i) as (λ z. Option ℕ) [ none ↦ cond (h n (le-refl (suc n)) i) (some n) none | some k ↦ some k ]
 
 -- a search through a matrix, at cell k: the answer, if the test holds there, and at the end
 module _ (test : ℕ → ℕ → Bool) (m n k : ℕ) where

@@ -1,4 +1,4 @@
--- Laws of `loop`: steps that are alike, that do nothing, that are taken in two parts or row by row. Assumes nothing.
+-- Laws of `loop`: steps that do nothing, that are taken in two parts or row by row. Assumes nothing.
 use mathlib.Core.Path.{_≡_, refl, sym, ap, _∙_}
 use Prim.Native.Nat.{ℕ, zero, suc, _+_, _*_, _/_, _%_, _≤_, _<_}
 use native.Mathlib.Nat.{le-refl, le-step, zero-mul, suc-mul}
@@ -6,19 +6,13 @@ use native.Mathlib.Omega.{arith}
 use lib.Dec.{ltb}
 use lib.Ieee.{Float}
 use borrow.Author.Tests.{lt-ltb, le-ltb}
-use Rattle.leaves.specs.Numbers.{_⊕_, zero⁺, abs, larger}
-use Rattle.leaves.specs.Loops.{loop, sumTo, amaxTo}
-use Rattle.leaves.proofs.Loops.{cell-row, cell-col}
+use Rattle.leaves.specs.Numbers.{_⊕_, zero⁺}
+use Rattle.leaves.specs.Loops.{loop, sumTo}
+use Rattle.leaves.proofs.Loops.{cell-row, cell-col, loop-ext}
 use Rattle.matrix.specs.Matrix.{Matrix, sumOver, every}
 use Rattle.matrix.specs.Inner.{addKept}
 
 module _ {S : Type 0} where
-  -- alike below n
-  pub loop-ext : (n : ℕ) (f g : ℕ → S → S) (s : S) → ((k : ℕ) → k < n → (x : S) → f k x ≡ g k x) → loop n f s ≡ loop n g s
-  unfolding loop
-  loop-ext zero f g s h = refl
-  loop-ext (suc n) f g s h = ap (f n) (loop-ext n f g s (λ k l. h k (le-step l))) ∙ h n (le-refl (suc n)) (loop n g s)
-
   -- nothing done below n
   pub loop-still : (f : ℕ → S → S) (n : ℕ) (s : S) → ((k : ℕ) → k < n → (x : S) → f k x ≡ x) → loop n f s ≡ s
   unfolding loop
@@ -41,14 +35,6 @@ module _ {S : Type 0} where
       ∙ ap (λ (j : ℕ). loop j (λ k. f (k / n) (k % n)) s) (sym (suc-mul m n))
 
 -- ---- sums
-
-pub sum-ext : (n : ℕ) (f g : ℕ → Float) → ((k : ℕ) → k < n → f k ≡ g k) → sumTo n f ≡ sumTo n g
-unfolding sumTo
-sum-ext n f g h = loop-ext n (λ k s. s ⊕ f k) (λ k s. s ⊕ g k) zero⁺ (λ k l x. ap (λ (y : Float). x ⊕ y) (h k l))
-
-pub amax-ext : (n : ℕ) (f g : ℕ → Float) → ((k : ℕ) → k < n → f k ≡ g k) → amaxTo n f ≡ amaxTo n g
-unfolding amaxTo
-amax-ext n f g h = loop-ext n (λ k m. larger m (abs (f k))) (λ k m. larger m (abs (g k))) zero⁺ (λ k l x. ap (λ (y : Float). larger x (abs y)) (h k l))
 
 -- every entry, row by row
 pub sum-every : (f : Matrix) (n : ℕ) → sumTo (n * n) (λ k. f (k / n) (k % n)) ≡ sumOver n every f zero⁺

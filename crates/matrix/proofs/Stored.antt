@@ -10,9 +10,8 @@ use lib.ListN.{length, getD, drop-of-length-le}
 use lib.Ieee.{Float, nan, inf, fin, binary64, round, unlike, up, down, mul, div}
 use Rattle.leaves.specs.Numbers.{_⊗_, _⊘_, zero⁺, one, half, two}
 use Rattle.leaves.specs.Loops.{tab, fill, nth}
-use Rattle.leaves.proofs.Loops.{cell, cell-row, cell-col, length-tab, fill-at, fill-ext, Filled, filled-all}
+use Rattle.leaves.proofs.Loops.{cell, cell-row, cell-col, length-tab, fill-at, fill-ext, Filled, filled-all, sum-ext}
 use Rattle.matrix.specs.Matrix.{Matrix, at, rows, identity, product}
-use Rattle.matrix.proofs.Steps.{sum-ext}
 
 -- a matrix with a cell k has a column
 pub has-column : (k m n : ℕ) → k < m * n → 0 < n

@@ -130,7 +130,7 @@ fn turned(
 }
 
 // Nothing turned: zeros and the identity.
-fn unturned(n: usize, found: bool, values: &mut [f64], vectors: &mut [f64]) -> Outcome
+pub fn unturned(n: usize, found: bool, values: &mut [f64], vectors: &mut [f64]) -> Outcome
     requires { ⌜ (length (now values) ≡ n) × (length (now vectors) ≡ n * n) ⌝ }
     ensures { λ r. ⌜ decomposed (r .found) (now (values .exit)) (now (vectors .exit)) (r .sweeps) (r .rotations) ≡ Jacobi.unturned n found ⌝ }
 {

@@ -6,8 +6,8 @@ use borrow.Author.Needs.{needs}
 use lib.ListN.{length}
 use lib.Ieee.{Float}
 use Rattle.leaves.specs.Loops.{amaxTo, nth}
+use Rattle.leaves.proofs.Loops.{amax-ext}
 use Rattle.matrix.specs.Matrix.{at, amax}
-use Rattle.matrix.proofs.Steps.{amax-ext}
 use Rattle.matrix.proofs.Stored.{entry-at}
 use Rattle.matrix.proofs.entries.amax.Statement.{statement}
 use Rattle.matrix.proofs.entries.amax.Tie as tie

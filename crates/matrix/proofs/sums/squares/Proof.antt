@@ -8,9 +8,9 @@ use lib.ListN.{length}
 use lib.Ieee.{Float, ofBits}
 use Rattle.leaves.specs.Numbers.{_⊗_}
 use Rattle.leaves.specs.Loops.{sumTo, nth}
-use Rattle.leaves.proofs.Loops.{sum-none, sum-turn, at-end}
+use Rattle.leaves.proofs.Loops.{sum-none, sum-turn, at-end, sum-ext}
 use Rattle.matrix.specs.Matrix.{at, squares}
-use Rattle.matrix.proofs.Steps.{sum-ext, sum-every}
+use Rattle.matrix.proofs.Steps.{sum-every}
 use Rattle.matrix.proofs.Stored.{entry-at}
 use Rattle.matrix.proofs.sums.squares.Statement.{statement}
 use Rattle.matrix.proofs.sums.squares.Tie as tie

@@ -6,8 +6,9 @@ use borrow.Author.Needs.{needs}
 use lib.ListN.{length}
 use lib.Ieee.{Float}
 use Rattle.leaves.specs.Loops.{sumTo, nth}
+use Rattle.leaves.proofs.Loops.{sum-ext}
 use Rattle.matrix.specs.Matrix.{at, total}
-use Rattle.matrix.proofs.Steps.{sum-ext, sum-every}
+use Rattle.matrix.proofs.Steps.{sum-every}
 use Rattle.matrix.proofs.Stored.{entry-at}
 use Rattle.matrix.proofs.sums.total.Statement.{statement}
 use Rattle.matrix.proofs.sums.total.Tie as tie

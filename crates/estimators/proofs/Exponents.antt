@@ -1,0 +1,60 @@
+-- Sizes of the exponents that the two Stein means add and negate: b(x) of an f64 is at most 1074 in size, and what is made of a few such numbers
+-- is an i32. Assumes nothing.
+use mathlib.Core.Path.{_≡_, sym, _∙_, subst}
+use Prim.Native.Nat.{ℕ, zero, suc, _+_, _-_, _^_, _≤_, _<_}
+use native.Mathlib.Omega.{arith}
+use mathlib.Core.Bool.{true}
+use lib.Dec.{T}
+use lib.IntN.{ℤ, pos, negsuc, negℤ, natAbs, _+ℤ_, _-ℤ_}
+use lib.Ieee.{Float, nan, inf, fin, binary64, fits, size}
+use mir.Syntax.{w32}
+use mir.Val.{SFits, toZ, ofZ}
+use mir.Facts.{toZ-ofZ}
+use Rattle.leaves.specs.Scaling.{binaryExponent}
+use Rattle.leaves.proofs.Whole.{over, under, one-side, plus, minus, over-neg, under-neg, same, fits-i32}
+use Rattle.leaves.proofs.Laws.{fits→room, size-pos}
+use Rattle.estimators.specs.Held.{maxExponent}
+
+-- the size, by the two parts of a whole number
+size-is : (z : ℤ) → natAbs z ≡ over z + under z
+unfolding over under
+size-is (pos k) = omega arith
+size-is (negsuc k) = omega arith
+
+pub size-neg : (z : ℤ) → natAbs (negℤ z) ≡ natAbs z
+size-neg z = omega (arith, size-is z, size-is (negℤ z), over-neg z, under-neg z)
+
+pub size-plus : (y z : ℤ) → natAbs (y +ℤ z) ≤ natAbs y + natAbs z
+size-plus y z = omega (arith, size-is y, size-is z, size-is (y +ℤ z), plus y z, one-side (y +ℤ z))
+
+pub size-minus : (y z : ℤ) → natAbs (y -ℤ z) ≤ natAbs y + natAbs z
+size-minus y z = omega (arith, size-plus y (negℤ z), size-neg z)
+
+pub size-fits : (z : ℤ) → natAbs z < 2 ^ 31 → SFits w32 z
+size-fits z h = fits-i32 z (omega (arith, size-is z)) (omega (arith, size-is z))
+
+-- b(x)
+pub exponent-size : (x : Float) → fits binary64 x ≡ true → natAbs (binaryExponent x) ≤ maxExponent
+unfolding binaryExponent over under
+exponent-size nan t = omega arith
+exponent-size (inf s) t = omega arith
+exponent-size (fin s zero e) t = omega arith
+exponent-size (fin s (suc m) e) t =
+    let r = fits→room s m e (subst T (sym t) tt) in
+    let b = pos (size (suc m) - 1) in
+    omega (arith, size-is (b +ℤ e), plus b e, one-side (b +ℤ e), one-side e, size-pos m, r .digits, r .low, r .high)
+
+neg-is : (z : ℤ) → pos 0 -ℤ z ≡ negℤ z
+unfolding over under
+neg-is z = same (pos 0 -ℤ z) (negℤ z) (omega (arith, minus (pos 0) z, over-neg z, under-neg z))
+
+-- what the machine reads back of z, and of -z
+module _ (z : ℤ) (h : natAbs z < 2 ^ 31) where
+  pub read : toZ w32 (ofZ w32 z) ≡ z
+  read = toZ-ofZ (size-fits z h)
+
+  pub neg-fits : SFits w32 (pos 0 -ℤ toZ w32 (ofZ w32 z))
+  neg-fits = rw (read, neg-is) (size-fits (negℤ z) (omega (arith, size-neg z)))
+
+  pub neg-read : toZ w32 (ofZ w32 (pos 0 -ℤ toZ w32 (ofZ w32 z))) ≡ negℤ z
+  neg-read = toZ-ofZ neg-fits ∙ rw (read, neg-is)

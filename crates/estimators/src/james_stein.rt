@@ -1,0 +1,130 @@
+// The James-Stein mean (expected_returns.rs, `james_stein_mean`).
+ghost use mathlib.Core.Path.{_≡_};
+ghost use mathlib.Core.Bool.{false};
+ghost use Prim.Native.Nat.{ℕ, _*_, _≤_, _<_};
+ghost use lib.IntN.{natAbs};
+ghost use lib.ListN.{length};
+ghost use lib.Ieee.{eq};
+ghost use Rattle.leaves.specs.Numbers.{zero⁺};
+ghost use Rattle.leaves.specs.Loops.{tab, nth};
+ghost use Rattle.leaves.specs.Scaling.{pow2Scaled};
+ghost use Rattle.matrix.specs.Limits.{maxSide, maxSweeps};
+ghost use Rattle.matrix.specs.Matrix.{at};
+ghost use Rattle.matrix.specs.Jacobi.{Decomposition};
+ghost use Rattle.estimators.specs.Held.{momentsOf, held, maxExponent};
+ghost use Rattle.estimators.specs.JamesStein as JamesStein;
+use crate::moments::Moments;
+use crate::moments::exponent;
+use leaves::scaling::pow2_scaled;
+use matrix::jacobi::decompose;
+
+// The average of the means.
+fn grand_mean(m: Moments, n: usize) -> f64
+    requires { ⌜ n ≤ maxSide ⌝ }
+    ensures { λ r. ⌜ r ≡ JamesStein.grandMean n (nth (held n m .mean)) ⌝ }
+{
+    let mean = m.mean;
+    leaves::sums::sum(&mean[..n]) / std::num::nearest_u64_to_f64(n as u64)
+}
+
+// The largest distance of a mean from the target.
+fn unevenness(means: &[f64], target: f64) -> f64
+    ensures { λ r. ⌜ r ≡ JamesStein.unevenness (length (now (means .entry))) (nth (now (means .entry))) target ⌝ }
+{
+    let mut m = 0.0;
+    let mut i = 0;
+    while i < means.len() {
+        m = leaves::numbers::larger(m, leaves::numbers::abs(means[i] - target));
+        i += 1;
+    }
+    m
+}
+
+// The squared distances from the target, over 4^shift, summed up.
+fn spread(means: &[f64], target: f64, shift: i32) -> f64
+    requires { ⌜ natAbs shift ≤ maxExponent ⌝ }
+    ensures { λ r. ⌜ r ≡ JamesStein.spread (length (now (means .entry))) (nth (now (means .entry))) target shift ⌝ }
+{
+    let down = -shift;
+    let mut s = 0.0;
+    let mut i = 0;
+    while i < means.len() {
+        let d = pow2_scaled(means[i] - target, down);
+        s = s + d * d;
+        i += 1;
+    }
+    s
+}
+
+// The intensity, where the largest distance from the target is not 0 and the covariance has these eigenvalues.
+fn intensity(
+    means: &[f64],
+    covariance: &[f64],
+    n: usize,
+    periods: f64,
+    target: f64,
+    largest: f64,
+    values: &[f64],
+) -> f64
+    requires { ⌜ (0 < n) × (length (now means) ≡ n) × (length (now covariance) ≡ n * n) × (length (now values) ≡ n) × (largest ≡ JamesStein.unevenness n (nth (now means)) target) × (eq largest zero⁺ ≡ false) ⌝ }
+    ensures { λ r. ⌜ ((d : Decomposition) → d .values ≡ now (values .entry) → r ≡ JamesStein.jamesSteinIntensity n (momentsOf (now (means .entry)) (now (covariance .entry)) periods) target d) ⌝ }
+{
+    let shift = exponent(largest);
+    let excess = matrix::sums::trace(covariance, n) - 2.0 * matrix::entries::largest(values);
+    let noise = periods * spread(means, target, shift);
+    leaves::numbers::clamp01(pow2_scaled(excess / noise, -(shift + shift)))
+}
+
+// The intensity, and what came of the decomposition.
+struct Pulled {
+    found: bool,
+    intensity: f64,
+    sweeps: usize,
+    rotations: usize,
+}
+
+// Nothing is taken apart where all means are equal. `values` and `vectors` are to reckon in.
+fn pull(
+    means: &[f64],
+    covariance: &[f64],
+    n: usize,
+    periods: f64,
+    target: f64,
+    limit: usize,
+    values: &mut [f64],
+    vectors: &mut [f64],
+) -> Pulled
+    requires { ⌜ (0 < n) × (n ≤ maxSide) × (limit ≤ maxSweeps) × (length (now means) ≡ n) × (length (now covariance) ≡ n * n) × (length (now values) ≡ n) × (length (now vectors) ≡ n * n) ⌝ }
+    ensures { λ r. ⌜ ((d : Decomposition) → d ≡ JamesStein.decomposeUneven limit n (JamesStein.unevenness n (nth (now (means .entry))) target) (at (now (covariance .entry)) n) → (r .found ≡ d .found) × (r .intensity ≡ JamesStein.jamesSteinIntensity n (momentsOf (now (means .entry)) (now (covariance .entry)) periods) target d) × (r .sweeps ≡ d .sweeps) × (r .rotations ≡ d .rotations)) ⌝ }
+{
+    let largest = unevenness(means, target);
+    if largest == 0.0 {
+        return Pulled {
+            found: true,
+            intensity: 0.0,
+            sweeps: 0,
+            rotations: 0,
+        };
+    }
+    let d = decompose(covariance, n, limit, values, vectors);
+    let alpha = intensity(means, covariance, n, periods, target, largest, values);
+    Pulled {
+        found: d.found,
+        intensity: alpha,
+        sweeps: d.sweeps,
+        rotations: d.rotations,
+    }
+}
+
+// The means moved towards the target, in units of 2^exponent.
+fn put_means(means: &[f64], intensity: f64, target: f64, exponent: i32, out: &mut [f64])
+    requires { ⌜ length (now means) ≡ length (now out) ⌝ }
+    ensures { λ _. ⌜ now (out .exit) ≡ tab (length (now (out .entry))) (λ (i : ℕ). pow2Scaled (JamesStein.towards intensity target (nth (now (means .entry)) i)) exponent) ⌝ }
+{
+    let mut i = 0;
+    while i < out.len() {
+        let m = means[i];
+        out[i] = pow2_scaled(m + intensity * (target - m), exponent);
+        i += 1;
+    }
+}
