@@ -1,5 +1,6 @@
-// Times the engine and the copy on the same inputs, in turns and in one process, so that a busy
-// machine slows both. Prints the median times for one input, and the median ratio of the turns.
+// Times the engine and the copy on the same inputs, in turns and in one process, by the processor's
+// time, so that a busy machine matters little. Prints the median times for one input, and the
+// median ratio of the turns.
 
 use engine::jacobi::decompose;
 use generator::given::product;
@@ -8,7 +9,6 @@ use reference::eigen::SymmetricEigen;
 use reference::matrix::Matrix;
 use reference::MAX_SWEEPS;
 use std::hint::black_box;
-use std::time::Instant;
 
 const TURNS: usize = 41;
 
@@ -38,9 +38,21 @@ fn line(name: &str, inputs: usize, mut engine: impl FnMut(), mut copy: impl FnMu
 }
 
 fn micros(work: &mut impl FnMut()) -> f64 {
-    let start = Instant::now();
+    let start = processor_micros();
     work();
-    start.elapsed().as_secs_f64() * 1e6
+    processor_micros() - start
+}
+
+/// The time that this thread has run.
+fn processor_micros() -> f64 {
+    unsafe extern "C" {
+        fn clock_gettime(clock: i32, seconds_and_nanos: *mut [i64; 2]) -> i32;
+    }
+    const THREAD_CPUTIME: i32 = 3;
+    let mut time = [0; 2];
+    let failed = unsafe { clock_gettime(THREAD_CPUTIME, &mut time) };
+    assert_eq!(failed, 0);
+    time[0] as f64 * 1e6 + time[1] as f64 / 1e3
 }
 
 fn median(numbers: impl Iterator<Item = f64>) -> f64 {

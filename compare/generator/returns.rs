@@ -62,7 +62,7 @@ pub fn set_column(returns: &mut [f64], n: usize, j: usize, entry: impl Fn(usize)
 }
 
 /// Daily returns of some per cent: a market, each asset's part in it, and noise.
-fn realistic(random: &Random, n: usize, t: usize) -> Vec<f64> {
+pub fn realistic(random: &Random, n: usize, t: usize) -> Vec<f64> {
     let parts: Vec<(f64, f64)> = (0..n)
         .map(|_| (random.unit() * 1.5, 0.002 + 0.02 * random.unit()))
         .collect();
