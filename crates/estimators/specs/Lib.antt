@@ -1,6 +1,7 @@
 -- Document 01: "Records", "Estimators" and "Causes".
 pub mod Refusals
 pub mod Sample
+pub mod Rows
 pub mod Weighted
 pub mod Semi
 pub mod Given

@@ -1,9 +1,13 @@
 // The records of document 01 that cross a call.
 mod checks;
 mod given;
+mod gram;
 mod james_stein;
 mod moments;
+mod rows;
+mod tables;
 mod validate;
+mod vectors;
 
 // The weighted case carries its half-life, in periods, and the case below a threshold the threshold.
 pub enum Estimate {
