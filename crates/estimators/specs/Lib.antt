@@ -13,4 +13,5 @@ pub mod JamesStein
 pub mod BayesStein
 pub mod Order
 pub mod Checks
+pub mod Opening
 pub mod Calls
