@@ -1,11 +1,14 @@
 // The records of document 01 that cross a call.
+mod adjusted;
 mod checks;
 mod given;
 mod gram;
 mod james_stein;
+mod ledoit_wolf;
 mod moments;
 mod rows;
 mod tables;
+mod targets;
 mod validate;
 mod vectors;
 
