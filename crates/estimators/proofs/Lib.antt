@@ -6,5 +6,6 @@ pub mod Mirror
 pub mod Halves
 pub mod Firsts
 pub mod Entries
+pub mod LedoitWolf
 pub mod OfGiven
 pub mod Exponents

@@ -1,12 +1,15 @@
 // The records of document 01 that cross a call.
+mod adjusted;
 mod checks;
 mod given;
 mod gram;
 mod james_stein;
+mod ledoit_wolf;
 mod moments;
 mod opening;
 mod rows;
 mod tables;
+mod targets;
 mod validate;
 mod vectors;
 
