@@ -10,5 +10,6 @@ pub mod Moments
 pub mod Held
 pub mod JamesStein
 pub mod BayesStein
+pub mod Gather
 pub mod Order
 pub mod Calls

@@ -1,4 +1,6 @@
 // The records of document 01 that cross a call.
+mod forms;
+mod gather;
 mod james_stein;
 mod moments;
 
