@@ -1,11 +1,11 @@
 -- What only the contracts of the functions that gather numbers over one power of two cite. Definitions only.
-use Prim.Native.Nat.{ℕ, _+_, _≤_}
+use Prim.Native.Nat.{ℕ, _+_, _≤_, _<_}
 use mathlib.Core.Bool.{true, false}
 use mathlib.Core.Path.{_≡_}
 use mathlib.Core.List.{List}
 use mathlib.Core.Option.{Option, none, some}
 use lib.IntN.{ℤ, pos, natAbs, _+ℤ_}
-use lib.ListN.{getD}
+use lib.ListN.{length, getD}
 use lib.Ieee.{Float, eq}
 use Rattle.leaves.specs.Numbers.{zero⁺}
 use Rattle.leaves.specs.Scaling.{binaryExponent}
@@ -24,7 +24,7 @@ withExponent found x k = elim (eq x zero⁺) [ true ↦ found | false ↦ larger
 
 -- each is one of an f64
 abbrev pub Exponents : List ℤ → Type 0
-Exponents es = (i : ℕ) → natAbs (getD es i (pos 0)) ≤ maxExponent
+Exponents es = (i : ℕ) → i < length es → natAbs (getD es i (pos 0)) ≤ maxExponent
 
 -- a sum of two of them is at most this in size
 abbrev pub twoExponents : ℕ

@@ -11,5 +11,6 @@ pub mod Held
 pub mod JamesStein
 pub mod BayesStein
 pub mod Gather
+pub mod Stein
 pub mod Order
 pub mod Calls

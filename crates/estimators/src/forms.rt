@@ -7,6 +7,7 @@ ghost use Rattle.leaves.specs.Loops.{sumTo, tab, nth};
 ghost use Rattle.matrix.specs.Matrix.{at};
 ghost use Rattle.matrix.specs.Jacobi.{Decomposition};
 ghost use Rattle.estimators.specs.BayesStein as BayesStein;
+ghost use Rattle.estimators.specs.Stein.{ratioOf, distanceOf};
 
 // x times column e of V.
 fn project_on(vectors: &[f64], n: usize, e: usize, x: &[f64]) -> f64
@@ -22,7 +23,7 @@ fn project_on(vectors: &[f64], n: usize, e: usize, x: &[f64]) -> f64
     s
 }
 
-pub(crate) fn project(vectors: &[f64], n: usize, x: &[f64], out: &mut [f64])
+fn project(vectors: &[f64], n: usize, x: &[f64], out: &mut [f64])
     requires { ⌜ (length (now vectors) ≡ n * n) × (length (now x) ≡ n) × (length (now out) ≡ n) ⌝ }
     ensures { λ _. ⌜ ((d : Decomposition) → d .vectors ≡ now (vectors .entry) → now (out .exit) ≡ BayesStein.project n d (nth (now (x .entry)))) ⌝ }
 {
@@ -33,15 +34,64 @@ pub(crate) fn project(vectors: &[f64], n: usize, x: &[f64], out: &mut [f64])
     }
 }
 
-pub(crate) fn form(values: &[f64], x: &[f64], y: &[f64]) -> f64
-    requires { ⌜ (length (now x) ≡ length (now values)) × (length (now y) ≡ length (now values)) ⌝ }
-    ensures { λ r. ⌜ ((d : Decomposition) → d .values ≡ now (values .entry) → r ≡ BayesStein.form (length (now (values .entry))) d (now (x .entry)) (now (y .entry))) ⌝ }
+fn form(values: &[f64], n: usize, x: &[f64], y: &[f64]) -> f64
+    requires { ⌜ (length (now values) ≡ n) × (length (now x) ≡ n) × (length (now y) ≡ n) ⌝ }
+    ensures { λ r. ⌜ ((d : Decomposition) → d .values ≡ now (values .entry) → r ≡ BayesStein.form n d (now (x .entry)) (now (y .entry))) ⌝ }
 {
     let mut s = 0.0;
     let mut e = 0;
-    while e < values.len() {
+    while e < n {
         s = s + x[e] * y[e] / values[e];
         e += 1;
     }
     s
+}
+
+// xᵀC⁻¹y / xᵀC⁻¹x. `p` and `q` are to reckon in.
+pub(crate) fn ratio(
+    values: &[f64],
+    vectors: &[f64],
+    n: usize,
+    x: &[f64],
+    y: &[f64],
+    p: &mut [f64],
+    q: &mut [f64],
+) -> f64
+    requires { ⌜ (length (now values) ≡ n) × (length (now vectors) ≡ n * n) × (length (now x) ≡ n) × (length (now y) ≡ n) × (length (now p) ≡ n) × (length (now q) ≡ n) ⌝ }
+    ensures { λ r. ⌜ ((d : Decomposition) → d .values ≡ now (values .entry) → d .vectors ≡ now (vectors .entry) → r ≡ ratioOf n d (now (x .entry)) (now (y .entry))) ⌝ }
+{
+    project(vectors, n, x, p);
+    project(vectors, n, y, q);
+    form(values, n, p, q) / form(values, n, p, p)
+}
+
+// yᵢ - a xᵢ.
+fn subtract(y: &[f64], a: f64, x: &[f64], out: &mut [f64])
+    requires { ⌜ (length (now y) ≡ length (now out)) × (length (now x) ≡ length (now out)) ⌝ }
+    ensures { λ _. ⌜ now (out .exit) ≡ tab (length (now (out .entry))) (λ (i : ℕ). nth (now (y .entry)) i ⊖ a ⊗ nth (now (x .entry)) i) ⌝ }
+{
+    let mut i = 0;
+    while i < out.len() {
+        out[i] = y[i] - a * x[i];
+        i += 1;
+    }
+}
+
+// zᵀC⁻¹z for z = y - a x. `p` and `q` are to reckon in.
+pub(crate) fn distance(
+    values: &[f64],
+    vectors: &[f64],
+    n: usize,
+    x: &[f64],
+    y: &[f64],
+    a: f64,
+    p: &mut [f64],
+    q: &mut [f64],
+) -> f64
+    requires { ⌜ (length (now values) ≡ n) × (length (now vectors) ≡ n * n) × (length (now x) ≡ n) × (length (now y) ≡ n) × (length (now p) ≡ n) × (length (now q) ≡ n) ⌝ }
+    ensures { λ r. ⌜ ((d : Decomposition) → d .values ≡ now (values .entry) → d .vectors ≡ now (vectors .entry) → r ≡ distanceOf n d (now (x .entry)) (now (y .entry)) a) ⌝ }
+{
+    subtract(y, a, x, p);
+    project(vectors, n, p, q);
+    form(values, n, q, q)
 }

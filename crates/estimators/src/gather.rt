@@ -5,9 +5,10 @@ ghost use Prim.Native.Nat.{ℕ, _+_, _≤_};
 ghost use lib.IntN.{pos, negℤ, natAbs, _+ℤ_};
 ghost use lib.ListN.{length, getD};
 ghost use lib.Ieee.{eq};
-ghost use Rattle.leaves.specs.Numbers.{_⊘_, zero⁺};
+ghost use Rattle.leaves.specs.Numbers.{_⊘_, one, zero⁺};
 ghost use Rattle.leaves.specs.Loops.{tab, nth};
 ghost use Rattle.leaves.specs.Scaling.{binaryExponent, pow2Scaled};
+ghost use Rattle.matrix.specs.Limits.{maxSide};
 ghost use Rattle.estimators.specs.Held.{maxExponent};
 ghost use Rattle.estimators.specs.BayesStein as BayesStein;
 ghost use Rattle.estimators.specs.Gather.{largestOf, withExponent, Exponents, Summed, Gathered, twoExponents};
@@ -93,7 +94,7 @@ fn scale(exponents: &[i32], e: i32, out: &mut [f64])
 }
 
 // The numbers xᵢ / vᵢ · 2^-eᵢ, gathered in `out`. Their power of two is 2 to what is returned.
-pub(crate) fn gather(xs: &[f64], volatilities: &[f64], exponents: &[i32], out: &mut [f64]) -> i32
+fn gather(xs: &[f64], volatilities: &[f64], exponents: &[i32], out: &mut [f64]) -> i32
     requires { ⌜ (length (now xs) ≡ length (now out)) × (length (now volatilities) ≡ length (now out)) × (length (now exponents) ≡ length (now out)) × Exponents (now exponents) ⌝ }
     ensures { λ r. ⌜ Gathered (length (now (out .entry))) (λ (i : ℕ). nth (now (xs .entry)) i ⊘ nth (now (volatilities .entry)) i) (λ (i : ℕ). negℤ (getD (now (exponents .entry)) i (pos 0))) r (now (out .exit)) ⌝ }
 {
@@ -101,4 +102,22 @@ pub(crate) fn gather(xs: &[f64], volatilities: &[f64], exponents: &[i32], out: &
     let e = common_exponent(out, exponents);
     scale(exponents, e, out);
     e
+}
+
+// The numbers 1 / vᵢ · 2^-eᵢ.
+pub(crate) fn gather_ones(volatilities: &[f64], exponents: &[i32], n: usize, out: &mut [f64]) -> i32
+    requires { ⌜ (n ≤ maxSide) × (length (now volatilities) ≡ n) × (length (now exponents) ≡ n) × Exponents (now exponents) × (length (now out) ≡ n) ⌝ }
+    ensures { λ r. ⌜ Gathered n (λ (i : ℕ). one ⊘ nth (now (volatilities .entry)) i) (λ (i : ℕ). negℤ (getD (now (exponents .entry)) i (pos 0))) r (now (out .exit)) ⌝ }
+{
+    let ones = [1.0; matrix::MAX_SIDE];
+    gather(&ones[..n], volatilities, exponents, out)
+}
+
+// The numbers μᵢ / vᵢ.
+pub(crate) fn gather_means(means: &[f64], volatilities: &[f64], n: usize, out: &mut [f64]) -> i32
+    requires { ⌜ (n ≤ maxSide) × (length (now means) ≡ n) × (length (now volatilities) ≡ n) × (length (now out) ≡ n) ⌝ }
+    ensures { λ r. ⌜ Gathered n (λ (i : ℕ). nth (now (means .entry)) i ⊘ nth (now (volatilities .entry)) i) (λ (i : ℕ). pos 0) r (now (out .exit)) ⌝ }
+{
+    let zeros = [0; matrix::MAX_SIDE];
+    gather(means, volatilities, &zeros[..n], out)
 }

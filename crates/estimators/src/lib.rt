@@ -1,4 +1,5 @@
 // The records of document 01 that cross a call.
+mod bayes_stein;
 mod forms;
 mod gather;
 mod james_stein;

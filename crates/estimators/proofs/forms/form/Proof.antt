@@ -2,7 +2,6 @@
 use mathlib.Core.Path.{_≡_, refl}
 use Prim.Native.Nat.{_≤_, _-_}
 use native.Mathlib.Omega.{arith}
-use lib.ListN.{length}
 use lib.Ieee.{ofBits}
 use borrow.Author.Needs.{needs}
 use Rattle.leaves.specs.Numbers.{_⊗_, _⊘_}
@@ -13,10 +12,10 @@ use Rattle.estimators.proofs.forms.form.Statement.{statement}
 use Rattle.estimators.proofs.forms.form.Tie as tie
 
 abbrev Inv-loop : tie.InvT-loop
-Inv-loop values x y s₀ e₀ s e = (e ≤ length values) × (s ≡ sumTo e (λ e. nth x e ⊗ nth y e ⊘ nth values e))
+Inv-loop values n x y s₀ e₀ s e = (e ≤ n) × (s ≡ sumTo e (λ e. nth x e ⊗ nth y e ⊘ nth values e))
 
 abbrev μ-loop : tie.MeasureT-loop
-μ-loop values x y s₀ e₀ s e = length values - e
+μ-loop values n x y s₀ e₀ s e = n - e
 
 loop-holds : tie.Need-loop-holds Inv-loop μ-loop
 unfolding ofBits

@@ -2,7 +2,7 @@
 use mathlib.Core.Path.{_≡_, ap, _∙_}
 use mathlib.Core.List.{List}
 use mathlib.Core.Option.{Option, none}
-use Prim.Native.Nat.{ℕ, _≤_, _-_}
+use Prim.Native.Nat.{ℕ, _≤_, _<_, _-_}
 use native.Mathlib.Omega.{arith}
 use lib.IntN.{ℤ, pos, negℤ, natAbs}
 use lib.ListN.{length, getD}
@@ -22,8 +22,8 @@ abbrev step : List Float → List ℤ → ℕ → Option ℤ → Option ℤ
 step xs exponents i found = withExponent found (nth xs i) (negℤ (getD exponents i (pos 0)))
 
 -- an exponent, as the machine reads it
-reads : (exponents : List ℤ) → Exponents exponents → (i : ℕ) → toZ w32 (ofZ w32 (getD exponents i (pos 0))) ≡ getD exponents i (pos 0)
-reads exponents h i = read (getD exponents i (pos 0)) (omega (arith, h i))
+reads : (exponents : List ℤ) → Exponents exponents → (i : ℕ) → i < length exponents → toZ w32 (ofZ w32 (getD exponents i (pos 0))) ≡ getD exponents i (pos 0)
+reads exponents h i l = read (getD exponents i (pos 0)) (omega (arith, h i l))
 
 abbrev Inv-loop : tie.InvT-loop
 Inv-loop xs exponents largest₀ i₀ largest i = (i ≤ length xs) × (largestOf largest ≡ loop i (step xs exponents) none) × Summed (largestOf largest)
@@ -50,7 +50,8 @@ with-exponent-requires : tie.Need-with-exponent-requires Inv-loop μ-loop
 with-exponent-requires c κs =
     let s = c .before .before .before .before .before in
     let i = c .before .before .before .loop .i in
-    (rw (reads (s .args .exponents .now) (s .pre .1) i) (s .pre .1 i), c .before .before .before .loop .inv .2)
+    let h : i < length (s .args .exponents .now) = omega arith in
+    (rw (reads (s .args .exponents .now) (s .pre .1) i h) (s .pre .1 i h), c .before .before .before .loop .inv .2)
 
 add-i : tie.Need-add-i Inv-loop μ-loop
 add-i c = search needs
@@ -62,7 +63,7 @@ loop-again : tie.Need-loop-again Inv-loop μ-loop
 loop-again c =
     let s = c .before .before .before .before .before .before in
     let l = c .before .before .before .before .loop in
-    (omega arith, loop-turn _ _ _ _ _ (l .inv .1) (rw (reads (s .args .exponents .now) (s .pre .1) (l .i)) at (c .with-exponent .ensures .0)), c .with-exponent .ensures .1)
+    (omega arith, loop-turn _ _ _ _ _ (l .inv .1) (rw (reads (s .args .exponents .now) (s .pre .1) (l .i) (omega arith)) at (c .with-exponent .ensures .0)), c .with-exponent .ensures .1)
 
 or-zero-requires : tie.Need-or-zero-requires Inv-loop μ-loop
 or-zero-requires c κs = search needs

@@ -39,10 +39,10 @@ shared-slice-copy-out-pow2-scaled : tie.Need-shared-slice-copy-out-pow2-scaled I
 shared-slice-copy-out-pow2-scaled c = search needs
 
 sub-pow2-scaled : tie.Need-sub-pow2-scaled Inv-loop μ-loop
-sub-pow2-scaled c = let s = c .before .before .before .before .before in neg-fits (getD (s .args .exponents .now) (c .before .before .before .loop .i) (pos 0)) (omega (arith, s .pre .1 (c .before .before .before .loop .i)))
+sub-pow2-scaled c = let s = c .before .before .before .before .before in neg-fits (getD (s .args .exponents .now) (c .before .before .before .loop .i) (pos 0)) (omega (arith, s .pre .1 (c .before .before .before .loop .i) (omega arith)))
 
 sub-pow2-scaled-2 : tie.Need-sub-pow2-scaled-2 Inv-loop μ-loop
-sub-pow2-scaled-2 c = let s = c .before .before .before .before .before in both-fits (getD (s .args .exponents .now) (c .before .before .before .loop .i) (pos 0)) (s .args .e) (omega (arith, s .pre .1 (c .before .before .before .loop .i), s .pre .2))
+sub-pow2-scaled-2 c = let s = c .before .before .before .before .before in both-fits (getD (s .args .exponents .now) (c .before .before .before .loop .i) (pos 0)) (s .args .e) (omega (arith, s .pre .1 (c .before .before .before .loop .i) (omega arith), s .pre .2))
 
 pow2-scaled-requires : tie.Need-pow2-scaled-requires Inv-loop μ-loop
 pow2-scaled-requires c κs = search needs
@@ -65,7 +65,7 @@ loop-again c =
     let l = c .before .before .before .before .loop in
     let x = getD (s .args .exponents .now) (l .i) (pos 0) in
     let e = s .args .e in
-    let k = both-read x e (omega (arith, s .pre .1 (l .i), s .pre .2)) ∙ ap (λ (z : ℤ). negℤ x -ℤ z) (sym (read e (omega (arith, s .pre .2)))) in
+    let k = both-read x e (omega (arith, s .pre .1 (l .i) (omega arith), s .pre .2)) ∙ ap (λ (z : ℤ). negℤ x -ℤ z) (sym (read e (omega (arith, s .pre .2)))) in
     filled-more (l .inv) (omega arith) (omega arith) (c .pow2-scaled .ensures ∙ (λ t. pow2Scaled (filled-here nan (l .inv) (omega arith) (omega arith) t) (k t)))
 
 same-length : tie.Need-same-length Inv-loop μ-loop
