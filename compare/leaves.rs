@@ -1,35 +1,14 @@
 // Compares the copy's float leaves with the engine's, bit for bit, NaN equal to NaN, and prints
 // how many inputs each was given and on how many they differ. Ends with 1 if they ever do.
 
+use engine::leaves as engine;
 use generator::random::Random;
 use reference::leaves as copy;
+use reference::leaves::bits;
 use std::fmt::Debug;
 
-/// The engine's leaves, from its static library. A slice is a pointer and then a length.
-mod engine {
-    extern "C" {
-        pub fn leaf_is_finite(x: f64) -> bool;
-        pub fn leaf_abs(x: f64) -> f64;
-        pub fn leaf_signum(x: f64) -> f64;
-        pub fn leaf_larger(first: f64, second: f64) -> f64;
-        pub fn leaf_smaller(first: f64, second: f64) -> f64;
-        pub fn leaf_min0(y: f64) -> f64;
-        pub fn leaf_max0(y: f64) -> f64;
-        pub fn leaf_clamp01(y: f64) -> f64;
-        pub fn leaf_binary_exponent(x: f64) -> i32;
-        pub fn leaf_pow2_scaled(x: f64, k: i32) -> f64;
-        pub fn leaf_sqrt(x: f64) -> f64;
-        pub fn leaf_exp(y: f64) -> f64;
-        pub fn leaf_exp_m1(y: f64) -> f64;
-        pub fn leaf_sum(xs: *const f64, len: usize) -> f64;
-        pub fn leaf_amax(xs: *const f64, len: usize) -> f64;
-        pub fn leaf_sum_column(xs: *const f64, len: usize, n: usize, j: usize) -> f64;
-        pub fn leaf_amax_column(xs: *const f64, len: usize, n: usize, j: usize) -> f64;
-    }
-}
-
 /// A leaf of one number, as the engine exports it.
-type Leaf = unsafe extern "C" fn(f64) -> f64;
+type Leaf = extern "C" fn(f64) -> f64;
 
 fn main() {
     let random = Random::new(2);
@@ -46,51 +25,44 @@ fn main() {
     let mut table = Table { different: 0 };
     table.heading();
     table.leaf("is_finite", &floats, |&x| {
-        (copy::is_finite(x), unsafe { engine::leaf_is_finite(x) })
+        (copy::is_finite(x), engine::is_finite(x))
     });
     let mut unary = |name: &str, inputs: &[f64], ours: fn(f64) -> f64, theirs: Leaf| {
-        table.leaf(name, inputs, |&x| {
-            (bits(ours(x)), bits(unsafe { theirs(x) }))
-        });
+        table.leaf(name, inputs, |&x| (bits(ours(x)), bits(theirs(x))));
     };
-    unary("abs", &floats, copy::abs, engine::leaf_abs);
-    unary("signum", &floats, copy::signum, engine::leaf_signum);
-    unary("min0", &floats, copy::min0, engine::leaf_min0);
-    unary("max0", &floats, copy::max0, engine::leaf_max0);
-    unary("clamp01", &floats, copy::clamp01, engine::leaf_clamp01);
-    unary("sqrt", &squares, copy::sqrt, engine::leaf_sqrt);
-    unary("exp", &exponents, copy::exp, engine::leaf_exp);
-    unary("exp_m1", &exponents, copy::exp_m1, engine::leaf_exp_m1);
+    unary("abs", &floats, copy::abs, engine::abs);
+    unary("signum", &floats, copy::signum, engine::signum);
+    unary("min0", &floats, copy::min0, engine::min0);
+    unary("max0", &floats, copy::max0, engine::max0);
+    unary("clamp01", &floats, copy::clamp01, engine::clamp01);
+    unary("sqrt", &squares, copy::sqrt, engine::sqrt);
+    unary("exp", &exponents, copy::exp, engine::exp);
+    unary("exp_m1", &exponents, copy::exp_m1, engine::exp_m1);
     table.leaf("larger", &pairs, |&(x, y)| {
-        let theirs = unsafe { engine::leaf_larger(x, y) };
-        (bits(copy::larger(x, y)), bits(theirs))
+        (bits(copy::larger(x, y)), bits(engine::larger(x, y)))
     });
     table.leaf("smaller", &pairs, |&(x, y)| {
-        let theirs = unsafe { engine::leaf_smaller(x, y) };
-        (bits(copy::smaller(x, y)), bits(theirs))
+        (bits(copy::smaller(x, y)), bits(engine::smaller(x, y)))
     });
     table.leaf("binary_exponent", &floats, |&x| {
-        let theirs = unsafe { engine::leaf_binary_exponent(x) };
-        (copy::binary_exponent(x), theirs)
+        (copy::binary_exponent(x), engine::binary_exponent(x))
     });
     table.leaf("pow2_scaled", &scalings, |&(x, k)| {
-        let theirs = unsafe { engine::leaf_pow2_scaled(x, k) };
+        let theirs = engine::pow2_scaled(x, k);
         (bits(copy::pow2_scaled(x, k)), bits(theirs))
     });
     table.leaf("sum", &slices, |xs| {
-        let theirs = unsafe { engine::leaf_sum(xs.as_ptr(), xs.len()) };
-        (bits(copy::sum(xs)), bits(theirs))
+        (bits(copy::sum(xs)), bits(engine::sum(xs)))
     });
     table.leaf("amax", &slices, |xs| {
-        let theirs = unsafe { engine::leaf_amax(xs.as_ptr(), xs.len()) };
-        (bits(copy::amax(xs)), bits(theirs))
+        (bits(copy::amax(xs)), bits(engine::amax(xs)))
     });
     table.leaf("sum_column", &columns, |&(xs, n, j)| {
-        let theirs = unsafe { engine::leaf_sum_column(xs.as_ptr(), xs.len(), n, j) };
+        let theirs = engine::sum_column(xs, n, j);
         (bits(copy::sum_column(xs, n, j)), bits(theirs))
     });
     table.leaf("amax_column", &columns, |&(xs, n, j)| {
-        let theirs = unsafe { engine::leaf_amax_column(xs.as_ptr(), xs.len(), n, j) };
+        let theirs = engine::amax_column(xs, n, j);
         (bits(copy::amax_column(xs, n, j)), bits(theirs))
     });
     if table.different > 0 {
@@ -126,15 +98,6 @@ impl Table {
             println!("    {input:?}: copy {ours:X?}, engine {theirs:X?}");
         }
         self.different += usize::from(!different.is_empty());
-    }
-}
-
-/// The bits, one pattern for every NaN.
-fn bits(x: f64) -> u64 {
-    if x.is_nan() {
-        0x7FF8000000000000
-    } else {
-        x.to_bits()
     }
 }
 

@@ -5,6 +5,7 @@ mod examples;
 
 use reference::covariance::{Estimate, Settings, Shrinkage};
 use reference::input::{Call, Input, Report};
+use reference::leaves::bits;
 use reference::refusal::Refusal;
 
 fn main() {
@@ -18,22 +19,16 @@ fn main() {
     }
 }
 
-/// The bits, one pattern for every NaN.
-fn bits(x: f64) -> String {
-    let bits = if x.is_nan() {
-        0x7FF8000000000000
-    } else {
-        x.to_bits()
-    };
-    format!("0x{bits:016X}")
+fn hexadecimal(x: f64) -> String {
+    format!("0x{:016X}", bits(x))
 }
 
 fn number(x: f64) -> String {
-    format!("(f {})", bits(x))
+    format!("(f {})", hexadecimal(x))
 }
 
 fn list(xs: &[f64]) -> String {
-    let entries: String = xs.iter().map(|&x| bits(x) + " ∷ ").collect();
+    let entries: String = xs.iter().map(|&x| hexadecimal(x) + " ∷ ").collect();
     format!("(fs ({entries}[]))")
 }
 

@@ -48,7 +48,7 @@ pub fn draw_given(random: &Random, side: usize) -> Vec<f64> {
 }
 
 /// `XᵀX` for `periods` rows of bell-shaped numbers: symmetric, and indefinite by rounding only.
-fn product(random: &Random, side: usize, periods: usize) -> Vec<f64> {
+pub fn product(random: &Random, side: usize, periods: usize) -> Vec<f64> {
     let x: Vec<f64> = (0..periods * side).map(|_| 0.02 * random.bell()).collect();
     let mut given = vec![0.0; side * side];
     for row in x.chunks_exact(side) {

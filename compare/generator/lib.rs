@@ -2,9 +2,11 @@
 // number and setting, the rest damaged so that each refusal occurs.
 
 mod damage;
-mod given;
+pub mod given;
+pub mod matrices;
+pub mod pairs;
 pub mod random;
-mod returns;
+pub mod returns;
 mod settings;
 
 use damage::damage;
@@ -12,13 +14,19 @@ use given::draw_given;
 use random::Random;
 use reference::covariance::Estimate;
 use reference::input::{Call, Input};
-use reference::{MOST_ASSETS, MOST_PERIODS};
 use returns::draw_returns;
 use settings::{draw_half_life, draw_limit, draw_settings, draw_target};
+use std::ops::RangeInclusive;
 
-/// An input whose return matrix has at most `cap` numbers (at least 64), damaged or not.
-pub fn draw(random: &Random, cap: usize) -> Input {
-    let mut input = draw_good(random, cap);
+/// The assets and periods that a return matrix may have.
+pub struct Shapes {
+    pub assets: RangeInclusive<usize>,
+    pub periods: RangeInclusive<usize>,
+}
+
+/// An input, damaged or not.
+pub fn draw(random: &Random, shapes: &Shapes) -> Input {
+    let mut input = draw_good(random, shapes);
     if random.chance(30) {
         // Two or three at once try the order of the refusals.
         for _ in 0..random.pick(&[1, 1, 1, 1, 2, 3]) {
@@ -30,8 +38,9 @@ pub fn draw(random: &Random, cap: usize) -> Input {
 
 /// An input that breaks no rule of lengths, counts and settings. It may still be refused for its
 /// numbers: a constant column, too few sweeps, a singular matrix.
-pub fn draw_good(random: &Random, cap: usize) -> Input {
-    let (n, t) = draw_shape(random, cap);
+pub fn draw_good(random: &Random, shapes: &Shapes) -> Input {
+    let n = draw_count(random, &shapes.assets);
+    let t = draw_count(random, &shapes.periods);
     let returns = draw_returns(random, n, t);
     let call = match random.below(8) {
         0..=3 => {
@@ -71,16 +80,14 @@ pub fn draw_good(random: &Random, cap: usize) -> Input {
     }
 }
 
-/// Assets and periods, with their product at most `cap`: small and large, the ends often.
-fn draw_shape(random: &Random, cap: usize) -> (usize, usize) {
-    let n = 1 + random.below(random.pick(&[3, 6, MOST_ASSETS]));
-    let most = MOST_PERIODS.min(cap / n);
-    let t = match random.below(10) {
-        0 => 2,
+/// The ends often, and few as likely as many.
+pub fn draw_count(random: &Random, counts: &RangeInclusive<usize>) -> usize {
+    let (least, most) = (*counts.start(), *counts.end());
+    let any = random.below(most - least + 1);
+    match random.below(10) {
+        0 => least,
         1 => most,
-        2..=5 => 2 + random.below(most - 1),
-        // As likely to have few periods as many.
-        _ => 2 + random.below(most - 1) % (1 << random.below(13)),
-    };
-    (n, t)
+        2..=5 => least + any,
+        _ => least + any % (1 << random.below(13)),
+    }
 }

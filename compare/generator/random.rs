@@ -53,4 +53,11 @@ impl Random {
         let sign = self.pick(&[1.0, -1.0]);
         pow2_scaled(sign * (1.0 + self.unit()), self.between(low, high))
     }
+
+    /// Any sign and fraction, with one of the lowest exponents: 2047 of them are all finite
+    /// numbers, 2048 all bits.
+    pub fn of_bits(&self, exponents: usize) -> f64 {
+        let exponent = self.below(exponents) as u64;
+        f64::from_bits((self.bits() & !(0x7ff << 52)) | (exponent << 52))
+    }
 }

@@ -20,7 +20,7 @@ pub fn draw_returns(random: &Random, n: usize, t: usize) -> Vec<f64> {
         }
         18 => {
             let exponents = random.pick(&[1500, 1500, 2047]);
-            entries(n, t, || of_bits(random, exponents))
+            entries(n, t, || random.of_bits(exponents))
         }
         _ => entries(n, t, || random.pick(&[0.0, -0.0])),
     };
@@ -62,7 +62,7 @@ pub fn set_column(returns: &mut [f64], n: usize, j: usize, entry: impl Fn(usize)
 }
 
 /// Daily returns of some per cent: a market, each asset's part in it, and noise.
-fn realistic(random: &Random, n: usize, t: usize) -> Vec<f64> {
+pub fn realistic(random: &Random, n: usize, t: usize) -> Vec<f64> {
     let parts: Vec<(f64, f64)> = (0..n)
         .map(|_| (random.unit() * 1.5, 0.002 + 0.02 * random.unit()))
         .collect();
@@ -116,10 +116,4 @@ fn equal_means(random: &Random, n: usize, t: usize) -> Vec<f64> {
     let starts: Vec<usize> = (0..n).map(|_| random.below(t)).collect();
     let value = |at: usize| first[(at / n + starts[at % n]) % t];
     (0..t * n).map(value).collect()
-}
-
-/// Any sign and fraction, with one of the lowest exponents: 2047 of them are all finite numbers.
-fn of_bits(random: &Random, exponents: usize) -> f64 {
-    let exponent = random.below(exponents) as u64;
-    f64::from_bits((random.bits() & !(0x7ff << 52)) | (exponent << 52))
 }

@@ -172,3 +172,12 @@ pub fn sum_column(xs: &[f64], n: usize, j: usize) -> f64 {
 pub fn amax_column(xs: &[f64], n: usize, j: usize) -> f64 {
     amax_of(column(xs, n, j))
 }
+
+/// The bits, one pattern for every NaN: NaN equals NaN in comparisons.
+pub fn bits(x: f64) -> u64 {
+    if x.is_nan() {
+        0x7FF8000000000000
+    } else {
+        x.to_bits()
+    }
+}

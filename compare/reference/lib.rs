@@ -6,6 +6,7 @@ pub mod calls;
 pub mod covariance;
 pub mod eigen;
 pub mod expected_returns;
+pub mod flat;
 pub mod input;
 pub mod leaves;
 pub mod matrix;

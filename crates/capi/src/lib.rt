@@ -1,2 +1,5 @@
 // The engine with C linkage, over flat numbers and slices.
+pub mod jacobi;
 pub mod leaf;
+mod report;
+mod settings;

@@ -1,4 +1,11 @@
 -- The laws that the proofs of the estimators share.
 pub mod Stored
+pub mod Formed
+pub mod Sums
+pub mod Mirror
+pub mod Halves
+pub mod Firsts
+pub mod Entries
+pub mod OfGiven
 pub mod Exponents
 pub mod Gathered

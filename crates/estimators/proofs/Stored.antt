@@ -14,7 +14,7 @@ use lib.Seq.{length-take-le, getD-take, getD-drop, getD-append-add, ext-getD}
 use lib.Ieee.{Float, nan}
 use Rattle.leaves.specs.Loops.{tab, nth}
 use Rattle.leaves.proofs.Whole.{le-or-lt}
-use Rattle.leaves.proofs.Loops.{row, row-below, col-below, length-tab}
+use Rattle.leaves.proofs.Loops.{row, row-below, col-below, length-tab, tab-ext}
 use Rattle.matrix.specs.Matrix.{Matrix, at, rows}
 use Rattle.matrix.proofs.Stored.{entry-at, rows-at, rows-ext}
 
@@ -29,9 +29,6 @@ tab-nth f (suc n) (suc k) h = tab-nth (λ k. f (suc k)) n k (le-of-suc-le-suc h)
 pub tab-is : (l : List Float) (n : ℕ) (f : ℕ → Float) → length l ≡ n → ((k : ℕ) → k < n → nth l k ≡ f k) → l ≡ tab n f
 tab-is l n f e h =
     ext-getD nan l (tab n f) (e ∙ sym (length-tab f n)) (λ k b. let b′ : k < n = omega arith in h k b′ ∙ sym (tab-nth f n k b′))
-
-pub tab-ext : (f g : ℕ → Float) (n : ℕ) → ((k : ℕ) → k < n → f k ≡ g k) → tab n f ≡ tab n g
-tab-ext f g n h = tab-is (tab n f) n g (length-tab f n) (λ k b. tab-nth f n k b ∙ h k b)
 
 -- a list made of a list, number by number
 pub tab-then : (l : List Float) (n : ℕ) (f : ℕ → Float) (g : ℕ → Float → Float) → l ≡ tab n f → tab n (λ k. g k (nth l k)) ≡ tab n (λ k. g k (f k))
@@ -76,8 +73,7 @@ rows-is l n f e h = tab-is l (n * n) (λ k. f (k / n) (k % n)) e (λ k b. sym (e
 -- a table made of a table, entry by entry
 pub rows-then : (l : List Float) (n : ℕ) (f : Matrix) (g : ℕ → ℕ → Float → Float) → l ≡ rows n n f → rows n n (λ i j. g i j (at l n i j)) ≡ rows n n (λ i j. g i j (f i j))
 rows-then l n f g e =
-    rows-ext (λ i j. g i j (at l n i j)) (λ i j. g i j (f i j)) n
-    (λ i j hi hj. ap (g i j) (ap (λ (m : List Float). at m n i j) e ∙ rows-at f n i j hi hj))
+    rows-ext n n (λ i j. g i j (at l n i j)) (λ i j. g i j (f i j)) (λ i j hi hj. ap (g i j) (ap (λ (m : List Float). at m n i j) e ∙ rows-at f n n i j hi hj))
 
 -- a table of which row i is replaced from column b on
 module _ (n i b a m : ℕ) (l ys : List Float) (f : Matrix) (len : length l ≡ n * n) (hi : i < n) (hb : b ≤ n) (ea : a ≡ i * n + b) (em : m ≡ n - b) (long : length ys ≡ m) where
@@ -128,11 +124,11 @@ module _ (n : ℕ) (F : Matrix) (old : List Float) where
   passed-none len = rows-is old n (λ p q. cond (ltb p 0) (F p q) (at old n p q)) len (λ p q hp hq. rw (le-ltb p 0 (omega arith)))
 
   pub passed-all : (i : ℕ) (out : List Float) → i ≤ n → n ≤ i → out ≡ passed n i F old → out ≡ rows n n F
-  passed-all i out h h′ e = e ∙ rows-ext (λ p q. cond (ltb p i) (F p q) (at old n p q)) F n (λ p q hp hq. rw (lt-ltb p i (omega arith)))
+  passed-all i out h h′ e = e ∙ rows-ext n n (λ p q. cond (ltb p i) (F p q) (at old n p q)) F (λ p q hp hq. rw (lt-ltb p i (omega arith)))
 
   module _ (i : ℕ) (out : List Float) (e : out ≡ passed n i F old) where
     passed-at : (p q : ℕ) → p < n → q < n → at out n p q ≡ cond (ltb p i) (F p q) (at old n p q)
-    passed-at p q hp hq = ap (λ (l : List Float). at l n p q) e ∙ rows-at (λ p q. cond (ltb p i) (F p q) (at old n p q)) n p q hp hq
+    passed-at p q hp hq = ap (λ (l : List Float). at l n p q) e ∙ rows-at (λ p q. cond (ltb p i) (F p q) (at old n p q)) n n p q hp hq
 
     -- before row i, and from there on
     pub passed-before : (p q : ℕ) → p < n → q < n → p < i → at out n p q ≡ F p q
@@ -143,7 +139,7 @@ module _ (n : ℕ) (F : Matrix) (old : List Float) where
 
     -- a turn
     pub passed-more : (f : Matrix) (next : List Float) → next ≡ rows n n (λ p q. cond (eqb p i) (f p q) (at out n p q)) → ((q : ℕ) → i < n → q < n → f i q ≡ F i q) → next ≡ passed n (i + 1) F old
-    passed-more f next e′ same = e′ ∙ rows-ext (λ p q. cond (eqb p i) (f p q) (at out n p q)) (λ p q. cond (ltb p (i + 1)) (F p q) (at old n p q)) n entry
+    passed-more f next e′ same = e′ ∙ rows-ext n n (λ p q. cond (eqb p i) (f p q) (at out n p q)) (λ p q. cond (ltb p (i + 1)) (F p q) (at old n p q)) entry
       where
         entry : (p q : ℕ) → p < n → q < n → cond (eqb p i) (f p q) (at out n p q) ≡ cond (ltb p (i + 1)) (F p q) (at old n p q)
         entry p q hp hq =

@@ -1,6 +1,7 @@
 -- Document 01: "Records", "Estimators" and "Causes".
 pub mod Refusals
 pub mod Sample
+pub mod Rows
 pub mod Weighted
 pub mod Semi
 pub mod Given
@@ -13,4 +14,6 @@ pub mod BayesStein
 pub mod Gather
 pub mod Stein
 pub mod Order
+pub mod Checks
+pub mod Opening
 pub mod Calls

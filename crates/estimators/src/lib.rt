@@ -1,9 +1,20 @@
 // The records of document 01 that cross a call.
 mod bayes_stein;
+mod checks;
 mod forms;
 mod gather;
+mod given;
+mod gram;
 mod james_stein;
 mod moments;
+mod opening;
+mod rows;
+mod tables;
+mod validate;
+mod vectors;
+
+// The most periods of a return matrix: the definitions' `maxPeriods`.
+pub const MAX_PERIODS: usize = 4096;
 
 // The weighted case carries its half-life, in periods, and the case below a threshold the threshold.
 pub enum Estimate {

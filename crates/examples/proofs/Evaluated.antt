@@ -5,7 +5,8 @@ use lib.Ieee.{Float, binary64, add, sub, mul, div, neg, lt, le, eq, ne, isNan, f
 use Rattle.leaves.specs.Numbers.{isFinite, abs, signum, clamp01, max0, min0, larger, smaller}
 use Rattle.leaves.specs.Loops.{loop, sumTo, amaxTo, maxTo, minTo, firstTo, tab, fill}
 use Rattle.leaves.specs.Scaling.{binaryExponent, times, pow2Scaled}
-use Rattle.leaves.specs.Root.{root, sticky, halfExponent, radicand, shift, sqrt}
+use Rattle.leaves.specs.Shift.{shift}
+use Rattle.leaves.specs.Root.{root, sticky, halfExponent, radicand, sqrt}
 use Rattle.leaves.specs.Exp.{floor, horner, nearestPower, reduced, exp, expM1}
 use Rattle.matrix.specs.Matrix.{rows, trace, amax, sumOver, total, squares, firstEntry, allFinite}
 use Rattle.matrix.specs.Rotation.{tangent, turn, turnColumns, turnRows, rotated, rotateBy, rotate}

@@ -1,5 +1,5 @@
--- The sum, difference, product and quotient of shifted values are the shifted results, exactly, and in what range a result lies. Design, section 5, the table:
--- a sum or difference asks only that nothing overflows; a product or quotient also that the exact result is a whole number of units or in the normal range (`Grained 0`). Shifts go up;
+-- The sum, difference, product and quotient of shifted values are the shifted results, exactly, and in what range a result lies.
+-- A sum or difference asks only that nothing overflows; a product or quotient also that the exact result is a whole number of units or in the normal range (`Grained 0`). Shifts go up;
 -- downwards the same is read from the other side (`shift-back`).
 -- `Moved k g l h x x'` puts a value and its copy together: x is a multiple of 2 ^ g units, zero or from 2 ^ l to 2 ^ h units, and x' is x shifted by k. One law for each operation gives
 -- the result and its copy from the operands and theirs. Assumes nothing.
@@ -13,13 +13,15 @@ use lib.Dec.{T}
 use lib.IntN.{pos}
 use lib.Pow.{pow-add, pow-pos, pow-mono}
 use lib.Ieee.{Float, binary64, unlike, neg, sub, fits}
+use lib.Ieee.Fits.{neg-fits}
 use lib.Ieee.Positive.{first-pos}
 use Rattle.leaves.specs.Numbers.{_⊕_, _⊖_, _⊗_, _⊘_, zero⁺, isFinite, abs}
 use Rattle.leaves.specs.Shift.{shift}
 use Rattle.leaves.proofs.Shift.{shift-zero, shift-shift, shift-zero⁺, neg-shift, abs-shift}
 use Rattle.leaves.proofs.Rounding.{near, Held, Grained, whole, normal, near-most, held-pow, grained-finer}
-use Rattle.leaves.proofs.Units.{U, U-pos, Top, pow-under-Top, Val, rounded, sign, mag, mag-val, val-shift, rounded-under, rounded-shift, sumSign, total, sumSign-times, total-times, total-le, add-rounded, mul-rounded, div-rounded, div-alike}
-use Rattle.leaves.proofs.Range.{Range, range-value, range-weaken, range-finer, range-grain, range-neg, range-abs, range-zero, range-shift, range-rounded}
+use Rattle.leaves.proofs.Units.{U, U-pos, Top, pow-under-Top, Val, rounded, sign, mag, mag-val, val-shift, rounded-under, rounded-shift}
+use Rattle.leaves.proofs.Arithmetic.{sumSign, total, sumSign-times, total-times, total-le, add-rounded, mul-rounded, div-rounded, div-alike}
+use Rattle.leaves.proofs.Range.{Range, finite-neg, range-value, range-weaken, range-finer, range-grain, range-neg, range-abs, range-zero, range-shift, range-rounded}
 
 -- ---- powers of two, and U, which is 2 ^ 1074
 pub pow-le-U : (a b c : ℕ) → a + b ≤ c + 1074 → 2 ^ a * 2 ^ b ≤ 2 ^ c * U
@@ -89,6 +91,11 @@ module _ (x y : Float) (fx : T (fits binary64 x)) (fy : T (fits binary64 y)) (nx
       div-shift-under x y (sign x) (sign y) (mag x) (mag y) vx vy k N G
       (rounded-under (unlike (sign x) (sign y)) (mag x * U * 2 ^ k) (mag y) N (rw (div-shifted x y (sign x) (sign y) (mag x) (mag y) vx vy k N) at f))
 
+pub sub-shift : (x y : Float) → T (fits binary64 x) → T (fits binary64 y) → T (isFinite x) → T (isFinite y) → (k : ℕ) → T (isFinite (shift (pos k) x ⊖ shift (pos k) y)) → shift (pos k) x ⊖ shift (pos k) y ≡ shift (pos k) (x ⊖ y)
+sub-shift x y fx fy nx ny k f =
+    let e : shift (pos k) x ⊖ shift (pos k) y ≡ shift (pos k) x ⊕ shift (pos k) (neg y) = sub-is (shift (pos k) x) (shift (pos k) y) ∙ ap (λ (z : Float). shift (pos k) x ⊕ z) (neg-shift (pos k) y) in
+    e ∙ add-shift x (neg y) fx (neg-fits binary64 y fy) nx (finite-neg y ny) k (rw e at f) ∙ ap (shift (pos k)) (sym (sub-is x y))
+
 -- ---- ranges
 module _ {g L₁ B₁ L₂ B₂ : ℕ} {x y : Float} (r : Range g L₁ B₁ x) (p : Range g L₂ B₂ y) where
   sum-at-most : total (sign x) (mag x) (sign y) (mag y) ≤ B₁ + B₂
@@ -108,6 +115,9 @@ module _ {g L₁ B₁ L₂ B₂ : ℕ} {x y : Float} (r : Range g L₁ B₁ x) (
       let n = total (sign x) (mag x) (sign y) (mag y) in
       add-shift-under x y (sign x) (sign y) (mag x) (mag y) (range-value r) (range-value p) k
       (lt-of-le-of-lt (near-most (n * 2 ^ k) 1 B (zero-lt-suc 0) H (le-trans (mul-le-mul-right (2 ^ k) sum-at-most) (le-trans h (le-of-eq (sym (mul-one B)))))) o)
+
+pub range-sub : {g L₁ B₁ L₂ B₂ : ℕ} {x y : Float} → Range g L₁ B₁ x → Range g L₂ B₂ y → (B : ℕ) → B₁ + B₂ ≤ B → Held B → B < Top → Range g (2 ^ g) B (x ⊖ y)
+range-sub {x = x} {y} r p B h H o = rw (sub-is x y) (range-add r (range-neg p) B h H o)
 
 -- a fraction that is zero or large
 zero-or-large : (g n d : ℕ) → (0 < n → 2 ^ (g + 52) * d ≤ n) → Grained g n d

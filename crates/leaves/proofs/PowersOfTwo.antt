@@ -1,6 +1,6 @@
 -- b(x) and pow2_scaled under a shift. b(x) grows by k (`exponent-shift`) and says where the leading bit is (`exponent-range`). pow2_scaled x j is the shift by j wherever the result is a value of
 -- the format: that is, where x's last bit stays a unit or more and x stays below 2 ^ 1024 (`scaled-moves`). So scaling by the power of two of a number that is shifted too gives the same
--- float (`same-scaled`), and one number scaled by 2 ^ j and by 2 ^ (j + k) gives a float and its shift (`scaled-copy`). Design, section 5. Assumes nothing.
+-- float (`same-scaled`), and one number scaled by 2 ^ j and by 2 ^ (j + k) gives a float and its shift (`scaled-copy`). Assumes nothing.
 use mathlib.Core.Path.{_≡_, refl, sym, ap, _∙_, subst}
 use mathlib.Core.Logic.{inl, inr}
 use Prim.Native.Nat.{ℕ, zero, suc, _+_, _-_, _*_, _%_, _^_, _≤_, _<_}
@@ -22,7 +22,7 @@ use Rattle.leaves.proofs.Laws.{fits→room, room→fits, digits-in, siz
 use Rattle.leaves.proofs.Scale.{scaled-exact}
 use Rattle.leaves.proofs.Shift.{shift-shift, shift-value, isFinite-shift}
 use Rattle.leaves.proofs.Rounding.{in-place}
-use Rattle.leaves.proofs.Units.{U, U-pos, Val, sign, mag, val-mag, mag-val}
+use Rattle.leaves.proofs.Units.{U, U-pos, Val, sign, mag, zero-mag, mag-val}
 use Rattle.leaves.proofs.Range.{Range, range-value}
 
 -- ---- the last and the leading bit of a value in range
@@ -105,9 +105,6 @@ shift-null k (fin s zero e) t f z = refl
 shift-null k (fin s (suc m) e) t f z = absurd (lt-irrefl 0 (subst (λ (n : ℕ). 0 < n) (mag-val (fin s (suc m) e) t f .1 ∙ ap (λ (n : ℕ). n * down e) z ∙ zero-mul (down e)) (mul-pos (mul-pos (zero-lt-suc m) (up-pos e)) U-pos)))
 
 -- ---- b(x)
-zero-mag : (s : Bool) (e : ℤ) → mag (fin s zero e) ≡ 0
-zero-mag s e = val-mag (fin s zero e) s 0 (refl, simp zero-mul) .1
-
 pub exponent-shift : (k : ℤ) (x : Float) → T (isFinite x) → 0 < mag x → binaryExponent (shift k x) ≡ binaryExponent x +ℤ k
 unfolding binaryExponent shift isFinite over under
 exponent-shift k nan f p = absurd f

@@ -1,10 +1,10 @@
 -- `Range g L B x`: x is a finite value of binary64, a multiple of 2 ^ g units, zero or of L units at least, and of B units at most. A unit is 2 ^ -1074, so 2 ^ n units are
 -- 2 ^ (n - 1074). The grain g and the least size L stand apart: a difference keeps its operands' grain and loses their size. Here is how a range is known: from a wider one, from the
--- value's size, from a test that computes, of a shifted value, of a count, and of a fraction that is rounded. Design, section 5. Assumes nothing.
-use mathlib.Core.Path.{_≡_, refl, sym, ap, _∙_, subst}
+-- value's size, from a test that computes, of a shifted value, of a count, and of a fraction that is rounded. Assumes nothing.
+use mathlib.Core.Path.{_≡_, sym, ap, _∙_, subst}
 use mathlib.Core.Logic.{_⊎_, inl, inr}
 use Prim.Native.Nat.{ℕ, _+_, _-_, _*_, _^_, _≤_, _<_, zero-le}
-use native.Mathlib.Nat.{le-trans, le-of-eq, le-of-lt, lt-of-lt-of-le, lt-of-le-of-lt, lt-irrefl, eq-zero-or-pos, zero-mul, one-mul, mul-one, mul-assoc, mul-le-mul-right}
+use native.Mathlib.Nat.{le-trans, le-of-eq, le-of-lt, lt-of-lt-of-le, lt-of-le-of-lt, lt-irrefl, eq-zero-or-pos, zero-mul, one-mul, mul-one, mul-assoc, mul-pos, mul-le-mul-right}
 use mathlib.Core.Bool.{Bool, true, false, _&&_, _||_}
 use lib.Dec.{leb→le, eqb→eq, T, leb, eqb, lit<}
 use lib.IntN.{pos}
@@ -18,7 +18,7 @@ use Rattle.leaves.specs.Numbers.{zero⁺, count, isFinite, abs}
 use Rattle.leaves.specs.Shift.{shift}
 use Rattle.leaves.proofs.Shift.{isFinite-shift}
 use Rattle.leaves.proofs.Rounding.{near, Held, Grained, near-most, near-least, near-grain, held-small, held-grain, in-place}
-use Rattle.leaves.proofs.Units.{U, U-is, Top, Val, val-of, rounded, sign, mag, val-mag, val-finite, mag-val, mag-held, mag-neg, mag-shift, fits-shift, rounded-fits, rounded-val}
+use Rattle.leaves.proofs.Units.{U, U-pos, zero-mag, U-is, Top, Val, val-of, rounded, sign, mag, val-mag, val-finite, mag-val, mag-held, mag-neg, mag-shift, fits-shift, rounded-fits, rounded-val}
 
 pub record Range (g L B : ℕ) (x : Float) : Type 0 where
   pub fit : T (fits binary64 x)
@@ -58,7 +58,7 @@ range-grain {g} {x = x} r = record {
     go (inr q) p = le-trans (le-of-eq (sym (one-mul (2 ^ g)))) (le-trans (mul-le-mul-right (2 ^ g) q) (le-of-eq (sym (r .grain))))
 
 -- ---- the sign
-finite-neg : (x : Float) → T (isFinite x) → T (isFinite (neg x))
+pub finite-neg : (x : Float) → T (isFinite x) → T (isFinite (neg x))
 unfolding isFinite neg
 finite-neg nan t = t
 finite-neg (inf s) t = t
@@ -85,11 +85,8 @@ range-abs {g} {L} {B} {x} r = go x r
 
 -- ---- zero
 pub range-zero : (g L B : ℕ) → Range g L B zero⁺
-unfolding fits isFinite mag
-range-zero g L B = record { fit = tt; finite = tt; count = 0; grain = z ∙ sym (zero-mul (2 ^ g)); least = λ p. absurd (lt-irrefl 0 (rw z at p)); most = rw z zero-le }
-  where
-    z : mag zero⁺ ≡ 0
-    z = val-mag zero⁺ false 0 (refl, simp zero-mul) .1
+unfolding fits isFinite
+range-zero g L B = let z = zero-mag false (pos 0) in record { fit = tt; finite = tt; count = 0; grain = z ∙ sym (zero-mul (2 ^ g)); least = λ p. absurd (lt-irrefl 0 (rw z at p)); most = rw z zero-le }
 
 -- ---- by the size: 2 ^ (g + 52) units and more are a multiple of 2 ^ g
 pub range-size : (g B : ℕ) (x : Float) → T (fits binary64 x) → T (isFinite x) → (mag x ≡ 0) ⊎ (2 ^ (g + 52) ≤ mag x) → mag x ≤ B → Range g (2 ^ (g + 52)) B x
@@ -132,6 +129,9 @@ range-shift {g} {L} {B} {x} k o r =
 pub count-val : (n : ℕ) → n ≤ 2 ^ 53 → Val (count n) false (n * U)
 unfolding ofInt
 count-val n h = val-of (count n) false n 1 (n * U) (lit< tt) (round-whole binary64 false n h) (sym (mul-one (n * U)))
+
+pub count-pos : (n : ℕ) → 0 < n → n ≤ 2 ^ 53 → 0 < mag (count n)
+count-pos n p h = rw (val-mag (count n) false (n * U) (count-val n h) .1) (mul-pos p U-pos)
 
 pub range-count : (c n : ℕ) → c ≤ 53 → n ≤ 2 ^ c → Range 1074 (2 ^ 1074) (2 ^ (c + 1074)) (count n)
 range-count c n l h =

@@ -73,7 +73,7 @@ module _ (n d : ℕ) (D : 0 < d) where
   dropped : 0 < drop 53 n d → 2 ^ (52 + drop 53 n d) * d ≤ n
   dropped h = le-div-iff-mul-le D .0 (size-reaches (n / d) (52 + drop 53 n d) (omega arith))
 
-  pub few-dropped : n < 2 ^ (53 + drop 53 n d) * d
+  few-dropped : n < 2 ^ (53 + drop 53 n d) * d
   few-dropped = div-lt-iff-lt-mul D .0 (lt-of-lt-of-le (size-lt (n / d)) (pow-mono {i = size (n / d)} {j = 53 + drop 53 n d} (omega arith)))
 
 -- q * 2 ^ j as a multiple of 2 ^ k, and then in steps of d * 2 ^ k
@@ -213,7 +213,7 @@ held-grain g b H h =
     go (inl l) = l
     go (inr l) = absurd (not-le-of-lt (short (H .digits) (H .zeros) g (H .few) l) (le-trans (pow-mono {i = 52 + g} {j = g + 52} (omega arith)) (le-trans h (le-of-eq (H .is)))))
 
--- ---- what `round` makes of n / d units, where l units are 1
+-- ---- what `round` makes of n / d units, of which 1 has 2 ^ 1074
 pub round-near : (s : Bool) (n d : ℕ) → 0 < d → round binary64 s n (d * 2 ^ 1074) ≡ units binary64 s (kept 53 n d) (drop 53 n d)
 round-near s n d D =
     round-is binary64 s n (d * 2 ^ 1074)

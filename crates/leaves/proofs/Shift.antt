@@ -1,5 +1,5 @@
 -- `shift k x` is 2 ^ k times x, with no rounding. Shifts add up and undo one another; no sign, test of finiteness or comparison sees them, so they go
--- through neg, abs, min and max. Design, section 5, first row of the table: always, for every value and every k. Assumes nothing.
+-- through neg, abs, min and max, for every value and every k. Assumes nothing.
 use mathlib.Core.Path.{_≡_, refl, sym, ap, ap₂, _∙_}
 use Prim.Native.Nat.{ℕ, zero, suc, _+_, _*_, _<_}
 use native.Mathlib.Nat.{le-of-eq, lt-of-lt-of-le, lt-of-le-of-lt, zero-mul, mul-assoc, mul-pos, add-mul, mul-lt-mul-of-pos-right, lt-of-mul-lt-mul-right, eq-of-mul-eq-mul-right}
@@ -165,37 +165,32 @@ module _ (k : ℤ) (m : ℕ) (e : ℤ) (n : ℕ) (d : ℤ) where
       let h = sides (n * up (expo k n d)) (down (expo k m e)) (down e) (down d) (down k) (n * up d) (up k) (down (expo k n d)) (expo-value k n d) in
       omega (arith, h)
 
-pub lt-shift : (k : ℤ) (x y : Float) → lt (shift k x) (shift k y) ≡ lt x y
-unfolding lt shift
-lt-shift k nan y = refl
-lt-shift k (inf s) nan = refl
-lt-shift k (inf s) (inf t) = refl
-lt-shift k (inf s) (fin t zero d) = refl
-lt-shift k (inf s) (fin t (suc n) d) = refl
-lt-shift k (fin s zero e) nan = refl
-lt-shift k (fin s (suc m) e) nan = refl
-lt-shift k (fin s zero e) (inf t) = refl
-lt-shift k (fin s (suc m) e) (inf t) = refl
-lt-shift k (fin s m e) (fin t n d) =
+both-shift : (k : ℤ) (x y : Float) → (lt (shift k x) (shift k y) ≡ lt x y) × (eq (shift k x) (shift k y) ≡ eq x y)
+unfolding lt eq shift
+both-shift k nan y = (refl, refl)
+both-shift k (inf s) nan = (refl, refl)
+both-shift k (inf s) (inf t) = (refl, refl)
+both-shift k (inf s) (fin t zero d) = (refl, refl)
+both-shift k (inf s) (fin t (suc n) d) = (refl, refl)
+both-shift k (fin s zero e) nan = (refl, refl)
+both-shift k (fin s (suc m) e) nan = (refl, refl)
+both-shift k (fin s zero e) (inf t) = (refl, refl)
+both-shift k (fin s (suc m) e) (inf t) = (refl, refl)
+both-shift k (fin s m e) (fin t n d) =
+    let X = m * up (expo k m e) * down (expo k n d) in
+    let Y = n * up (expo k n d) * down (expo k m e) in
+    let B = before-pos k m e n d in
+    let A = after-pos k m e n d in
+    let l = left k m e n d in
+    let r = right k m e n d in
     rw (shift-fin k s m e, shift-fin k t n d)
-    (below-scaled s t (m * up (expo k m e) * down (expo k n d)) (n * up (expo k n d) * down (expo k m e)) (before k m e n d) (after k m e n d) (m * up e * down d) (n * up d * down e)
-    (before-pos k m e n d) (after-pos k m e n d) (left k m e n d) (right k m e n d))
+    (below-scaled s t X Y (before k m e n d) (after k m e n d) (m * up e * down d) (n * up d * down e) B A l r, level-scaled s t X Y (before k m e n d) (after k m e n d) (m * up e * down d) (n * up d * down e) B A l r)
+
+pub lt-shift : (k : ℤ) (x y : Float) → lt (shift k x) (shift k y) ≡ lt x y
+lt-shift k x y = both-shift k x y .0
 
 pub eq-shift : (k : ℤ) (x y : Float) → eq (shift k x) (shift k y) ≡ eq x y
-unfolding eq shift
-eq-shift k nan y = refl
-eq-shift k (inf s) nan = refl
-eq-shift k (inf s) (inf t) = refl
-eq-shift k (inf s) (fin t zero d) = refl
-eq-shift k (inf s) (fin t (suc n) d) = refl
-eq-shift k (fin s zero e) nan = refl
-eq-shift k (fin s (suc m) e) nan = refl
-eq-shift k (fin s zero e) (inf t) = refl
-eq-shift k (fin s (suc m) e) (inf t) = refl
-eq-shift k (fin s m e) (fin t n d) =
-    rw (shift-fin k s m e, shift-fin k t n d)
-    (level-scaled s t (m * up (expo k m e) * down (expo k n d)) (n * up (expo k n d) * down (expo k m e)) (before k m e n d) (after k m e n d) (m * up e * down d) (n * up d * down e)
-    (before-pos k m e n d) (after-pos k m e n d) (left k m e n d) (right k m e n d))
+eq-shift k x y = both-shift k x y .1
 
 pub le-shift : (k : ℤ) (x y : Float) → le (shift k x) (shift k y) ≡ le x y
 unfolding le

@@ -7,7 +7,7 @@
 use mathlib.Core.Path.{_≡_, refl, sym, ap, ap₂, _∙_, subst}
 use mathlib.Core.Logic.{_⊎_, inl, inr}
 use Prim.Native.Nat.{ℕ, zero, suc, _+_, _-_, _*_, _%_, _^_, _≤_, _<_, zero-le}
-use native.Mathlib.Nat.{le-refl, le-trans, le-of-eq, le-of-lt, lt-of-lt-of-le, lt-of-le-of-lt, eq-or-lt-of-le, zero-lt-suc, zero-mul, one-mul, mul-comm, mul-assoc, mul-pos, mul-le-mul, mul-le-mul-right, mul-lt-mul-of-pos-right, lt-of-mul-lt-mul-right, eq-of-mul-eq-mul-right, pow-suc}
+use native.Mathlib.Nat.{le-refl, le-trans, le-of-eq, le-of-lt, lt-of-lt-of-le, lt-of-le-of-lt, eq-or-lt-of-le, zero-lt-suc, one-mul, mul-comm, mul-assoc, mul-pos, mul-le-mul, mul-le-mul-right, mul-lt-mul-of-pos-right, lt-of-mul-lt-mul-right, eq-of-mul-eq-mul-right, pow-suc}
 use native.Mathlib.Omega.{arith}
 use mathlib.Core.Bool.{Bool, true, false}
 use lib.Dec.{T, lit<}
@@ -27,7 +27,7 @@ use Rattle.leaves.proofs.Shift.{shift-value}
 use Rattle.leaves.proofs.Sqrts.{halved, whole, g, radicand-is, radicand-in, digits-of, result-room}
 use Rattle.leaves.proofs.SqrtLaws.{eighth, sqrt-near, sqrt-shift}
 use Rattle.leaves.proofs.Rounding.{Held, held-pow, held-grain}
-use Rattle.leaves.proofs.Units.{U, U-pos, Val, sign, mag, val-mag, val-finite, mag-val, mag-held, val-of}
+use Rattle.leaves.proofs.Units.{U, U-pos, zero-mag, Val, sign, mag, val-mag, val-finite, mag-val, mag-held, val-of}
 use Rattle.leaves.proofs.Range.{Range, range-size, range-value}
 use Rattle.leaves.proofs.Operations.{Moved, pow-le-U, U-le-pow}
 
@@ -276,8 +276,7 @@ unfolding isFinite
 range-sqrt nan r n g h a b = absurd (r .finite)
 range-sqrt (inf s) r n g h a b = absurd (r .finite)
 range-sqrt (fin s zero e) r n g h a b = unfold sqrt in
-    let z : mag (fin s zero e) ≡ 0 = val-mag (fin s zero e) s 0 (refl, simp zero-mul) .1 in
-    range-size g (2 ^ h) (fin s zero e) (r .fit) (r .finite) (inl z) (rw z zero-le)
+    range-size g (2 ^ h) (fin s zero e) (r .fit) (r .finite) (inl (zero-mag s e)) (rw (zero-mag s e) zero-le)
 range-sqrt (fin true (suc m) e) r n g h a b = no (is-below m e) n
 range-sqrt (fin false (suc m) e) r n g h a b =
     let x = fin false (suc m) e in

@@ -1,6 +1,6 @@
 -- Sums from +0 in rising index and the largest size, under a shift. `Part` is a sum under way: m terms of 2 ^ h units at most make m * 2 ^ h units at most, since that number has few
 -- digits and rounding does not pass it. So a sum of at most 2 ^ c terms stays exact under a shift as long as 2 ^ (c + h) units, shifted, do not overflow (`moved-sum`); a sum of products
--- is this with `moved-mul` for each term. Design, section 5. Assumes nothing.
+-- is this with `moved-mul` for each term. Assumes nothing.
 use mathlib.Core.Path.{_≡_, refl, sym, ap₂, _∙_, subst}
 use mathlib.Core.Logic.{inl, inr}
 use Prim.Native.Nat.{ℕ, zero, suc, _+_, _*_, _^_, _≤_, _<_}
@@ -17,7 +17,7 @@ use Rattle.leaves.specs.Loops.{loop, sumTo, amaxTo}
 use Rattle.leaves.specs.Shift.{shift}
 use Rattle.leaves.proofs.Shift.{shift-zero⁺, abs-shift, larger-shift}
 use Rattle.leaves.proofs.Rounding.{Held, held-times, held-up}
-use Rattle.leaves.proofs.Units.{Top, pow-under-Top, Val, sign, mag, mag-val, mag-abs, lt-val}
+use Rattle.leaves.proofs.Units.{zero-val, zero-mag, Top, pow-under-Top, Val, sign, mag, mag-val, mag-abs, lt-val}
 use Rattle.leaves.proofs.Range.{Range, range-weaken, range-zero}
 use Rattle.leaves.proofs.Operations.{Moved, range-add, add-copy}
 
@@ -109,10 +109,7 @@ larger-mag m x v w = go (lt m x) (sym (lt-val m x false false (mag m) (mag x) v 
 
 module _ (f : ℕ → Float) where
   amax-val : (n : ℕ) → ((t : ℕ) → t < n → T (fits binary64 (f t)) × T (isFinite (f t))) → Val (amaxTo n f) false (mag (amaxTo n f))
-  amax-val n h = amax-one (λ z. Val z false (mag z)) n f zero-val (λ t l. abs-val (f t) (h t l .0) (h t l .1))
-    where
-      zero-val : Val zero⁺ false (mag zero⁺)
-      zero-val = unfold fits isFinite sign in mag-val zero⁺ tt tt
+  amax-val n h = amax-one (λ z. Val z false (mag z)) n f (rw (zero-mag false (pos 0)) (zero-val false (pos 0))) (λ t l. abs-val (f t) (h t l .0) (h t l .1))
 
   pub amax-most : (n : ℕ) → ((t : ℕ) → t < n → T (fits binary64 (f t)) × T (isFinite (f t))) → (t : ℕ) → t < n → mag (f t) ≤ mag (amaxTo n f)
   unfolding amaxTo loop

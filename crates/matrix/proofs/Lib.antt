@@ -1,6 +1,17 @@
--- The laws that the proofs of the matrices share.
+-- The laws that the proofs of the matrices share, and the theorems about the decomposition (Sweeps, Vectors).
+-- loops, stored matrices and searches
 pub mod Steps
-pub mod First
 pub mod Stored
-pub mod Counts
+pub mod First
+pub mod Alike
 pub mod Compare
+-- counts of sweeps and rotations
+pub mod Counts
+pub mod Sweeps
+-- the size of the vectors
+pub mod Squares
+pub mod Angle
+pub mod Turn
+pub mod Rows
+pub mod Vectors
+pub mod Identity

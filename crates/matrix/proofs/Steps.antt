@@ -1,4 +1,4 @@
--- Laws of `loop`: steps that are alike, that do nothing, that are taken in two parts or row by row. Assumes nothing.
+-- Laws of `loop`: steps that do nothing, that are taken in two parts or row by row. Assumes nothing.
 use mathlib.Core.Path.{_≡_, refl, sym, ap, _∙_}
 use Prim.Native.Nat.{ℕ, zero, suc, _+_, _*_, _/_, _%_, _≤_, _<_}
 use native.Mathlib.Nat.{le-refl, le-step, zero-mul, suc-mul}
@@ -6,19 +6,13 @@ use native.Mathlib.Omega.{arith}
 use lib.Dec.{ltb}
 use lib.Ieee.{Float}
 use borrow.Author.Tests.{lt-ltb, le-ltb}
-use Rattle.leaves.specs.Numbers.{_⊕_, zero⁺, abs, larger}
-use Rattle.leaves.specs.Loops.{loop, sumTo, amaxTo}
-use Rattle.leaves.proofs.Loops.{cell-row, cell-col}
+use Rattle.leaves.specs.Numbers.{_⊕_, zero⁺}
+use Rattle.leaves.specs.Loops.{loop, sumTo}
+use Rattle.leaves.proofs.Loops.{cell-row, cell-col, loop-ext}
 use Rattle.matrix.specs.Matrix.{Matrix, sumOver, every}
 use Rattle.matrix.specs.Inner.{addKept}
 
 module _ {S : Type 0} where
-  -- alike below n
-  pub loop-ext : (f g : ℕ → S → S) (n : ℕ) (s : S) → ((k : ℕ) → k < n → (x : S) → f k x ≡ g k x) → loop n f s ≡ loop n g s
-  unfolding loop
-  loop-ext f g zero s h = refl
-  loop-ext f g (suc n) s h = ap (f n) (loop-ext f g n s (λ k l. h k (le-step l))) ∙ h n (le-refl (suc n)) (loop n g s)
-
   -- nothing done below n
   pub loop-still : (f : ℕ → S → S) (n : ℕ) (s : S) → ((k : ℕ) → k < n → (x : S) → f k x ≡ x) → loop n f s ≡ s
   unfolding loop
@@ -36,19 +30,11 @@ module _ {S : Type 0} where
   loop-rows f zero n s = ap (λ (j : ℕ). loop j (λ k. f (k / n) (k % n)) s) (sym (zero-mul n))
   loop-rows f (suc m) n s =
       ap (loop n (f m)) (loop-rows f m n s)
-      ∙ loop-ext (f m) (λ j. f ((m * n + j) / n) ((m * n + j) % n)) n (loop (m * n) (λ k. f (k / n) (k % n)) s) (λ j h x i. f (sym (cell-row m n j h) i) (sym (cell-col m n j h) i) x)
+      ∙ loop-ext n (f m) (λ j. f ((m * n + j) / n) ((m * n + j) % n)) (loop (m * n) (λ k. f (k / n) (k % n)) s) (λ j h x i. f (sym (cell-row m n j h) i) (sym (cell-col m n j h) i) x)
       ∙ sym (loop-both (λ k. f (k / n) (k % n)) (m * n) n s)
       ∙ ap (λ (j : ℕ). loop j (λ k. f (k / n) (k % n)) s) (sym (suc-mul m n))
 
 -- ---- sums
-
-pub sum-ext : (f g : ℕ → Float) (n : ℕ) → ((k : ℕ) → k < n → f k ≡ g k) → sumTo n f ≡ sumTo n g
-unfolding sumTo
-sum-ext f g n h = loop-ext (λ k s. s ⊕ f k) (λ k s. s ⊕ g k) n zero⁺ (λ k l x. ap (λ (y : Float). x ⊕ y) (h k l))
-
-pub amax-ext : (f g : ℕ → Float) (n : ℕ) → ((k : ℕ) → k < n → f k ≡ g k) → amaxTo n f ≡ amaxTo n g
-unfolding amaxTo
-amax-ext f g n h = loop-ext (λ k m. larger m (abs (f k))) (λ k m. larger m (abs (g k))) n zero⁺ (λ k l x. ap (λ (y : Float). larger x (abs y)) (h k l))
 
 -- every entry, row by row
 pub sum-every : (f : Matrix) (n : ℕ) → sumTo (n * n) (λ k. f (k / n) (k % n)) ≡ sumOver n every f zero⁺

@@ -1,18 +1,15 @@
 -- Laws of the matrices that are stored row by row, and of filling one. Assumes nothing.
-use mathlib.Core.Path.{_≡_, refl, sym, ap, _∙_}
+use mathlib.Core.Path.{_≡_, sym, ap, _∙_}
 use mathlib.Core.List.{List, [], _++_, append-nil}
 use Prim.Native.Nat.{ℕ, zero, suc, _+_, _*_, _/_, _%_, _≤_, _<_, zero-le, suc-le-suc}
-use native.Mathlib.Nat.{div-add-mod', le-of-eq, mul-zero, not-suc-le-zero}
+use native.Mathlib.Nat.{div-add-mod', div-lt-iff-lt-mul, mod-lt, le-of-eq, mul-zero, not-suc-le-zero}
 use native.Mathlib.Omega.{arith}
-use mathlib.Core.Bool.{Bool, false, cond}
-use lib.Dec.{eqb, eqb·zero-suc, eqb·suc-zero, eqb·suc-suc}
 use lib.ListN.{length, getD, drop-of-length-le}
-use lib.Ieee.{Float, nan, inf, fin, binary64, round, unlike, up, down, mul, div}
-use Rattle.leaves.specs.Numbers.{_⊗_, _⊘_, zero⁺, one, half, two}
+use lib.Ieee.{Float, nan}
+use Rattle.leaves.specs.Numbers.{_⊗_}
 use Rattle.leaves.specs.Loops.{tab, fill, nth}
-use Rattle.leaves.proofs.Loops.{row-below, col-below, cell, cell-row, cell-col, length-tab, fill-at, fill-ext, Filled, filled-all}
-use Rattle.matrix.specs.Matrix.{Matrix, at, rows, identity, product}
-use Rattle.matrix.proofs.Steps.{sum-ext}
+use Rattle.leaves.proofs.Loops.{cell, cell-row, cell-col, length-tab, fill-at, fill-ext, Filled, filled-all, sum-ext}
+use Rattle.matrix.specs.Matrix.{Matrix, at, rows, product}
 
 -- a matrix with a cell k has a column
 pub has-column : (k m n : ℕ) → k < m * n → 0 < n
@@ -41,36 +38,23 @@ tab-fill : (f : ℕ → Float) (n : ℕ) → tab n f ≡ fill n f []
 unfolding fill
 tab-fill f n = sym (ap (λ (r : List Float). tab n f ++ r) (drop-of-length-le [] {i = n} (omega arith)) ∙ append-nil (tab n f))
 
-pub rows-at : (f : Matrix) (n i j : ℕ) → i < n → j < n → at (rows n n f) n i j ≡ f i j
+pub rows-at : (f : Matrix) (m n i j : ℕ) → i < m → j < n → at (rows m n f) n i j ≡ f i j
 unfolding rows
-rows-at f n i j hi hj =
-    ap (λ (l : List Float). getD l (i * n + j) nan) (tab-fill (λ k. f (k / n) (k % n)) (n * n))
-    ∙ fill-at (λ k. f (k / n) (k % n)) (n * n) [] (i * n + j) nan (cell i n j n hi hj)
+rows-at f m n i j hi hj =
+    ap (λ (l : List Float). getD l (i * n + j) nan) (tab-fill (λ k. f (k / n) (k % n)) (m * n))
+    ∙ fill-at (λ k. f (k / n) (k % n)) (m * n) [] (i * n + j) nan (cell i m j n hi hj)
     ∙ (λ t. f (cell-row i n j hj t) (cell-col i n j hj t))
 
-pub rows-ext : (f g : Matrix) (n : ℕ) → ((i j : ℕ) → i < n → j < n → f i j ≡ g i j) → rows n n f ≡ rows n n g
+-- alike within m rows and n columns, two matrices are alike cell by cell
+pub cell-ext : {A : Type 0} (m n : ℕ) (f g : ℕ → ℕ → A) → ((i j : ℕ) → i < m → j < n → f i j ≡ g i j) → (k : ℕ) → k < m * n → f (k / n) (k % n) ≡ g (k / n) (k % n)
+cell-ext m n f g h k l = let p = has-column k m n l in h (k / n) (k % n) (div-lt-iff-lt-mul p .1 l) (mod-lt k p)
+
+pub rows-ext : (m n : ℕ) (f g : Matrix) → ((i j : ℕ) → i < m → j < n → f i j ≡ g i j) → rows m n f ≡ rows m n g
 unfolding rows
-rows-ext f g n h =
-    tab-fill (λ k. f (k / n) (k % n)) (n * n)
-    ∙ fill-ext (λ k. f (k / n) (k % n)) (λ k. g (k / n) (k % n)) (n * n) [] (λ k l. h (k / n) (k % n) (row-below k n l) (col-below k n l))
-    ∙ sym (tab-fill (λ k. g (k / n) (k % n)) (n * n))
+rows-ext m n f g h =
+    tab-fill (λ k. f (k / n) (k % n)) (m * n)
+    ∙ fill-ext (λ k. f (k / n) (k % n)) (λ k. g (k / n) (k % n)) (m * n) [] (cell-ext m n f g h)
+    ∙ sym (tab-fill (λ k. g (k / n) (k % n)) (m * n))
 
-pub product-ext : (f f′ g g′ : Matrix) (n i j : ℕ) → ((k : ℕ) → k < n → f i k ≡ f′ i k) → ((k : ℕ) → k < n → g k j ≡ g′ k j) → product n f g i j ≡ product n f′ g′ i j
-product-ext f f′ g g′ n i j hf hg = sum-ext (λ k. f i k ⊗ g k j) (λ k. f′ i k ⊗ g′ k j) n (λ k h t. hf k h t ⊗ hg k h t)
-
--- the identity is its transpose
-pub identity-sym : (i j : ℕ) → identity i j ≡ identity j i
-identity-sym i j = ap (λ (b : Bool). cond b one zero⁺) (eqb-sym i j)
-  where
-    eqb-sym : (i j : ℕ) → eqb i j ≡ eqb j i
-    eqb-sym zero zero = refl
-    eqb-sym zero (suc j) = eqb·zero-suc j ∙ sym (eqb·suc-zero j)
-    eqb-sym (suc i) zero = eqb·suc-zero i ∙ sym (eqb·zero-suc i)
-    eqb-sym (suc i) (suc j) = eqb·suc-suc i j ∙ eqb-sym i j ∙ sym (eqb·suc-suc j i)
-
--- half a number, two ways
-pub halved : (x : Float) → x ⊘ two ≡ x ⊗ half
-unfolding div mul
-halved nan = refl
-halved (inf s) = refl
-halved (fin s m e) = let num : m * up e * 1 ≡ m * up e * (1 * 1) = omega arith in let den : 1 * 2 * down e ≡ down e * 2 = omega arith in λ i. round binary64 (unlike s false) (num i) (den i)
+pub product-ext : (n : ℕ) (f f′ g g′ : Matrix) (i j : ℕ) → ((k : ℕ) → k < n → f i k ≡ f′ i k) → ((k : ℕ) → k < n → g k j ≡ g′ k j) → product n f g i j ≡ product n f′ g′ i j
+product-ext n f f′ g g′ i j hf hg = sum-ext n (λ k. f i k ⊗ g k j) (λ k. f′ i k ⊗ g′ k j) (λ k h t. hf k h t ⊗ hg k h t)

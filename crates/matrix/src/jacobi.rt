@@ -1,14 +1,20 @@
 // The decomposition of a symmetric matrix by sweeps of Jacobi rotations (eigen.rs, `SymmetricEigen::new` from V = I).
 ghost use mathlib.Core.Path.{_≡_};
+ghost use mathlib.Core.Bool.{true, false};
 ghost use Prim.Native.Nat.{ℕ, suc, _+_, _*_, _-_, _<_, _≤_};
+ghost use lib.Dec.{T};
 ghost use lib.ListN.{length};
+ghost use lib.Ieee.{eq};
+ghost use Rattle.leaves.specs.Numbers.{_⊘_, zero⁺, isFinite};
 ghost use Rattle.leaves.specs.Loops.{loop};
 ghost use Rattle.matrix.specs.Limits.{maxSide, maxSweeps};
-ghost use Rattle.matrix.specs.Matrix.{at, rows, identity};
+ghost use Rattle.matrix.specs.Matrix as Matrix;
+ghost use Rattle.matrix.specs.Matrix.{at, allFinite};
 ghost use Rattle.matrix.specs.Rotation as Rotation;
 ghost use Rattle.matrix.specs.Jacobi as Jacobi;
 ghost use Rattle.matrix.specs.Inner.{state, counted, sweptTo, decomposed};
 use crate::entries::amax;
+use crate::entries::get;
 use crate::places::all_finite;
 use crate::rotation::rotate;
 use crate::sums::off_diagonal;
@@ -96,15 +102,22 @@ pub fn sweeping(a: &mut [f64], v: &mut [f64], n: usize, limit: usize, tolerance:
 
 // ---- the decomposition
 
-// VᵀAV at V = I, for A over its largest entry, averaged with its transpose, in `work`. `other` is overwritten.
-fn start(a: &[f64], n: usize, scale: f64, v: &[f64], other: &mut [f64], work: &mut [f64])
-    requires { ⌜ (length (now a) ≡ n * n) × (now v ≡ rows n n identity) × (length (now other) ≡ n * n) × (length (now work) ≡ n * n) ⌝ }
-    ensures { λ _. ⌜ now (work .exit) ≡ Jacobi.start n scale (at (now (a .entry)) n) ⌝ }
+// What the sweeps begin with: VᵀAV at V = I, for A over its largest size, averaged with its
+// transpose. The products with I only turn -0 into +0, as adding +0 does.
+fn start(a: &[f64], n: usize, scale: f64, out: &mut [f64])
+    requires { ⌜ (length (now a) ≡ n * n) × (length (now out) ≡ n * n) × ((i j : ℕ) → i < n → j < n → T (isFinite (at (now a) n i j ⊘ scale))) ⌝ }
+    ensures { λ _. ⌜ now (out .exit) ≡ Jacobi.start n scale (at (now (a .entry)) n) ⌝ }
 {
-    tables::divide(a, n, scale, other);
-    tables::multiply(v, other, n, work);
-    tables::multiply(work, v, n, other);
-    tables::average(other, n, work);
+    let size = n * n;
+    let mut k = 0;
+    while k < size {
+        let i = k / n;
+        let j = k % n;
+        let x = 0.0 + get(a, n, i, j) / scale;
+        let y = 0.0 + get(a, n, j, i) / scale;
+        out[k] = (x + y) * 0.5;
+        k += 1;
+    }
 }
 
 // The decomposition of a finite matrix whose largest size, `scale`, is not 0.
@@ -113,16 +126,15 @@ fn turned(
     n: usize,
     limit: usize,
     scale: f64,
-    other: &mut [f64],
     work: &mut [f64],
     values: &mut [f64],
     vectors: &mut [f64],
 ) -> Outcome
-    requires { ⌜ (n ≤ maxSide) × (limit ≤ maxSweeps) × (length (now a) ≡ n * n) × (length (now other) ≡ n * n) × (length (now work) ≡ n * n) × (length (now values) ≡ n) × (length (now vectors) ≡ n * n) ⌝ }
+    requires { ⌜ (n ≤ maxSide) × (limit ≤ maxSweeps) × (length (now a) ≡ n * n) × (length (now work) ≡ n * n) × (length (now values) ≡ n) × (length (now vectors) ≡ n * n) × (allFinite n n (at (now a) n) ≡ true) × (scale ≡ Matrix.amax n n (at (now a) n)) × (eq scale zero⁺ ≡ false) ⌝ }
     ensures { λ r. ⌜ decomposed (r .found) (now (values .exit)) (now (vectors .exit)) (r .sweeps) (r .rotations) ≡ Jacobi.scaledBack n scale (Jacobi.swept limit n (Jacobi.start n scale (at (now (a .entry)) n))) ⌝ }
 {
+    start(a, n, scale, work);
     tables::put_identity(vectors, n);
-    start(a, n, scale, vectors, other, work);
     let tolerance = 2.220446049250313e-16 * leaves::root::sqrt(squares(work, n));
     let w = sweeping(work, vectors, n, limit, tolerance);
     tables::put_diagonal(work, n, scale, values);
@@ -130,7 +142,7 @@ fn turned(
 }
 
 // Nothing turned: zeros and the identity.
-fn unturned(n: usize, found: bool, values: &mut [f64], vectors: &mut [f64]) -> Outcome
+pub fn unturned(n: usize, found: bool, values: &mut [f64], vectors: &mut [f64]) -> Outcome
     requires { ⌜ (length (now values) ≡ n) × (length (now vectors) ≡ n * n) ⌝ }
     ensures { λ r. ⌜ decomposed (r .found) (now (values .exit)) (now (vectors .exit)) (r .sweeps) (r .rotations) ≡ Jacobi.unturned n found ⌝ }
 {
@@ -143,17 +155,16 @@ fn unturned(n: usize, found: bool, values: &mut [f64], vectors: &mut [f64]) -> O
     }
 }
 
-// `decompose`, with `other` and `work` to reckon in.
+// `decompose`, with `work` to reckon in.
 fn decompose_in(
     a: &[f64],
     n: usize,
     limit: usize,
-    other: &mut [f64],
     work: &mut [f64],
     values: &mut [f64],
     vectors: &mut [f64],
 ) -> Outcome
-    requires { ⌜ (n ≤ maxSide) × (limit ≤ maxSweeps) × (length (now a) ≡ n * n) × (length (now other) ≡ n * n) × (length (now work) ≡ n * n) × (length (now values) ≡ n) × (length (now vectors) ≡ n * n) ⌝ }
+    requires { ⌜ (n ≤ maxSide) × (limit ≤ maxSweeps) × (length (now a) ≡ n * n) × (length (now work) ≡ n * n) × (length (now values) ≡ n) × (length (now vectors) ≡ n * n) ⌝ }
     ensures { λ r. ⌜ decomposed (r .found) (now (values .exit)) (now (vectors .exit)) (r .sweeps) (r .rotations) ≡ Jacobi.decompose limit n (at (now (a .entry)) n) ⌝ }
 {
     let scale = amax(a, n, n);
@@ -161,7 +172,7 @@ fn decompose_in(
         if scale == 0.0 {
             return unturned(n, true, values, vectors);
         }
-        return turned(a, n, limit, scale, other, work, values, vectors);
+        return turned(a, n, limit, scale, work, values, vectors);
     }
     unturned(n, false, values, vectors)
 }
@@ -177,16 +188,7 @@ pub fn decompose(
     requires { ⌜ (n ≤ maxSide) × (limit ≤ maxSweeps) × (length (now a) ≡ n * n) × (length (now values) ≡ n) × (length (now vectors) ≡ n * n) ⌝ }
     ensures { λ r. ⌜ decomposed (r .found) (now (values .exit)) (now (vectors .exit)) (r .sweeps) (r .rotations) ≡ Jacobi.decompose limit n (at (now (a .entry)) n) ⌝ }
 {
-    let mut other = [0.0; crate::MAX_SIDE * crate::MAX_SIDE];
     let mut work = [0.0; crate::MAX_SIDE * crate::MAX_SIDE];
     let size = n * n;
-    decompose_in(
-        a,
-        n,
-        limit,
-        &mut other[..size],
-        &mut work[..size],
-        values,
-        vectors,
-    )
+    decompose_in(a, n, limit, &mut work[..size], values, vectors)
 }

@@ -1,10 +1,10 @@
 // Matrices stored whole: each function fills `out`.
 ghost use mathlib.Core.Path.{_≡_};
-ghost use Prim.Native.Nat.{ℕ, _*_, _<_};
+ghost use Prim.Native.Nat.{ℕ, _*_};
 ghost use lib.ListN.{length};
 ghost use Rattle.leaves.specs.Numbers.{_⊗_, _⊘_, zero⁺};
 ghost use Rattle.leaves.specs.Loops.{tab};
-ghost use Rattle.matrix.specs.Matrix.{at, rows, identity, product, averaged};
+ghost use Rattle.matrix.specs.Matrix.{at, rows, identity, averaged};
 use crate::entries::get;
 
 // The average with the transpose.
@@ -49,31 +49,6 @@ pub fn put_identity(out: &mut [f64], n: usize)
     let mut k = 0;
     while k < size {
         out[k] = identity_entry(k / n, k % n);
-        k += 1;
-    }
-}
-
-fn product_entry(a: &[f64], b: &[f64], n: usize, i: usize, j: usize) -> f64
-    requires { ⌜ (i < n) × (j < n) × (length (now a) ≡ n * n) × (length (now b) ≡ n * n) ⌝ }
-    ensures { λ r. ⌜ r ≡ product n (at (now (a .entry)) n) (at (now (b .entry)) n) i j ⌝ }
-{
-    let mut s = 0.0;
-    let mut k = 0;
-    while k < n {
-        s = s + get(a, n, i, k) * get(b, n, k, j);
-        k += 1;
-    }
-    s
-}
-
-pub(crate) fn multiply(a: &[f64], b: &[f64], n: usize, out: &mut [f64])
-    requires { ⌜ (length (now a) ≡ n * n) × (length (now b) ≡ n * n) × (length (now out) ≡ n * n) ⌝ }
-    ensures { λ _. ⌜ now (out .exit) ≡ rows n n (product n (at (now (a .entry)) n) (at (now (b .entry)) n)) ⌝ }
-{
-    let size = n * n;
-    let mut k = 0;
-    while k < size {
-        out[k] = product_entry(a, b, n, k / n, k % n);
         k += 1;
     }
 }

@@ -9,10 +9,10 @@ use Rattle.leaves.specs.Numbers.{_⊖_, _⊗_}
 use Rattle.leaves.specs.Loops.{sumTo, tab, nth}
 use Rattle.matrix.specs.Matrix.{at}
 use Rattle.matrix.specs.Jacobi.{Decomposition}
-use Rattle.matrix.proofs.Steps.{sum-ext}
 use Rattle.estimators.specs.BayesStein.{project, form}
 use Rattle.estimators.specs.Stein.{distanceOf}
-use Rattle.estimators.proofs.Stored.{tab-nth, tab-ext}
+use Rattle.leaves.proofs.Loops.{tab-ext, sum-ext}
+use Rattle.estimators.proofs.Stored.{tab-nth}
 use Rattle.estimators.proofs.forms.distance.Statement.{statement}
 use Rattle.estimators.proofs.forms.distance.Tie as tie
 
@@ -20,7 +20,7 @@ project-ext : (n : ℕ) (d : Decomposition) (f g : ℕ → Float) → ((i : ℕ)
 unfolding project
 project-ext n d f g h =
     tab-ext (λ e. sumTo n (λ i. at (d .vectors) n i e ⊗ f i)) (λ e. sumTo n (λ i. at (d .vectors) n i e ⊗ g i)) n
-    (λ e b. sum-ext (λ i. at (d .vectors) n i e ⊗ f i) (λ i. at (d .vectors) n i e ⊗ g i) n (λ i l. ap (λ (x : Float). at (d .vectors) n i e ⊗ x) (h i l)))
+    (λ e b. sum-ext n (λ i. at (d .vectors) n i e ⊗ f i) (λ i. at (d .vectors) n i e ⊗ g i) (λ i l. ap (λ (x : Float). at (d .vectors) n i e ⊗ x) (h i l)))
 
 squared : (n : ℕ) (d : Decomposition) (x y : List Float) (a : Float) (z q : List Float) (r : Float) → z ≡ tab n (λ i. nth y i ⊖ a ⊗ nth x i) → q ≡ project n d (nth z) → r ≡ form n d q q → r ≡ distanceOf n d x y a
 squared n d x y a z q r is-z is-q is-r =

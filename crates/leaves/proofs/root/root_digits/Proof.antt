@@ -1,121 +1,81 @@
--- `leaves::root::root_digits` meets its contract: a root is known by the rest that its square leaves.
-use mathlib.Core.Path.{_≡_, _∙_}
-use Prim.Native.Nat.{ℕ, _+_, _-_, _*_}
+-- `leaves::root::root_digits` meets its contract. The invariant is `Digits`: what the i digits found and the remainder stand for.
+use mathlib.Core.Logic.{⊎-elim}
+use Prim.Native.Nat.{_-_, _<_}
 use native.Mathlib.Omega.{arith}
-use Rattle.leaves.proofs.Roots.{exact, inexact, next-rest}
-use borrow.Author.Needs.{needs}
+use Rattle.leaves.proofs.Roots.{Digits, bounded, turn-0, turn-1, exact, inexact, all-passed}
 use Rattle.leaves.proofs.root.root_digits.Statement.{statement}
 use Rattle.leaves.proofs.root.root_digits.Tie as tie
 
-double-next : (root : ℕ) → root * 2 + 2 ≡ (root + 1) * 2
-double-next root = omega arith
+abbrev Inv-loop : tie.InvT-loop
+Inv-loop n rest₀ root₀ rem₀ i₀ rest root rem i = Digits n rest root rem i
 
-double-next-1 : (root : ℕ) → root * 2 + 3 ≡ (root + 1) * 2 + 1
-double-next-1 root = omega arith
+abbrev μ-loop : tie.MeasureT-loop
+μ-loop n rest₀ root₀ rem₀ i₀ rest root rem i = 55 - i
 
-guess-root-requires : tie.Need-guess-root-requires
-guess-root-requires c κs = search needs
+small : (l : tie.At-loop Inv-loop μ-loop) → l .loop .root < 36028797018963968
+small l = bounded (l .before .args .n) (l .loop .rest) (l .loop .root) (l .loop .rem) (l .loop .i) (l .loop .inv)
 
-mul-root : tie.Need-mul-root
-mul-root c = search needs
+loop-holds : tie.Need-loop-holds Inv-loop μ-loop
+loop-holds c = record { few = omega arith; top = omega arith; rem-le = omega arith; root-lt = omega arith; passed = omega arith }
 
-add-root : tie.Need-add-root
-add-root c = search needs
+mul-next : tie.Need-mul-next Inv-loop μ-loop
+mul-next c = omega (arith, small (c .before))
 
-rest-over-requires : tie.Need-rest-over-requires
-rest-over-requires c κs = search needs
+add-next : tie.Need-add-next Inv-loop μ-loop
+add-next c = omega (arith, small (c .before))
 
-mul-if2 : tie.Need-mul-if2
-mul-if2 c = search needs
+mul-trial : tie.Need-mul-trial Inv-loop μ-loop
+mul-trial c = omega (arith, small (c .before))
 
-mul-result : tie.Need-mul-result
-mul-result c = search needs
+add-trial : tie.Need-add-trial Inv-loop μ-loop
+add-trial c = omega (arith, small (c .before))
 
-mul-result-2 : tie.Need-mul-result-2
-mul-result-2 c = search needs
+mul-rest : tie.Need-mul-rest Inv-loop μ-loop
+mul-rest c = omega (arith, small (c .before))
 
-add-result : tie.Need-add-result
-add-result c = search needs
+mul-root : tie.Need-mul-root Inv-loop μ-loop
+mul-root c = omega (arith, small (c .before .before))
 
-returns : tie.Need-returns
-returns c = let l = c .before .before in exact _ _ _ (l .before .before .before .pre) (l .before .rest-over .ensures (l .if1 .taken)) (omega (arith, c .before .if2 .taken)) (c .if3 .taken)
+mul-root-2 : tie.Need-mul-root-2 Inv-loop μ-loop
+mul-root-2 c = omega (arith, small (c .before .before))
 
-returns-2 : tie.Need-returns-2
-returns-2 c = let l = c .before .before in inexact _ _ _ (l .before .before .before .pre) (l .before .rest-over .ensures (l .if1 .taken)) (omega (arith, c .before .if2 .taken)) (c .if3 .left)
+add-root : tie.Need-add-root Inv-loop μ-loop
+add-root c = omega (arith, small (c .before .before))
 
-mul-next : tie.Need-mul-next
-mul-next c = search needs
+add-i : tie.Need-add-i Inv-loop μ-loop
+add-i c = omega arith
 
-sub-next : tie.Need-sub-next
-sub-next c = search needs
+loop-less : tie.Need-loop-less Inv-loop μ-loop
+loop-less c = omega arith
 
-sub-next-2 : tie.Need-sub-next-2
-sub-next-2 c = search needs
+loop-again : tie.Need-loop-again Inv-loop μ-loop
+loop-again c =
+    let l = c .before .before in
+    ⊎-elim
+    (λ w. rw (w .1, w .2) (turn-0 (l .before .args .n) (l .loop .rest) (l .loop .root) (l .loop .rem) (l .loop .i) (l .loop .inv) (c .before .loop-test .taken) (w .0 .taken)))
+    (λ w. rw (w .1, w .2) (turn-1 (l .before .args .n) (l .loop .rest) (l .loop .root) (l .loop .rem) (l .loop .i) (l .loop .inv) (c .before .loop-test .taken) (w .0 .left)))
+    (c .if1 .came)
 
-mul-if4 : tie.Need-mul-if4
-mul-if4 c = search needs
+mul-result : tie.Need-mul-result Inv-loop μ-loop
+mul-result c = omega (arith, small (c .before .before))
 
-add-if4 : tie.Need-add-if4
-add-if4 c = search needs
+mul-result-2 : tie.Need-mul-result-2 Inv-loop μ-loop
+mul-result-2 c = omega (arith, small (c .before .before))
 
-mul-result-3 : tie.Need-mul-result-3
-mul-result-3 c = search needs
+add-result : tie.Need-add-result Inv-loop μ-loop
+add-result c = omega (arith, small (c .before .before))
 
-add-result-2 : tie.Need-add-result-2
-add-result-2 c = search needs
+returns : tie.Need-returns Inv-loop μ-loop
+returns c =
+    let l = c .before .before in
+    exact (l .before .args .n) (l .loop .root) (l .loop .rem) (l .before .pre) (all-passed (l .before .args .n) (l .loop .rest) (l .loop .root) (l .loop .rem) (l .loop .i) (l .loop .inv) (c .before .loop-test .left)) (l .loop .inv .rem-le) (c .if2 .taken)
 
-mul-result-4 : tie.Need-mul-result-4
-mul-result-4 c = search needs
-
-add-result-3 : tie.Need-add-result-3
-add-result-3 c = search needs
-
-returns-3 : tie.Need-returns-3
-returns-3 c =
-    let l = c .before .before .before in
-    let root = l .before .before .guess-root .result .high * 268435456 + l .before .before .guess-root .result .low in
-    let rest = l .before .rest-over .result .over in
-    let all = next-rest root rest _ (l .before .rest-over .ensures (l .if1 .taken)) (omega (arith, c .before .before .if2 .left)) in
-    double-next root ∙ exact _ (root + 1) (rest - 2 * root - 1) (l .before .before .before .pre) all (omega (arith, c .before .if4 .taken)) (c .if5 .taken)
-
-returns-4 : tie.Need-returns-4
-returns-4 c =
-    let l = c .before .before .before in
-    let root = l .before .before .guess-root .result .high * 268435456 + l .before .before .guess-root .result .low in
-    let rest = l .before .rest-over .result .over in
-    let all = next-rest root rest _ (l .before .rest-over .ensures (l .if1 .taken)) (omega (arith, c .before .before .if2 .left)) in
-    double-next-1 root ∙ inexact _ (root + 1) (rest - 2 * root - 1) (l .before .before .before .pre) all (omega (arith, c .before .if4 .taken)) (c .if5 .left)
-
-root-by-digits-requires : tie.Need-root-by-digits-requires
-root-by-digits-requires c κs = search needs
-
-returns-5 : tie.Need-returns-5
-returns-5 c = search needs
+returns-2 : tie.Need-returns-2 Inv-loop μ-loop
+returns-2 c =
+    let l = c .before .before in
+    inexact (l .before .args .n) (l .loop .root) (l .loop .rem) (l .before .pre) (all-passed (l .before .args .n) (l .loop .rest) (l .loop .root) (l .loop .rem) (l .loop .i) (l .loop .inv) (c .before .loop-test .left)) (l .loop .inv .rem-le) (c .if2 .left)
 
 pub root-digits-spec : {M : Type 1} → statement M
 root-digits-spec =
     tie.close
-    (tie.spec
-    guess-root-requires
-    mul-root
-    add-root
-    rest-over-requires
-    mul-if2
-    mul-result
-    mul-result-2
-    add-result
-    returns
-    returns-2
-    mul-next
-    sub-next
-    sub-next-2
-    mul-if4
-    add-if4
-    mul-result-3
-    add-result-2
-    mul-result-4
-    add-result-3
-    returns-3
-    returns-4
-    root-by-digits-requires
-    returns-5)
+    (tie.spec Inv-loop μ-loop loop-holds mul-next add-next mul-trial add-trial mul-rest mul-root mul-root-2 add-root add-i loop-less loop-again mul-result mul-result-2 add-result returns returns-2)

@@ -1,6 +1,6 @@
 -- `leaves::root::sqrt` meets its contract. Below, each step of the code in the machine's terms, where a signed number is read back from its bits.
 use mathlib.Core.Path.{_≡_, refl, sym, ap, _∙_, subst}
-use Prim.Native.Nat.{ℕ, zero, suc, _*_, _^_, _<_}
+use Prim.Native.Nat.{ℕ, zero, suc, _*_, _^_, _≤_, _<_}
 use native.Mathlib.Omega.{arith}
 use mathlib.Core.Bool.{true, false}
 use lib.Dec.{T}
@@ -17,7 +17,7 @@ use Rattle.leaves.specs.Root.{sticky, halfExponent, radicand, sqrt}
 use Rattle.leaves.proofs.Whole.{over, under, one-side, minus, fits-i32, back-i32}
 use Rattle.leaves.proofs.Laws.{Room, fits→room}
 use Rattle.leaves.proofs.Zero.{no, zero-not-above, zero-not-below, not-below, is-below, is-above}
-use Rattle.leaves.proofs.Sqrts.{halved, scaled, truncated, above, below64, M, M-lt, radicand-is, last}
+use Rattle.leaves.proofs.Sqrts.{halved, scaled, truncated, above, below64, M, M-lt, radicand-is, radicand-in, last}
 use Rattle.leaves.proofs.root.sqrt.Statement.{statement}
 use Rattle.leaves.proofs.root.sqrt.Tie as tie
 
@@ -116,10 +116,13 @@ module _ (m : ℕ) (e : ℤ) (p : Room (suc m) e) (b : ℤ) (fb : mag b < 2 ^ 31
       n-lt : n < 18014398509481984
       n-lt = rw n-is (M-lt m e p)
 
-      module _ (s : ℕ) (is-s : s ≡ sticky (n * 72057594037927936)) (w : Float) (is-w : w ≡ ofInt binary64 (pos s)) (r : Float) (is-r : r ≡ pow2Scaled w (rd (H -ℤ pos 55))) where
+      n-ge : 4503599627370496 ≤ n
+      n-ge = omega (arith, n-is, radicand-in m e p, radicand-is m e p)
+
+      module _ (w : Float) (is-w : w ≡ ofInt binary64 (pos (sticky (n * 72057594037927936)))) (r : Float) (is-r : r ≡ pow2Scaled w (rd (H -ℤ pos 55))) where
         w-is : w ≡ round binary64 false (sticky (radicand (suc m) e)) 1
         unfolding ofInt
-        w-is = is-w ∙ ap (λ (k : ℕ). round binary64 false k 1) (is-s ∙ ap sticky (ap (λ (k : ℕ). k * 72057594037927936) n-is ∙ sym (radicand-is m e p)))
+        w-is = is-w ∙ ap (λ (k : ℕ). round binary64 false (sticky k) 1) (ap (λ (k : ℕ). k * 72057594037927936) n-is ∙ sym (radicand-is m e p))
 
         found : r ≡ sqrt (fin false (suc m) e)
         found = rw (is-r, H-is, toZ-ofZ fits-3, w-is) (last m e p)
@@ -139,13 +142,13 @@ step-y : {x : Float} → Place x → (b : ℤ) → mag b < 2 ^ 31 → b ≡ bina
 step-y (at m e p) b fb ib y iy = y-in m e p b fb ib y iy
 
 step-n : {x : Float} → Place x → (b : ℤ) → mag b < 2 ^ 31 → b ≡ binaryExponent x → (y : Float) → y ≡ pow2Scaled x (rd (rd (pos 52 -ℤ rd (shrZ (rd b) 2)) -ℤ rd (shrZ (rd b) 2)))
-    → (n : ℕ) → n ≡ toUnsigned 64 y → n < 18014398509481984
-step-n (at m e p) b fb ib y iy n i = n-lt m e p b fb ib y iy n i
+    → (n : ℕ) → n ≡ toUnsigned 64 y → (4503599627370496 ≤ n) × (n < 18014398509481984)
+step-n (at m e p) b fb ib y iy n i = (n-ge m e p b fb ib y iy n i, n-lt m e p b fb ib y iy n i)
 
 step-r : {x : Float} → Place x → (b : ℤ) → mag b < 2 ^ 31 → b ≡ binaryExponent x → (y : Float) → y ≡ pow2Scaled x (rd (rd (pos 52 -ℤ rd (shrZ (rd b) 2)) -ℤ rd (shrZ (rd b) 2)))
-    → (n : ℕ) → n ≡ toUnsigned 64 y → (s : ℕ) → s ≡ sticky (n * 72057594037927936) → (w : Float) → w ≡ ofInt binary64 (pos s)
+    → (n : ℕ) → n ≡ toUnsigned 64 y → (w : Float) → w ≡ ofInt binary64 (pos (sticky (n * 72057594037927936)))
     → (r : Float) → r ≡ pow2Scaled w (rd (rd (shrZ (rd b) 2) -ℤ pos 55)) → r ≡ sqrt x
-step-r (at m e p) b fb ib y iy n i s is w iw r ir = found m e p b fb ib y iy n i s is w iw r ir
+step-r (at m e p) b fb ib y iy n i w iw r ir = found m e p b fb ib y iy n i w iw r ir
 
 here : (c : tie.Then3) → Place (c .before .before .before .args .x)
 unfolding ofBits div
@@ -173,19 +176,16 @@ truncating-f64-to-u64-requires c κs =
     let b = c .before .binary-exponent in
     step-y (here (c .before .before)) (b .result) (b .ok) (b .ensures) (y .result) (y .ensures)
 
-root-digits-requires : tie.Need-root-digits-requires
-root-digits-requires c κs =
+rounded-root-requires : tie.Need-rounded-root-requires
+rounded-root-requires c κs =
     let n = c .truncating-f64-to-u64 in
     let y = c .before .pow2-scaled in
     let b = c .before .before .binary-exponent in
     step-n (here (c .before .before .before)) (b .result) (b .ok) (b .ensures) (y .result) (y .ensures) (n .result) (n .ensures)
 
-nearest-u64-to-f64-requires : tie.Need-nearest-u64-to-f64-requires
-nearest-u64-to-f64-requires c κs = search needs
-
 sub-pow2-scaled-3 : tie.Need-sub-pow2-scaled-3
 sub-pow2-scaled-3 c =
-    let d = c .before .before .before .before in
+    let d = c .before .before .before in
     let b = d .binary-exponent in
     step-3 (here (d .before)) (b .result) (b .ok) (b .ensures)
 
@@ -194,13 +194,12 @@ pow2-scaled-requires-2 c κs = search needs
 
 returns-2 : tie.Need-returns-2
 returns-2 c =
-    let w = c .before .nearest-u64-to-f64 in
-    let s = c .before .before .root-digits in
-    let n = c .before .before .before .truncating-f64-to-u64 in
-    let d = c .before .before .before .before in
+    let w = c .before .rounded-root in
+    let n = c .before .before .truncating-f64-to-u64 in
+    let d = c .before .before .before in
     let y = d .pow2-scaled in
     let b = d .before .binary-exponent in
-    step-r (here (d .before .before)) (b .result) (b .ok) (b .ensures) (y .result) (y .ensures) (n .result) (n .ensures) (s .result) (s .ensures) (w .result) (w .ensures) (c .pow2-scaled2 .result) (c .pow2-scaled2 .ensures)
+    step-r (here (d .before .before)) (b .result) (b .ok) (b .ensures) (y .result) (y .ensures) (n .result) (n .ensures) (w .result) (w .ensures) (c .pow2-scaled2 .result) (c .pow2-scaled2 .ensures)
 
 returns-3 : tie.Need-returns-3
 unfolding ofBits div
@@ -213,4 +212,4 @@ returns-4 c = other (c .before .before .args .x) (c .before .if1 .left) (c .if2 
 pub sqrt-spec : {M : Type 1} → statement M
 sqrt-spec =
     tie.close
-    (tie.spec returns binary-exponent-requires sub-pow2-scaled sub-pow2-scaled-2 pow2-scaled-requires truncating-f64-to-u64-requires root-digits-requires nearest-u64-to-f64-requires sub-pow2-scaled-3 pow2-scaled-requires-2 returns-2 returns-3 returns-4)
+    (tie.spec returns binary-exponent-requires sub-pow2-scaled sub-pow2-scaled-2 pow2-scaled-requires truncating-f64-to-u64-requires rounded-root-requires sub-pow2-scaled-3 pow2-scaled-requires-2 returns-2 returns-3 returns-4)

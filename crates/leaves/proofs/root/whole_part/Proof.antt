@@ -1,4 +1,4 @@
--- `leaves::root::whole_part` meets its contract: a remainder is below its divisor. The two tests are what the cast asks.
+-- `leaves::root::whole_part` promises nothing; its two tests are what the cast asks.
 use mathlib.Core.Path.{sym, subst}
 use lib.Dec.{T}
 use lib.Ieee.{neg, ofBits}

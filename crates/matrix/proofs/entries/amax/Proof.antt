@@ -6,15 +6,15 @@ use borrow.Author.Needs.{needs}
 use lib.ListN.{length}
 use lib.Ieee.{Float}
 use Rattle.leaves.specs.Loops.{amaxTo, nth}
+use Rattle.leaves.proofs.Loops.{amax-ext}
 use Rattle.matrix.specs.Matrix.{at, amax}
-use Rattle.matrix.proofs.Steps.{amax-ext}
 use Rattle.matrix.proofs.Stored.{entry-at}
 use Rattle.matrix.proofs.entries.amax.Statement.{statement}
 use Rattle.matrix.proofs.entries.amax.Tie as tie
 
 by-rows : (a : List Float) (m n : ℕ) {x : Float} → x ≡ amaxTo (length a) (nth a) → length a ≡ m * n → x ≡ amax m n (at a n)
 unfolding amax
-by-rows a m n e l = e ∙ ap (λ (k : ℕ). amaxTo k (nth a)) l ∙ amax-ext (nth a) (λ k. at a n (k / n) (k % n)) (m * n) (λ k h. sym (entry-at a n k))
+by-rows a m n e l = e ∙ ap (λ (k : ℕ). amaxTo k (nth a)) l ∙ amax-ext (m * n) (nth a) (λ k. at a n (k / n) (k % n)) (λ k h. sym (entry-at a n k))
 
 amax-requires : tie.Need-amax-requires
 amax-requires c κs = search needs

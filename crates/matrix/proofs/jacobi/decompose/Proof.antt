@@ -1,4 +1,4 @@
--- `matrix::jacobi::decompose` meets its contract: `decompose_in`, in two arrays of the largest size.
+-- `matrix::jacobi::decompose` meets its contract: `decompose_in`, in an array of the largest size.
 use mathlib.Core.Path.{sym}
 use Prim.Native.Nat.{ℕ, _≤_, _*_}
 use native.Mathlib.Nat.{mul-le-mul}
@@ -14,20 +14,14 @@ square n h = mul-le-mul h h
 mul-size : tie.Need-mul-size
 mul-size c = search needs
 
-array-borrow-prefix-other : tie.Need-array-borrow-prefix-other
-array-borrow-prefix-other c = square _ (c .before .before .before .pre .0)
+array-borrow-prefix-work : tie.Need-array-borrow-prefix-work
+array-borrow-prefix-work c = square _ (c .before .before .before .pre .0)
 
 slice-aggregate-decompose-in : tie.Need-slice-aggregate-decompose-in
 slice-aggregate-decompose-in c = sym (length-take-le _ _ (square _ (c .before .before .before .before .pre .0)))
 
-array-borrow-prefix-work : tie.Need-array-borrow-prefix-work
-array-borrow-prefix-work c = square _ (c .before .before .before .before .pre .0)
-
-slice-aggregate-decompose-in-2 : tie.Need-slice-aggregate-decompose-in-2
-slice-aggregate-decompose-in-2 c = sym (length-take-le _ _ (square _ (c .before .before .before .before .before .pre .0)))
-
 decompose-in-requires : tie.Need-decompose-in-requires
-decompose-in-requires c κs = let p = c .before .before .before .before .before .before .before .pre in (p .0, p .1, p .2, length-take-le _ _ (square _ (p .0)), length-take-le _ _ (square _ (p .0)), p .3, p .4)
+decompose-in-requires c κs = let p = c .before .before .before .before .before .before .pre in (p .0, p .1, p .2, length-take-le _ _ (square _ (p .0)), p .3, p .4)
 
 same-length : tie.Need-same-length
 same-length c = search needs
@@ -39,4 +33,4 @@ returns : tie.Need-returns
 returns c = search needs
 
 pub decompose-spec : {M : Type 1} → statement M
-decompose-spec = tie.close (tie.spec mul-size array-borrow-prefix-other slice-aggregate-decompose-in array-borrow-prefix-work slice-aggregate-decompose-in-2 decompose-in-requires same-length same-length-2 returns)
+decompose-spec = tie.close (tie.spec mul-size array-borrow-prefix-work slice-aggregate-decompose-in decompose-in-requires same-length same-length-2 returns)

@@ -41,10 +41,11 @@ same-length-2 c = search needs
 
 returns : tie.Need-returns
 unfolding ofBits
-returns c = let a = c .before .before .before .before .before .before .before .before .before .before .before .before .before .before .before .before .args in zero (a .n) (a .limit) (at (a .a .now) (a .n)) (c .before .before .before .before .before .before .before .before .before .before .amax .ensures) (c .before .before .before .before .before .before .before .before .before .all-finite .ensures) _ (c .before .before .before .before .before .before .before .before .if1 .taken) (c .before .before .before .before .before .before .before .if2 .taken) (c .before .before .before .before .unturned .ensures)
+returns c = let a = c .before .before .before .before .before .before .before .before .before .before .before .before .before .before .before .args in zero (a .n) (a .limit) (at (a .a .now) (a .n)) (c .before .before .before .before .before .before .before .before .before .before .amax .ensures) (c .before .before .before .before .before .before .before .before .before .all-finite .ensures) _ (c .before .before .before .before .before .before .before .before .if1 .taken) (c .before .before .before .before .before .before .before .if2 .taken) (c .before .before .before .before .unturned .ensures)
 
 turned-requires : tie.Need-turned-requires
-turned-requires c κs = search needs
+unfolding ofBits
+turned-requires c κs = let p = c .before .before .before .before .before .before .before .before .before .before .before .pre in (p .0, p .1, p .2, p .3, p .4, p .5, sym (c .before .before .before .before .before .all-finite .ensures) ∙ c .before .before .before .before .if1 .taken, c .before .before .before .before .before .before .amax .ensures, c .before .before .before .if2 .left)
 
 same-length-3 : tie.Need-same-length-3
 same-length-3 c = search needs
@@ -55,24 +56,21 @@ same-length-4 c = search needs
 same-length-5 : tie.Need-same-length-5
 same-length-5 c = search needs
 
-same-length-6 : tie.Need-same-length-6
-same-length-6 c = search needs
-
 returns-2 : tie.Need-returns-2
 unfolding ofBits
-returns-2 c = let a = c .before .before .before .before .before .before .before .before .before .before .before .before .before .before .before .before .before .before .before .before .before .before .args in whole (a .n) (a .limit) (at (a .a .now) (a .n)) (c .before .before .before .before .before .before .before .before .before .before .before .before .before .before .before .before .amax .ensures) (c .before .before .before .before .before .before .before .before .before .before .before .before .before .before .before .all-finite .ensures) _ (c .before .before .before .before .before .before .before .before .before .before .before .before .before .before .if1 .taken) (c .before .before .before .before .before .before .before .before .before .before .before .before .before .if2 .left) (c .before .before .before .before .before .before .before .before .turned .ensures)
+returns-2 c = let a = c .before .before .before .before .before .before .before .before .before .before .before .before .before .before .before .before .before .before .args in whole (a .n) (a .limit) (at (a .a .now) (a .n)) (c .before .before .before .before .before .before .before .before .before .before .before .before .before .amax .ensures) (c .before .before .before .before .before .before .before .before .before .before .before .before .all-finite .ensures) _ (c .before .before .before .before .before .before .before .before .before .before .before .if1 .taken) (c .before .before .before .before .before .before .before .before .before .before .if2 .left) (c .before .before .before .before .before .before .turned .ensures)
 
 unturned-requires-2 : tie.Need-unturned-requires-2
 unturned-requires-2 c κs = search needs
 
+same-length-6 : tie.Need-same-length-6
+same-length-6 c = search needs
+
 same-length-7 : tie.Need-same-length-7
 same-length-7 c = search needs
 
-same-length-8 : tie.Need-same-length-8
-same-length-8 c = search needs
-
 returns-3 : tie.Need-returns-3
-returns-3 c = let a = c .before .before .before .before .before .before .before .before .before .before .before .before .before .before .before .args in not-finite (a .n) (a .limit) (at (a .a .now) (a .n)) (c .before .before .before .before .before .before .before .before .before .amax .ensures) (c .before .before .before .before .before .before .before .before .all-finite .ensures) _ (c .before .before .before .before .before .before .before .if1 .left) (c .before .before .before .before .unturned2 .ensures)
+returns-3 c = let a = c .before .before .before .before .before .before .before .before .before .before .before .before .before .before .args in not-finite (a .n) (a .limit) (at (a .a .now) (a .n)) (c .before .before .before .before .before .before .before .before .before .amax .ensures) (c .before .before .before .before .before .before .before .before .all-finite .ensures) _ (c .before .before .before .before .before .before .before .if1 .left) (c .before .before .before .before .unturned2 .ensures)
 
 pub decompose-in-spec : {M : Type 1} → statement M
-decompose-in-spec = tie.close (tie.spec amax-requires all-finite-requires unturned-requires same-length same-length-2 returns turned-requires same-length-3 same-length-4 same-length-5 same-length-6 returns-2 unturned-requires-2 same-length-7 same-length-8 returns-3)
+decompose-in-spec = tie.close (tie.spec amax-requires all-finite-requires unturned-requires same-length same-length-2 returns turned-requires same-length-3 same-length-4 same-length-5 returns-2 unturned-requires-2 same-length-6 same-length-7 returns-3)

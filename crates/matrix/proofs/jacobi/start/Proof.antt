@@ -1,57 +1,72 @@
--- `matrix::jacobi::start` meets its contract: what its four calls ensure, put together.
-use mathlib.Core.Path.{_≡_, ap, _∙_}
+-- `matrix::jacobi::start` meets its contract. The invariant: every entry passed is the average of two scaled ones, which is what the products come to.
+use mathlib.Core.Path.{_≡_, sym, _∙_}
 use mathlib.Core.List.{List}
-use Prim.Native.Nat.{ℕ, _<_}
+use Prim.Native.Nat.{ℕ, _<_, _-_, _*_, _/_, _%_}
+use native.Mathlib.Omega.{arith}
 use borrow.Author.Needs.{needs}
-use lib.ListN.{length}
-use lib.Ieee.{Float}
-use Rattle.leaves.specs.Numbers.{_⊕_, _⊗_, _⊘_, half}
-use Rattle.matrix.specs.Matrix.{Matrix, at, rows, identity, product, transpose, averaged}
+use lib.Dec.{T}
+use lib.Ieee.{Float, binary64, ofBits}
+use lib.Ieee.Fits.{div-fits}
+use Rattle.leaves.specs.Numbers.{_⊕_, _⊗_, _⊘_, zero⁺, half, isFinite}
+use Rattle.leaves.proofs.Loops.{side, row-below, col-below, Filled, filled-none, filled-more}
+use Rattle.matrix.specs.Matrix.{Matrix, at, rows}
 use Rattle.matrix.specs.Jacobi.{start}
-use Rattle.matrix.proofs.Stored.{rows-ext, rows-at, length-rows, product-ext, identity-sym, halved}
+use Rattle.matrix.proofs.Stored.{filled-rows}
+use Rattle.matrix.proofs.Identity.{scaledEntry, start-is}
 use Rattle.matrix.proofs.jacobi.start.Statement.{statement}
 use Rattle.matrix.proofs.jacobi.start.Tie as tie
 
-module _ (n : ℕ) (scale : Float) (a : List Float) {v x₁ x₂ x₃ x₄ : List Float} (ev : v ≡ rows n n identity) (e₁ : x₁ ≡ rows n n (λ i j. at a n i j ⊘ scale))
-    (e₂ : x₂ ≡ rows n n (product n (at v n) (at x₁ n))) (e₃ : x₃ ≡ rows n n (product n (at x₂ n) (at v n))) (e₄ : x₄ ≡ rows n n (averaged (at x₃ n))) where
-  -- an entry of what is known to be stored
-  entry : {x : List Float} (f : Matrix) → x ≡ rows n n f → (i j : ℕ) → i < n → j < n → at x n i j ≡ f i j
-  entry f e i j hi hj = ap (λ (x : List Float). at x n i j) e ∙ rows-at f n i j hi hj
+abbrev averagedEntry : Float → Matrix → Matrix
+averagedEntry scale a i j = (scaledEntry scale a i j ⊕ scaledEntry scale a j i) ⊗ half
 
-  unfoldable left : Matrix
-  left = product n (transpose identity) (λ i j. at a n i j ⊘ scale)
+begun : (n : ℕ) (scale : Float) (a : Matrix) {out : List Float} → out ≡ rows n n (averagedEntry scale a) → ((i j : ℕ) → i < n → j < n → T (isFinite (a i j ⊘ scale))) → out ≡ start n scale a
+begun n scale a e h = e ∙ sym (start-is n scale a (λ i j hi hj. (div-fits binary64 (a i j) scale, h i j hi hj)))
 
-  second : x₂ ≡ rows n n left
-  unfolding left
-  second = e₂ ∙ rows-ext (product n (at v n) (at x₁ n)) left n (λ i j hi hj. product-ext (at v n) (transpose identity) (at x₁ n) (λ i j. at a n i j ⊘ scale) n i j (λ k h. entry identity ev i k hi h ∙ identity-sym i k) (λ k h. entry (λ i j. at a n i j ⊘ scale) e₁ k j h hj))
+abbrev Inv-loop : tie.InvT-loop
+Inv-loop a n scale out₀ size k₀ out k = Filled (λ k. averagedEntry scale (at a n) (k / n) (k % n)) k (n * n) out₀ out
 
-  third : x₃ ≡ rows n n (product n left identity)
-  third = e₃ ∙ rows-ext (product n (at x₂ n) (at v n)) (product n left identity) n (λ i j hi hj. product-ext (at x₂ n) left (at v n) identity n i j (λ k h. entry left second i k hi h) (λ k h. entry identity ev k j h hj))
+abbrev μ-loop : tie.MeasureT-loop
+μ-loop a n scale out₀ size k₀ out k = n * n - k
 
-  opened : x₄ ≡ start n scale (at a n)
-  unfolding start left
-  opened = e₄ ∙ rows-ext (averaged (at x₃ n)) (λ i j. (at x₃ n i j ⊕ at x₃ n j i) ⊗ half) n (λ i j hi hj. halved (at x₃ n i j ⊕ at x₃ n j i)) ∙ ap (λ (x : List Float). rows n n (λ i j. (at x n i j ⊕ at x n j i) ⊗ half)) third
+mul-size : tie.Need-mul-size Inv-loop μ-loop
+mul-size c = search needs
 
-divide-requires : tie.Need-divide-requires
-divide-requires c κs = search needs
+loop-holds : tie.Need-loop-holds Inv-loop μ-loop
+loop-holds c = filled-none _ _ _
 
-multiply-requires : tie.Need-multiply-requires
-multiply-requires c κs = let pre = c .before .before .before .before .before .before .before .before .before .before .pre in (ap length (pre .1) ∙ length-rows _ _ _, search needs, search needs)
+div-i : tie.Need-div-i Inv-loop μ-loop
+div-i c = side _ _ (c .loop-test .taken)
 
-multiply-requires-2 : tie.Need-multiply-requires-2
-multiply-requires-2 c κs = let pre = c .before .before .before .before .before .before .before .before .before .before .before .before .before .before .before .pre in (search needs, ap length (pre .1) ∙ length-rows _ _ _, search needs)
+rem-j : tie.Need-rem-j Inv-loop μ-loop
+rem-j c = side _ _ (c .loop-test .taken)
 
-average-requires : tie.Need-average-requires
-average-requires c κs = search needs
+get-requires : tie.Need-get-requires Inv-loop μ-loop
+get-requires c κs = (row-below _ _ (c .loop-test .taken), col-below _ _ (c .loop-test .taken), c .before .before .before .before .pre .0)
 
-same-length : tie.Need-same-length
-same-length c = search needs
+get-requires-2 : tie.Need-get-requires-2 Inv-loop μ-loop
+get-requires-2 c κs = (col-below _ _ (c .before .loop-test .taken), row-below _ _ (c .before .loop-test .taken), c .before .before .before .before .before .pre .0)
 
-same-length-2 : tie.Need-same-length-2
-same-length-2 c = search needs
+mul-out : tie.Need-mul-out Inv-loop μ-loop
+mul-out c = search needs
 
-returns : tie.Need-returns
-returns c = let s = c .before .before .before .before .before .before .before .before .before .before .before .before .before .before .before .before .before .before .before .before .before .before .before in opened (s .args .n) (s .args .scale) (s .args .a .now) (s .pre .1) (c .before .before .before .before .before .before .before .before .before .before .before .before .before .before .before .before .before .divide .ensures) (c .before .before .before .before .before .before .before .before .before .before .before .before .multiply .ensures) (c .before .before .before .before .before .before .before .multiply2 .ensures) (c .before .before .average .ensures)
+slice-write-out : tie.Need-slice-write-out Inv-loop μ-loop
+slice-write-out c = search needs
+
+add-k : tie.Need-add-k Inv-loop μ-loop
+add-k c = search needs
+
+loop-less : tie.Need-loop-less Inv-loop μ-loop
+loop-less c = search needs
+
+loop-again : tie.Need-loop-again Inv-loop μ-loop
+unfolding ofBits
+loop-again c = let scale = c .before .before .before .before .before .before .args .scale in filled-more (c .before .before .before .loop .inv) (c .before .before .loop-test .taken) (omega arith) (λ t. ((zero⁺ ⊕ c .before .get .ensures t ⊘ scale) ⊕ (zero⁺ ⊕ c .get2 .ensures t ⊘ scale)) ⊗ half)
+
+same-length : tie.Need-same-length Inv-loop μ-loop
+same-length c = c .before .loop .inv .len
+
+returns : tie.Need-returns Inv-loop μ-loop
+returns c = let a = c .before .before .before .before .args in begun (a .n) (a .scale) (at (a .a .now) (a .n)) (filled-rows (averagedEntry (a .scale) (at (a .a .now) (a .n))) (a .n) (c .before .loop .inv) (c .loop-test .left) (c .before .before .before .before .pre .1)) (c .before .before .before .before .pre .2)
 
 pub start-spec : {M : Type 1} → statement M
-start-spec = tie.close (tie.spec divide-requires multiply-requires multiply-requires-2 average-requires same-length same-length-2 returns)
+start-spec = tie.close (tie.spec Inv-loop μ-loop mul-size loop-holds div-i rem-j get-requires get-requires-2 mul-out slice-write-out add-k loop-less loop-again same-length returns)

@@ -1,7 +1,7 @@
 -- `matrix::jacobi::sweeping` meets its contract. The invariant: the state after k sweeps, none of which the test forbade.
 use mathlib.Core.Path.{_≡_, refl, sym, ap, _∙_}
-use mathlib.Core.Bool.{Bool, true, false}
-use mathlib.Core.Option.{none}
+use mathlib.Core.Bool.{true, false}
+use mathlib.Core.Option.{Option, none, some}
 use Prim.Native.Nat.{ℕ, _≤_, _<_, _-_, _+_, _*_}
 use native.Mathlib.Nat.{zero-add, mul-le-mul}
 use native.Mathlib.Omega.{arith}
@@ -19,6 +19,7 @@ use Rattle.matrix.specs.Jacobi.{offDiagonal, sweep, afterSweeps, Test, f
 use Rattle.matrix.specs.Inner.{state, sweptTo}
 use Rattle.matrix.proofs.First.{first-none, first-more, first-at}
 use Rattle.matrix.proofs.Counts.{pairs, pairs-most, sweep-count, sweeps-count}
+use Rattle.matrix.proofs.Sweeps.{stopping, sweptBy, sweeping-is}
 use Rattle.matrix.proofs.Compare.{nan-yes, nan-no}
 use Rattle.matrix.proofs.jacobi.sweeping.Statement.{statement}
 use Rattle.matrix.proofs.jacobi.sweeping.Tie as tie
@@ -38,22 +39,19 @@ module _ (n : ℕ) (tolerance : Float) (st : State) {s : Float} (es : s ≡ offD
     unfolding test
     test-goesOn u = rw (test, (λ i. isNan (sym es i)) ∙ nan-no s h, (λ i. le (sqrt (two ⊗ sym es i)) tolerance) ∙ (λ i. le (sym ex i) tolerance) ∙ u)
 
--- whether the test forbids sweep k
-abbrev stopping : ℕ → Float → State → ℕ → Bool
-stopping n tolerance st₀ k = stops (test n tolerance (afterSweeps k n st₀))
-
 module _ (limit n : ℕ) (tolerance : Float) (st₀ : State) where
+  answer : (o : Option ℕ) → firstTo limit (stopping n tolerance st₀) ≡ o → sweptBy n tolerance st₀ limit o ≡ sweeping limit n tolerance st₀
+  answer o e = sym (sweeping-is n tolerance st₀ limit ∙ ap (sweptBy n tolerance st₀ limit) e)
+
   -- a return at sweep k, and after the last
   stopped : (k : ℕ) (st : State) (t : Test) → st ≡ afterSweeps k n st₀ → firstTo k (stopping n tolerance st₀) ≡ none → k < limit → test n tolerance st ≡ t → stops t ≡ true
       → sweptTo (isConverged t) k st ≡ sweeping limit n tolerance st₀
-  unfolding sweeping
   stopped k st t e f h et es =
       (λ i. sweptTo (isConverged ((sym et ∙ ap (test n tolerance) e) i)) k (e i))
-      ∙ rw (sweeping, first-at (stopping n tolerance st₀) k limit f (ap (λ (s : State). stops (test n tolerance s)) (sym e) ∙ ap stops et ∙ es) h)
+      ∙ answer (some k) (first-at (stopping n tolerance st₀) k limit f (ap (λ (s : State). stops (test n tolerance s)) (sym e) ∙ ap stops et ∙ es) h)
 
   ran-out : (k : ℕ) (st : State) → st ≡ afterSweeps k n st₀ → firstTo k (stopping n tolerance st₀) ≡ none → k ≡ limit → sweptTo false k st ≡ sweeping limit n tolerance st₀
-  unfolding sweeping
-  ran-out k st e f h = (λ i. sweptTo false (h i) ((e ∙ ap (λ (k : ℕ). afterSweeps k n st₀) h) i)) ∙ rw (sweeping, ap (λ (k : ℕ). firstTo k (stopping n tolerance st₀)) (sym h) ∙ f)
+  ran-out k st e f h = (λ i. sweptTo false (h i) ((e ∙ ap (λ (k : ℕ). afterSweeps k n st₀) h) i)) ∙ answer none (ap (λ (k : ℕ). firstTo k (stopping n tolerance st₀)) (sym h) ∙ f)
 
 -- a sweep more
 unstopped : (n : ℕ) (tolerance : Float) (st₀ : State) (k : ℕ) (st : State) → st ≡ afterSweeps k n st₀ → firstTo k (stopping n tolerance st₀) ≡ none → test n tolerance st ≡ goesOn

@@ -1,16 +1,18 @@
 -- `matrix::jacobi::turned` meets its contract: what its calls ensure, put together.
-use mathlib.Core.Path.{_≡_, ap, _∙_}
-use mathlib.Core.Bool.{Bool}
+use mathlib.Core.Path.{_≡_, sym, ap, _∙_}
+use mathlib.Core.Bool.{Bool, true, false}
 use mathlib.Core.List.{List}
-use Prim.Native.Nat.{ℕ}
+use Prim.Native.Nat.{ℕ, _+_, _*_, _<_}
 use borrow.Author.Needs.{needs}
-use lib.Ieee.{Float, ofBits}
-use Rattle.leaves.specs.Numbers.{_⊗_, ε}
+use lib.Dec.{T}
+use lib.Ieee.{Float, binary64, fits, eq, ofBits}
+use Rattle.leaves.specs.Numbers.{_⊗_, _⊘_, zero⁺, ε, isFinite}
 use Rattle.leaves.specs.Loops.{tab}
 use Rattle.leaves.specs.Root.{sqrt}
-use Rattle.matrix.specs.Matrix.{Matrix, at, rows, identity, squares}
+use Rattle.matrix.specs.Matrix.{Matrix, at, rows, identity, amax, squares, allFinite}
 use Rattle.matrix.specs.Jacobi.{start, sweeping, swept, scaledBack}
 use Rattle.matrix.specs.Inner.{state, sweptTo, decomposed}
+use Rattle.matrix.proofs.Identity.{quotients-finite}
 use Rattle.matrix.proofs.jacobi.turned.Statement.{statement}
 use Rattle.matrix.proofs.jacobi.turned.Tie as tie
 
@@ -23,11 +25,15 @@ finished n limit scale a {w₁} {v₁} {w₂} {v₂} {values} {q} {r} {found} {k
     let d : sweptTo found k (state w₂ v₂ rotations) ≡ swept limit n (start n scale a) = es ∙ (λ i. sweeping limit n (ε ⊗ root i) (state (ew i) (ev i) 0)) in
     (λ i. decomposed found (el i) v₂ k rotations) ∙ ap (scaledBack n scale) d
 
-put-identity-requires : tie.Need-put-identity-requires
-put-identity-requires c κs = search needs
+quotients : (n : ℕ) (scale : Float) (a : Matrix) → ((i j : ℕ) → i < n → j < n → T (fits binary64 (a i j))) → allFinite n n a ≡ true → scale ≡ amax n n a → eq scale zero⁺ ≡ false
+    → (i j : ℕ) → i < n → j < n → T (isFinite (a i j ⊘ scale))
+quotients n scale a fit all es nonzero i j hi hj = rw es (quotients-finite n a fit all (ap (λ (s : Float). eq s zero⁺) (sym es) ∙ nonzero) i j hi hj .1)
 
 start-requires : tie.Need-start-requires
-start-requires c κs = search needs
+start-requires c κs = let s = c .before .before .before .before .before in let n = s .args .n in (s .pre .2, search needs, quotients n (s .args .scale) (at (s .args .a .now) n) (λ i j hi hj. c .before .before .before .before .shared-slice-known .given (i * n + j)) (s .pre .6) (s .pre .7) (s .pre .8))
+
+put-identity-requires : tie.Need-put-identity-requires
+put-identity-requires c κs = search needs
 
 squares-requires : tie.Need-squares-requires
 squares-requires c κs = search needs
@@ -50,12 +56,9 @@ same-length-2 c = search needs
 same-length-3 : tie.Need-same-length-3
 same-length-3 c = search needs
 
-same-length-4 : tie.Need-same-length-4
-same-length-4 c = search needs
-
 returns : tie.Need-returns
 unfolding ofBits
-returns c = let a = c .before .before .before .before .before .before .before .before .before .before .before .before .before .before .before .before .before .before .before .before .before .before .before .before .before .before .before .before .before .before .before .before .args in finished (a .n) (a .limit) (a .scale) (at (a .a .now) (a .n)) (c .before .before .before .before .before .before .before .before .before .before .before .before .before .before .before .before .before .before .before .before .before .before .before .before .before .put-identity .ensures) (c .before .before .before .before .before .before .before .before .before .before .before .before .before .before .before .before .before .before .before .start .ensures) (c .before .before .before .before .before .before .before .before .before .before .before .before .before .squares .ensures) (c .before .before .before .before .before .before .before .before .before .before .before .before .sqrt .ensures) (c .before .before .before .before .before .before .before .before .before .sweeping .ensures) (c .before .before .put-diagonal .ensures)
+returns c = let a = c .before .before .before .before .before .before .before .before .before .before .before .before .before .before .before .before .before .before .before .before .before .before .before .before .before .before .before .args in finished (a .n) (a .limit) (a .scale) (at (a .a .now) (a .n)) (c .before .before .before .before .before .before .before .before .before .before .before .before .before .before .before .before .before .put-identity .ensures) (c .before .before .before .before .before .before .before .before .before .before .before .before .before .before .before .before .before .before .before .before .before .start .ensures) (c .before .before .before .before .before .before .before .before .before .before .before .before .before .squares .ensures) (c .before .before .before .before .before .before .before .before .before .before .before .before .sqrt .ensures) (c .before .before .before .before .before .before .before .before .before .sweeping .ensures) (c .before .before .put-diagonal .ensures)
 
 pub turned-spec : {M : Type 1} → statement M
-turned-spec = tie.close (tie.spec put-identity-requires start-requires squares-requires sqrt-requires sweeping-requires put-diagonal-requires same-length same-length-2 same-length-3 same-length-4 returns)
+turned-spec = tie.close (tie.spec start-requires put-identity-requires squares-requires sqrt-requires sweeping-requires put-diagonal-requires same-length same-length-2 same-length-3 returns)

@@ -8,9 +8,9 @@ use lib.ListN.{length}
 use lib.Ieee.{Float, ofBits}
 use Rattle.leaves.specs.Numbers.{_⊗_}
 use Rattle.leaves.specs.Loops.{sumTo, nth}
-use Rattle.leaves.proofs.Loops.{sum-none, sum-turn, at-end}
+use Rattle.leaves.proofs.Loops.{sum-none, sum-turn, at-end, sum-ext}
 use Rattle.matrix.specs.Matrix.{at, squares}
-use Rattle.matrix.proofs.Steps.{sum-ext, sum-every}
+use Rattle.matrix.proofs.Steps.{sum-every}
 use Rattle.matrix.proofs.Stored.{entry-at}
 use Rattle.matrix.proofs.sums.squares.Statement.{statement}
 use Rattle.matrix.proofs.sums.squares.Tie as tie
@@ -19,7 +19,7 @@ by-rows : (a : List Float) (n : ℕ) {x : Float} → x ≡ sumTo (length a) (λ 
 unfolding squares
 by-rows a n e l =
     e ∙ ap (λ (k : ℕ). sumTo k (λ k. nth a k ⊗ nth a k)) l
-    ∙ sum-ext (λ k. nth a k ⊗ nth a k) (λ k. at a n (k / n) (k % n) ⊗ at a n (k / n) (k % n)) (n * n) (λ k h i. sym (entry-at a n k) i ⊗ sym (entry-at a n k) i)
+    ∙ sum-ext (n * n) (λ k. nth a k ⊗ nth a k) (λ k. at a n (k / n) (k % n) ⊗ at a n (k / n) (k % n)) (λ k h i. sym (entry-at a n k) i ⊗ sym (entry-at a n k) i)
     ∙ sum-every (λ i j. at a n i j ⊗ at a n i j) n
 
 abbrev Inv-loop : tie.InvT-loop

@@ -1,0 +1,5 @@
+// The engine's exports, from its static library, as functions over slices. A slice crosses as a
+// pointer and then a length.
+
+pub mod jacobi;
+pub mod leaves;

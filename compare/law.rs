@@ -1,0 +1,169 @@
+// Runs the power-of-two law on drawn pairs, the second input 2^k times the first: the same refusal
+// at the same place, or the same intensity and counts, with covariances exactly 2^2k times the
+// other's, means and target exactly 2^k times. Pairs that document 01's 'Scaling ranges' does not
+// grant are left out and counted. Prints one table, and ends with 1 if a pair breaks the law.
+// Argument: how many pairs.
+
+mod tally;
+
+use generator::pairs::{draw_pair, Pair};
+use generator::random::Random;
+use reference::calls::ledoit_wolf;
+use reference::covariance::{Estimate, Shrinkage};
+use reference::flat::Flat;
+use reference::input::{Call, Input};
+use reference::leaves::{abs, pow2_scaled};
+use tally::{Tally, ACCEPTED, OWN};
+
+const LEFT_OUT: usize = OWN;
+const BROKEN: usize = OWN + 1;
+
+/// Refusal 12, whose eigenvalue is not compared.
+const INDEFINITE: u32 = 12;
+
+fn main() {
+    let pairs: usize = match std::env::args().nth(1) {
+        Some(word) => word.parse().expect("a whole number"),
+        None => 40_000,
+    };
+    let copy = |input: &Input| {
+        let (report, slice) = input.answered();
+        (Flat::of(&report), slice)
+    };
+    let random = Random::new(6);
+    let mut tally = Tally::new(&["left out", "broken"]);
+    for _ in 0..pairs {
+        judge(&draw_pair(&random), copy, &mut tally);
+    }
+    tally.print();
+    if tally.total(BROKEN) > 0 {
+        std::process::exit(1);
+    }
+}
+
+/// What a call reports, and the whole answer slice after it.
+type Answer = (Flat, Vec<f64>);
+
+fn judge(pair: &Pair, answered: impl Fn(&Input) -> Answer, tally: &mut Tally) {
+    let Pair { k, input, scaled } = pair;
+    let (one, other) = (answered(input), answered(scaled));
+    tally.add(&input.call, one.0.number as usize);
+    if !(granted(input, &one) && granted(scaled, &other)) {
+        tally.add(&input.call, LEFT_OUT);
+    } else if !holds(pair, &one, &other) {
+        tally.add(&input.call, BROKEN);
+        if tally.total(BROKEN) <= 3 {
+            println!("k {k}, {input:?}: {one:?}, {other:?}");
+        }
+    }
+}
+
+// ---- the law
+
+fn holds(pair: &Pair, (one, first): &Answer, (other, second): &Answer) -> bool {
+    let Pair { k, input, scaled } = pair;
+    if one.number != other.number {
+        return false;
+    }
+    let accepted = one.number as usize == ACCEPTED;
+    let filled = if accepted {
+        input.call.fills(input.n)
+    } else {
+        0
+    };
+    let power = match input.call {
+        Call::AdjustedCovariance { .. } => 2 * k,
+        _ => *k,
+    };
+    let entries = first[..filled].iter().zip(&second[..filled]);
+    one.wholes == other.wholes
+        && (one.number == INDEFINITE || times(one.numbers[0], other.numbers[0], 0))
+        && times(one.numbers[1], other.numbers[1], *k)
+        && entries.into_iter().all(|(&x, &y)| times(x, y, power))
+        && kept(&input.answer[filled..], &first[filled..])
+        && kept(&scaled.answer[filled..], &second[filled..])
+}
+
+/// `y` is exactly `2^k` times `x`; an infinity answers to one of its sign, NaN to NaN.
+fn times(x: f64, y: f64, k: i32) -> bool {
+    match (parts(x), parts(y)) {
+        (Some((m, e)), Some((n, f))) => m == n && (m == 0 || e + k == f),
+        (None, None) => x.is_nan() == y.is_nan() && (x.is_nan() || x == y),
+        _ => false,
+    }
+}
+
+/// A finite number as an odd whole number times a power of two, or 0.
+fn parts(x: f64) -> Option<(i64, i32)> {
+    let exponent = ((x.to_bits() >> 52) & 0x7ff) as i32;
+    let fraction = (x.to_bits() & ((1 << 52) - 1)) as i64;
+    let (whole, power) = match exponent {
+        0x7ff => return None,
+        0 => (fraction, -1074),
+        _ => (fraction | (1 << 52), exponent - 1075),
+    };
+    let zeros = if whole == 0 {
+        0
+    } else {
+        whole.trailing_zeros()
+    };
+    let odd = whole >> zeros;
+    let signed = if x.is_sign_negative() { -odd } else { odd };
+    Some((signed, power + zeros as i32))
+}
+
+fn kept(before: &[f64], after: &[f64]) -> bool {
+    let bits = |numbers: &[f64]| numbers.iter().map(|x| x.to_bits()).collect::<Vec<_>>();
+    bits(before) == bits(after)
+}
+
+// ---- what document 01 grants
+
+fn granted(input: &Input, (flat, slice): &Answer) -> bool {
+    let Input { returns, n, t, .. } = input;
+    returns.iter().all(|&x| none_or(x, -40, 40))
+        && match &input.call {
+            Call::AdjustedCovariance {
+                settings, given, ..
+            } => {
+                let estimate = match settings.estimate {
+                    Estimate::Weighted(half_life) => long_enough(*t, half_life),
+                    Estimate::SemiBelow(threshold) => none_or(threshold, -40, 40),
+                    Estimate::Sample | Estimate::Given | Estimate::Semi => true,
+                };
+                let intensity = match settings.shrinkage {
+                    Shrinkage::Unshrunk => 0.0,
+                    Shrinkage::Fixed(intensity) => intensity,
+                    // Also where the covariance is refused later.
+                    Shrinkage::LedoitWolf(target) => {
+                        ledoit_wolf(returns, *n, *t, target).unwrap_or(0.0)
+                    }
+                };
+                estimate
+                    && none_or(intensity, -40, 1024)
+                    && given.iter().all(|&x| none_or(x, -80, 80))
+                    && none_or(settings.regularization.unwrap_or(0.0), -80, 80)
+            }
+            Call::LedoitWolf(_) => none_or(flat.numbers[0], -40, 1024),
+            mean => {
+                let half_life = match mean {
+                    Call::ExponentiallyWeightedMean { half_life } => *half_life,
+                    _ => f64::INFINITY,
+                };
+                let refused = flat.number as usize != ACCEPTED;
+                let mut answers = flat.numbers.iter().chain(&slice[..(*n).min(slice.len())]);
+                long_enough(*t, half_life) && (refused || answers.all(|&x| none_or(x, -400, 1024)))
+            }
+        }
+}
+
+/// 0, NaN, or of size `2^low` to `2^high`.
+fn none_or(x: f64, low: i32, high: i32) -> bool {
+    let outside = abs(x) < pow2_scaled(1.0, low) || abs(x) > pow2_scaled(1.0, high);
+    x == 0.0 || !outside
+}
+
+/// Of a half-life: the oldest weight is not too small.
+fn long_enough(t: usize, half_life: f64) -> bool {
+    t == 0 || (t - 1) as f64 <= 64.0 * half_life
+}

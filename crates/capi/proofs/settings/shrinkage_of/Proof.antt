@@ -1,0 +1,27 @@
+-- `capi::settings::shrinkage_of` meets its contract: each arm returns what the definition picks at the arm's test.
+use borrow.Author.Needs.{needs}
+use borrow.Author.Tests.{eq-eqb, ne-eqb}
+use Rattle.capi.specs.Settings.{shrinkageOf}
+use Rattle.capi.proofs.settings.shrinkage_of.Statement.{statement}
+use Rattle.capi.proofs.settings.shrinkage_of.Tie as tie
+
+returns : tie.Need-returns
+unfolding shrinkageOf
+returns c = rw (eq-eqb _ _ (c .if1 .taken))
+
+returns-2 : tie.Need-returns-2
+unfolding shrinkageOf
+returns-2 c = rw (ne-eqb _ _ (c .before .if1 .left), eq-eqb _ _ (c .if2 .taken))
+
+sub-target-of : tie.Need-sub-target-of
+sub-target-of c = search needs
+
+target-of-requires : tie.Need-target-of-requires
+target-of-requires c κs = search needs
+
+returns-3 : tie.Need-returns-3
+unfolding shrinkageOf
+returns-3 c = rw (ne-eqb _ _ (c .before .before .if1 .left), ne-eqb _ _ (c .before .if2 .left), c .target-of .ensures)
+
+pub shrinkage-of-spec : {M : Type 1} → statement M
+shrinkage-of-spec = tie.close (tie.spec returns returns-2 sub-target-of target-of-requires returns-3)

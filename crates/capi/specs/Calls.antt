@@ -1,0 +1,34 @@
+-- The five calls with C linkage: their report and the answer slice after the call. Definitions only.
+use Prim.Native.Nat.{ℕ}
+use mathlib.Core.Bool.{Bool, true, false}
+use mathlib.Core.List.{List, []}
+use lib.Dec.{ltb}
+use lib.Ieee.{Float}
+use Rattle.leaves.specs.Numbers.{zero⁺}
+use Rattle.estimators.specs.Calls.{Answered, answered, adjustedCovariance, ledoitWolfIntensity}
+use Rattle.capi.specs.Settings.{known, targetOf, settingsOf}
+use Rattle.capi.specs.Report.{reported, reportOf}
+use Rattle.capi.specs.declared.report.Report.{Report}
+
+pub record Left : Type 0 where
+  pub report : Report
+  pub slice : List Float
+
+abbrev pub left : Report → List Float → Left
+left report slice = record { report = report; slice = slice }
+
+abbrev pub told : Answered → Left
+told a = left (reportOf (a .answer)) (a .slice)
+
+-- 16: a number that stands for no kind, before all other causes
+unfoldable pub whenKnown : Bool → List Float → Answered → Left
+whenKnown true slice a = told a
+whenKnown false slice a = left (reported 16 zero⁺ zero⁺ 0 0) slice
+
+unfoldable pub engineAdjustedCovariance : List Float → ℕ → ℕ → ℕ → Float → ℕ → Float → ℕ → Float → ℕ → List Float → ℕ → List Float → Left
+engineAdjustedCovariance r n T estimate x shrinkage y regularization z limit given side slice =
+    whenKnown (known estimate shrinkage regularization) slice (adjustedCovariance r n T (settingsOf estimate x shrinkage y regularization z limit) given side slice)
+
+-- it takes no answer slice
+unfoldable pub engineLedoitWolf : List Float → ℕ → ℕ → ℕ → Report
+engineLedoitWolf r n T target = whenKnown (ltb target 2) [] (answered (ledoitWolfIntensity r n T (targetOf target)) []) .report

@@ -1,0 +1,46 @@
+-- An answer in numbers: 0 or the refusal's number, two floats and two whole numbers (include/engine.h). What an answer does not have is 0. Definitions only.
+use Prim.Native.Nat.{ℕ}
+use mathlib.Core.List.{List, [], _∷_}
+use lib.Ieee.{Float}
+use Rattle.leaves.specs.Numbers.{zero⁺}
+use Rattle.estimators.specs.Refusals.{Place, nowhere, only, entry, value, number, place}
+use Rattle.estimators.specs.declared.Refusal.{Refusal}
+use Rattle.estimators.specs.declared.Answer.{Answer}
+use Rattle.estimators.specs.declared.Answer.the-variants.{Refused, Covariance, Intensity, Mean, Shrunk}
+use Rattle.capi.specs.declared.report.Report.{Report}
+
+abbrev pub handed : ℕ → List Float → List ℕ → Report
+handed number numbers wholes = record { number = number; numbers = numbers; wholes = wholes }
+
+abbrev pub reported : ℕ → Float → Float → ℕ → ℕ → Report
+reported number x y i j = handed number (x ∷ y ∷ []) (i ∷ j ∷ [])
+
+-- a refusal's place: one number, a row and a column, or an eigenvalue
+abbrev pub firstOf : Place → ℕ
+firstOf nowhere = 0
+firstOf (only i) = i
+firstOf (entry i j) = i
+firstOf (value x) = 0
+
+abbrev pub secondOf : Place → ℕ
+secondOf nowhere = 0
+secondOf (only i) = 0
+secondOf (entry i j) = j
+secondOf (value x) = 0
+
+abbrev pub valueOr : Float → Place → Float
+valueOr y nowhere = y
+valueOr y (only i) = y
+valueOr y (entry i j) = y
+valueOr y (value x) = x
+
+abbrev pub refused : Refusal → Report
+refused c = reported (number c) (valueOr zero⁺ (place c)) zero⁺ (firstOf (place c)) (secondOf (place c))
+
+-- intensity and target, sweeps and rotations
+unfoldable pub reportOf : Answer → Report
+reportOf (Refused c) = refused c
+reportOf (Covariance δ sweeps rotations) = reported 0 δ zero⁺ sweeps rotations
+reportOf (Intensity δ) = reported 0 δ zero⁺ 0 0
+reportOf Mean = reported 0 zero⁺ zero⁺ 0 0
+reportOf (Shrunk α μ₀ sweeps rotations) = reported 0 α μ₀ sweeps rotations

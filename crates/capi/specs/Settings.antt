@@ -1,0 +1,38 @@
+-- Settings in numbers: a kind each, with the value that some kinds have (include/engine.h). Definitions only.
+use Prim.Native.Nat.{ℕ, _-_}
+use mathlib.Core.Bool.{Bool, cond, _&&_}
+use lib.Dec.{ltb, eqb}
+use lib.Ieee.{Float}
+use Rattle.estimators.specs.declared.Estimate.{Estimate}
+use Rattle.estimators.specs.declared.Estimate.the-variants.{Sample, Given, Weighted, Semi, SemiBelow}
+use Rattle.estimators.specs.declared.Target.{Target}
+use Rattle.estimators.specs.declared.Target.the-variants.{ConstantVariance, ConstantCorrelation}
+use Rattle.estimators.specs.declared.Shrinkage.{Shrinkage}
+use Rattle.estimators.specs.declared.Shrinkage.the-variants.{Unshrunk, Fixed, LedoitWolf}
+use Rattle.estimators.specs.declared.Regularization.{Regularization}
+use Rattle.estimators.specs.declared.Regularization.the-variants.{Unregularized, Ridge}
+use Rattle.estimators.specs.declared.Settings.{Settings}
+
+-- the numbers that stand for a kind: five of an estimate, four of a shrinkage, two of a regularization
+unfoldable pub known : ℕ → ℕ → ℕ → Bool
+known estimate shrinkage regularization = ltb estimate 5 && ltb shrinkage 4 && ltb regularization 2
+
+unfoldable pub estimateOf : ℕ → Float → Estimate
+estimateOf kind x = cond (eqb kind 0) Sample (cond (eqb kind 1) Given (cond (eqb kind 2) (Weighted x) (cond (eqb kind 3) Semi (SemiBelow x))))
+
+unfoldable pub targetOf : ℕ → Target
+targetOf kind = cond (eqb kind 0) ConstantVariance ConstantCorrelation
+
+unfoldable pub shrinkageOf : ℕ → Float → Shrinkage
+shrinkageOf kind x = cond (eqb kind 0) Unshrunk (cond (eqb kind 1) (Fixed x) (LedoitWolf (targetOf (kind - 2))))
+
+unfoldable pub regularizationOf : ℕ → Float → Regularization
+regularizationOf kind x = cond (eqb kind 0) Unregularized (Ridge x)
+
+abbrev pub settingsOf : ℕ → Float → ℕ → Float → ℕ → Float → ℕ → Settings
+settingsOf estimate x shrinkage y regularization z limit = record {
+  estimate = estimateOf estimate x;
+  shrinkage = shrinkageOf shrinkage y;
+  regularization = regularizationOf regularization z;
+  limit = limit;
+}

@@ -1,0 +1,87 @@
+// Settings from numbers: a kind each, with the value that some kinds have (include/engine.h).
+ghost use mathlib.Core.Path.{_≡_};
+ghost use Rattle.capi.specs.Settings as Flat;
+use estimators::Estimate;
+use estimators::Regularization;
+use estimators::Settings;
+use estimators::Shrinkage;
+use estimators::Target;
+
+pub(crate) fn known(estimate: u32, shrinkage: u32, regularization: u32) -> bool
+    ensures { λ r. ⌜ r ≡ Flat.known estimate shrinkage regularization ⌝ }
+{
+    if estimate >= 5 {
+        return false;
+    }
+    if shrinkage >= 4 {
+        return false;
+    }
+    regularization < 2
+}
+
+fn estimate_of(kind: u32, value: f64) -> Estimate
+    ensures { λ r. ⌜ r ≡ Flat.estimateOf kind value ⌝ }
+{
+    if kind == 0 {
+        return Estimate::Sample;
+    }
+    if kind == 1 {
+        return Estimate::Given;
+    }
+    if kind == 2 {
+        return Estimate::Weighted(value);
+    }
+    if kind == 3 {
+        return Estimate::Semi;
+    }
+    Estimate::SemiBelow(value)
+}
+
+pub(crate) fn target_of(kind: u32) -> Target
+    ensures { λ r. ⌜ r ≡ Flat.targetOf kind ⌝ }
+{
+    if kind == 0 {
+        return Target::ConstantVariance;
+    }
+    Target::ConstantCorrelation
+}
+
+fn shrinkage_of(kind: u32, value: f64) -> Shrinkage
+    ensures { λ r. ⌜ r ≡ Flat.shrinkageOf kind value ⌝ }
+{
+    if kind == 0 {
+        return Shrinkage::Unshrunk;
+    }
+    if kind == 1 {
+        return Shrinkage::Fixed(value);
+    }
+    Shrinkage::LedoitWolf(target_of(kind - 2))
+}
+
+fn regularization_of(kind: u32, value: f64) -> Regularization
+    ensures { λ r. ⌜ r ≡ Flat.regularizationOf kind value ⌝ }
+{
+    if kind == 0 {
+        return Regularization::Unregularized;
+    }
+    Regularization::Ridge(value)
+}
+
+pub(crate) fn settings_of(
+    estimate: u32,
+    x: f64,
+    shrinkage: u32,
+    y: f64,
+    regularization: u32,
+    z: f64,
+    limit: usize,
+) -> Settings
+    ensures { λ r. ⌜ r ≡ Flat.settingsOf estimate x shrinkage y regularization z limit ⌝ }
+{
+    Settings {
+        estimate: estimate_of(estimate, x),
+        shrinkage: shrinkage_of(shrinkage, y),
+        regularization: regularization_of(regularization, z),
+        limit,
+    }
+}

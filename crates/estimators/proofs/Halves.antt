@@ -1,0 +1,91 @@
+-- Laws of the tables of which half is summed up and mirrored: products commute. Assumes nothing.
+use mathlib.Core.Path.{_≡_, refl, ap, ap₂, _∙_}
+use mathlib.Core.Bool.{Bool, true, false, cond}
+use mathlib.Core.List.{List}
+use Prim.Native.Nat.{ℕ, _*_, _/_, _%_, _≤_, _<_}
+use native.Mathlib.Nat.{mul-comm, le-trans}
+use native.Mathlib.Omega.{arith}
+use lib.Dec.{eqb, ltb}
+use lib.Ieee.{Float, Format, nan, inf, fin, binary64, up, down, unlike, round, mul}
+use borrow.Author.Tests.{ltb-true, ltb-false}
+use Rattle.leaves.specs.Numbers.{_⊖_, _⊗_, _⊘_, zero⁺, count}
+use Rattle.leaves.specs.Loops.{loop, sumTo, tab, nth}
+use Rattle.matrix.specs.Matrix.{Matrix, at, rows}
+use Rattle.leaves.proofs.Loops.{sum-ext}
+use Rattle.matrix.proofs.Stored.{rows-at, rows-ext}
+use Rattle.estimators.specs.Sample.{gram}
+use Rattle.estimators.specs.LedoitWolf.{variation, covariation}
+use Rattle.estimators.specs.Rows.{factor, joined, summand, start, plus, Symmetric}
+use Rattle.estimators.specs.declared.tables.Term.{Term}
+use Rattle.estimators.specs.declared.tables.Term.the-variants.{Product, Square, Cube}
+use Rattle.estimators.proofs.Stored.{tab-then}
+use Rattle.estimators.proofs.Sums.{summed, start-low, whole-sum}
+use Rattle.estimators.proofs.Mirror.{mirrored}
+
+-- ---- a product commutes
+
+unlike-comm : (s t : Bool) → unlike s t ≡ unlike t s
+unlike-comm true true = refl
+unlike-comm true false = refl
+unlike-comm false true = refl
+unlike-comm false false = refl
+
+pub product-comm : (x y : Float) → x ⊗ y ≡ y ⊗ x
+unfolding mul
+product-comm nan nan = refl
+product-comm nan (inf t) = refl
+product-comm nan (fin t n d) = refl
+product-comm (inf s) nan = refl
+product-comm (inf s) (inf t) = ap inf (unlike-comm s t)
+product-comm (inf s) (fin t n d) = ap (λ (z : Bool). cond (eqb n 0) nan (inf z)) (unlike-comm s t)
+product-comm (fin s m e) nan = refl
+product-comm (fin s m e) (inf t) = ap (λ (z : Bool). cond (eqb m 0) nan (inf z)) (unlike-comm s t)
+product-comm (fin s m e) (fin t n d) =
+    ap (λ (z : Bool). round binary64 z (m * up e * (n * up d)) (down e * down d)) (unlike-comm s t)
+    ∙ ap₂ (λ (a c : ℕ). round binary64 (unlike t s) a c) (mul-comm (m * up e) (n * up d)) (mul-comm (down e) (down d))
+
+-- ---- half of a table
+
+module _ (term : Term) (s : Matrix) (n T′ : ℕ) (z : Matrix) where
+  sums : Matrix
+  sums i j = sumTo T′ (λ t. summand term s (z t) i j)
+
+  pub half-mirrored : ((t i j : ℕ) → i < n → j < n → summand term s (z t) i j ≡ summand term s (z t) j i) → (out : List Float) → out ≡ summed n (λ t. plus term s (z t)) T′
+      → rows n n (mirrored n out) ≡ rows n n (λ i j. sumTo T′ (λ t. summand term s (z t) i j))
+  unfolding sums
+  half-mirrored same out e = rows-ext n n (mirrored n out) sums (λ i j hi hj. entry i j hi hj (ltb j i) refl)
+    where
+      kept : (i j : ℕ) → i < n → j < n → i ≤ j → at out n i j ≡ sums i j
+      kept i j hi hj h =
+          ap (λ (l : List Float). at l n i j) e ∙ rows-at (λ i j. loop T′ (λ t. plus term s (z t) i j) zero⁺) n n i j hi hj
+          ∙ whole-sum term s z T′ i j (le-trans (start-low term i) h)
+
+      entry : (i j : ℕ) → i < n → j < n → (b : Bool) → ltb j i ≡ b → cond b (at out n j i) (at out n i j) ≡ sums i j
+      entry i j hi hj true h = kept j i hj hi (omega (arith, ltb-true j i h)) ∙ sum-ext T′ _ _ (λ t l. same t j i hj hi)
+      entry i j hi hj false h = kept i j hi hj (ltb-false j i h)
+
+-- the second moments
+pub gram-mirrored : (s z : Matrix) (n T′ : ℕ) (out : List Float) → out ≡ summed n (λ t. plus Product s (z t)) T′ → rows n n (mirrored n out) ≡ rows n n (gram T′ z)
+unfolding gram joined factor
+gram-mirrored s z n T′ out e = half-mirrored Product s n T′ z (λ t i j hi hj. product-comm (z t i) (z t j)) out e
+
+-- ---- all numbers of a table over a number
+
+pub rows-over : (f : Matrix) (n m : ℕ) (x : Float) (l : List Float) → m ≡ n * n → l ≡ rows n n f → tab m (λ k. nth l k ⊘ x) ≡ rows n n (λ i j. f i j ⊘ x)
+unfolding rows
+rows-over f n m x l em e = ap (λ (m : ℕ). tab m (λ k. nth l k ⊘ x)) em ∙ tab-then l (n * n) (λ k. f (k / n) (k % n)) (λ k v. v ⊘ x) e
+
+module _ (s : List Float) (z : Matrix) (n m T′ : ℕ) (out : List Float) (x : Float) (em : m ≡ n * n) (ex : x ≡ count T′) where
+  pub variation-over : (l : List Float) → Symmetric n s → out ≡ summed n (λ t. plus Square (at s n) (z t)) T′ → l ≡ rows n n (mirrored n out) → tab m (λ k. nth l k ⊘ x) ≡ rows n n (variation T′ z (at s n))
+  unfolding variation joined factor
+  variation-over l sym e e′ =
+      rows-over (λ i j. sumTo T′ (λ t. summand Square (at s n) (z t) i j)) n m x l em
+      (e′ ∙ half-mirrored Square (at s n) n T′ z (λ t i j hi hj k. (product-comm (z t i) (z t j) k ⊖ sym i j hi hj k) ⊗ (product-comm (z t i) (z t j) k ⊖ sym i j hi hj k)) out e)
+      ∙ ap (λ (c : Float). rows n n (λ i j. sumTo T′ (λ t. summand Square (at s n) (z t) i j) ⊘ c)) ex
+
+  pub covariation-over : out ≡ summed n (λ t. plus Cube (at s n) (z t)) T′ → tab m (λ k. nth out k ⊘ x) ≡ rows n n (covariation T′ z (at s n))
+  unfolding covariation joined factor start
+  covariation-over e =
+      rows-over (λ i j. sumTo T′ (λ t. summand Cube (at s n) (z t) i j)) n m x out em
+      (e ∙ rows-ext n n _ (λ i j. sumTo T′ (λ t. summand Cube (at s n) (z t) i j)) (λ i j hi hj. whole-sum Cube (at s n) z T′ i j (omega arith)))
+      ∙ ap (λ (c : Float). rows n n (λ i j. sumTo T′ (λ t. summand Cube (at s n) (z t) i j) ⊘ c)) ex

@@ -1,0 +1,38 @@
+-- `estimators::tables::add_period` meets its contract: the row that is added is the period's.
+use mathlib.Core.Path.{sym, _∙_}
+use native.Mathlib.Omega.{arith}
+use lib.Seq.{length-take-le}
+use Rattle.matrix.specs.Matrix.{at}
+use Rattle.estimators.proofs.Sums.{period-added}
+use borrow.Author.Needs.{needs}
+use Rattle.estimators.proofs.tables.add_period.Statement.{statement}
+use Rattle.estimators.proofs.tables.add_period.Tie as tie
+
+array-borrow-prefix-buffer : tie.Need-array-borrow-prefix-buffer
+array-borrow-prefix-buffer c = search needs
+
+slice-aggregate-d : tie.Need-slice-aggregate-d
+slice-aggregate-d c = sym (length-take-le _ _ (omega arith))
+
+form-requires : tie.Need-form-requires
+form-requires c κs =
+    let h = c .before .before .before .before .before .before .before .before .pre in
+    (h .0, h .1, h .2, h .3, length-take-le _ _ (omega arith))
+
+add-rows-requires : tie.Need-add-rows-requires
+add-rows-requires c κs =
+    let h = c .before .before .before .before .before .before .before .before .before .before .before .before .before .pre in
+    (c .before .before .before .before .form .kept .1 .1 .1 .1 .1 .1 .1 .1 .0 ∙ length-take-le _ _ (omega arith), h .4, h .5)
+
+same-length : tie.Need-same-length
+same-length c = search needs
+
+returns : tie.Need-returns
+returns c =
+    let p = c .before .before .before in
+    let f = p .before .before .before .before .before in
+    let a = f .before .before .before .before .before .before .before .before .before .args in
+    p .add-rows .ensures ∙ period-added _ (at (a .s .now) (a .n)) _ _ _ (f .form .ensures) (a .out .now)
+
+pub add-period-spec : {M : Type 1} → statement M
+add-period-spec = tie.close (tie.spec array-borrow-prefix-buffer slice-aggregate-d form-requires add-rows-requires same-length returns)

@@ -1,0 +1,86 @@
+-- `estimators::tables::add_row2` meets its contract: its part of the table is row i from its first column on.
+use mathlib.Core.Path.{_≡_, refl}
+use Prim.Native.Nat.{ℕ, _+_, _*_, _≤_}
+use native.Mathlib.Omega.{arith}
+use Rattle.estimators.specs.Rows.{start}
+use Rattle.estimators.proofs.Sums.{row-room, part-of, part-sized, row-added-two}
+use borrow.Author.Needs.{needs}
+use Rattle.estimators.proofs.tables.add_row2.Statement.{statement}
+use Rattle.estimators.proofs.tables.add_row2.Tie as tie
+
+room : (s : tie.Start) {from : ℕ} → from ≡ start (s .args .term) (s .args .i) → (s .args .i * s .args .n + s .args .n ≤ s .args .n * s .args .n) × (from ≤ s .args .i)
+room s e = row-room (s .args .term) (s .args .i) (s .args .n) _ (s .pre .0) e
+
+factor-requires : tie.Need-factor-requires
+factor-requires c κs = search needs
+
+factor-requires-2 : tie.Need-factor-requires-2
+factor-requires-2 c κs = search needs
+
+start-requires : tie.Need-start-requires
+start-requires c κs = search needs
+
+mul-base : tie.Need-mul-base
+mul-base c = omega (arith, room (c .before .before .before .before .before .before .before) (c .start .ensures))
+
+add-begin : tie.Need-add-begin
+add-begin c = omega (arith, room (c .before .before .before .before .before .before .before) (c .start .ensures))
+
+add-end : tie.Need-add-end
+add-end c = omega (arith, room (c .before .before .before .before .before .before .before) (c .start .ensures))
+
+mul-add-terms2 : tie.Need-mul-add-terms2
+mul-add-terms2 c = omega (arith, room (c .before .before .before .before .before .before .before) (c .start .ensures))
+
+sub-add-terms2 : tie.Need-sub-add-terms2
+sub-add-terms2 c = omega (arith, room (c .before .before .before .before .before .before .before) (c .start .ensures))
+
+part-add-terms2-start : tie.Need-part-add-terms2-start
+part-add-terms2-start c = omega (arith, room (c .before .before .before .before .before .before .before) (c .start .ensures))
+
+part-add-terms2-end : tie.Need-part-add-terms2-end
+part-add-terms2-end c = omega (arith, room (c .before .before .before .before .before .before .before) (c .start .ensures))
+
+mul-add-terms2-2 : tie.Need-mul-add-terms2-2
+mul-add-terms2-2 c = omega (arith, room (c .before .before .before .before .before .before .before .before) (c .before .start .ensures))
+
+sub-add-terms2-2 : tie.Need-sub-add-terms2-2
+sub-add-terms2-2 c = omega (arith, room (c .before .before .before .before .before .before .before .before) (c .before .start .ensures))
+
+part-add-terms2-start-2 : tie.Need-part-add-terms2-start-2
+part-add-terms2-start-2 c = omega (arith, room (c .before .before .before .before .before .before .before .before) (c .before .start .ensures))
+
+part-add-terms2-end-2 : tie.Need-part-add-terms2-end-2
+part-add-terms2-end-2 c = omega (arith, room (c .before .before .before .before .before .before .before .before) (c .before .start .ensures))
+
+mul-add-terms2-3 : tie.Need-mul-add-terms2-3
+mul-add-terms2-3 c = omega (arith, room (c .before .before .before .before .before .before .before .before .before) (c .before .before .start .ensures))
+
+sub-add-terms2-3 : tie.Need-sub-add-terms2-3
+sub-add-terms2-3 c = omega (arith, room (c .before .before .before .before .before .before .before .before .before) (c .before .before .start .ensures))
+
+part-add-terms2-start-3 : tie.Need-part-add-terms2-start-3
+part-add-terms2-start-3 c = omega (arith, room (c .before .before .before .before .before .before .before .before .before) (c .before .before .start .ensures))
+
+part-add-terms2-end-3 : tie.Need-part-add-terms2-end-3
+part-add-terms2-end-3 c = omega (arith, room (c .before .before .before .before .before .before .before .before .before) (c .before .before .start .ensures))
+
+add-terms2-requires : tie.Need-add-terms2-requires
+add-terms2-requires c κs =
+    let f = c .before .before .before in
+    let a = f .before .before .before .before .before .before .before .args in
+    let h = f .before .before .before .before .before .before .before .pre in
+    (part-of (a .term) (a .n) (a .i) _ _ _ (a .out .now) (h .4) (h .0) (f .start .ensures) refl refl (a .d .now) (h .1), part-of (a .term) (a .n) (a .i) _ _ _ (a .out .now) (h .4) (h .0) (f .start .ensures) refl refl (a .e .now) (h .2), part-sized (a .term) (a .n) (a .i) _ _ _ (a .out .now) (h .4) (h .0) (f .start .ensures) refl refl (a .s .now) (h .3))
+
+same-length : tie.Need-same-length
+same-length c = search needs
+
+returns : tie.Need-returns
+returns c =
+    let f = c .before .before .before .before .before .before in
+    let a = f .before .before .before .before .before .before .before .args in
+    let h = f .before .before .before .before .before .before .before .pre in
+    row-added-two (a .term) (a .n) (a .i) _ _ _ (a .out .now) (h .4) (h .0) (f .start .ensures) refl refl (a .s .now) (a .d .now) (a .e .now) _ _ (h .1) (h .2) (f .before .before .factor .ensures) (f .before .factor2 .ensures) _ (c .before .before .add-terms2 .ensures)
+
+pub add-row2-spec : {M : Type 1} → statement M
+add-row2-spec = tie.close (tie.spec factor-requires factor-requires-2 start-requires mul-base add-begin add-end mul-add-terms2 sub-add-terms2 part-add-terms2-start part-add-terms2-end mul-add-terms2-2 sub-add-terms2-2 part-add-terms2-start-2 part-add-terms2-end-2 mul-add-terms2-3 sub-add-terms2-3 part-add-terms2-start-3 part-add-terms2-end-3 add-terms2-requires same-length returns)

@@ -1,0 +1,57 @@
+-- `estimators::tables::factor` meets its contract: each arm returns what `factor` says of its case.
+use mathlib.Core.Path.{_≡_}
+use Prim.Native.Nat.{_+_, _*_, _<_}
+use native.Mathlib.Omega.{arith}
+use lib.ListN.{length}
+use Rattle.leaves.proofs.Loops.{row}
+use Rattle.estimators.specs.Rows as Rows
+use Rattle.estimators.specs.declared.tables.Term.the-variants.{Cube}
+use borrow.Author.Needs.{needs}
+use Rattle.estimators.proofs.tables.factor.Statement.{statement}
+use Rattle.estimators.proofs.tables.factor.Tie as tie
+
+-- s has a diagonal where it is read
+inside : (a : tie.Start) → a .args .term ≡ Cube → a .args .i * a .args .n + a .args .i < length (a .args .s .now)
+inside a e = omega (arith, row (a .args .i) (a .args .n) (a .args .n) (a .pre .0), rw e at (a .pre .2))
+
+mul-x : tie.Need-mul-x
+mul-x c = search needs
+
+shared-slice-read-x : tie.Need-shared-slice-read-x
+shared-slice-read-x c = search needs
+
+enum-told : tie.Need-enum-told
+enum-told c = search needs
+
+enum-told-2 : tie.Need-enum-told-2
+enum-told-2 c = search needs
+
+enum-told-3 : tie.Need-enum-told-3
+enum-told-3 c = search needs
+
+mul-result : tie.Need-mul-result
+mul-result c = omega (arith, inside (c .before .before .before) (c .enum-told3 .given .1))
+
+add-result : tie.Need-add-result
+add-result c = omega (arith, inside (c .before .before .before) (c .enum-told3 .given .1))
+
+mul-result-2 : tie.Need-mul-result-2
+mul-result-2 c = omega (arith, inside (c .before .before .before) (c .enum-told3 .given .1))
+
+shared-slice-read-result : tie.Need-shared-slice-read-result
+shared-slice-read-result c = inside (c .before .before .before .before) (c .before .enum-told3 .given .1)
+
+returns : tie.Need-returns
+unfolding Rows.factor
+returns c = rw (c .enum-told .given .1)
+
+returns-2 : tie.Need-returns-2
+unfolding Rows.factor
+returns-2 c = rw (c .enum-told2 .given .1)
+
+returns-3 : tie.Need-returns-3
+unfolding Rows.factor
+returns-3 c = rw (c .before .enum-told3 .given .1)
+
+pub factor-spec : {M : Type 1} → statement M
+factor-spec = tie.close (tie.spec mul-x shared-slice-read-x enum-told enum-told-2 enum-told-3 mul-result add-result mul-result-2 shared-slice-read-result returns returns-2 returns-3)

@@ -1,0 +1,70 @@
+-- How a period's row of numbers is formed from its returns, and what it adds to a table of sums. What only the contracts of this crate's
+-- inner functions cite. Definitions only.
+use mathlib.Core.Path.{_≡_}
+use Prim.Native.Nat.{ℕ, _+_, _-_, _%_, _≤_, _<_}
+use mathlib.Core.Bool.{cond}
+use mathlib.Core.List.{List}
+use lib.Dec.{leb}
+use lib.ListN.{length}
+use lib.Ieee.{Float}
+use Rattle.leaves.specs.Numbers.{_⊕_, _⊖_, _⊗_, min0}
+use Rattle.leaves.specs.Loops.{nth}
+use Rattle.matrix.specs.Matrix.{Matrix, at}
+use Rattle.estimators.specs.declared.rows.Row.{Row}
+use Rattle.estimators.specs.declared.rows.Row.the-variants.{Deviation, Shortfall, Weighted, Scaled}
+use Rattle.estimators.specs.declared.tables.Term.{Term}
+use Rattle.estimators.specs.declared.tables.Term.the-variants.{Product, Square, Cube}
+
+-- a number of column i of n times its column's unit, a power of two as two factors, where there are units
+unfoldable pub inUnit : ℕ → List Float → ℕ → Float → Float
+inUnit n units i x = cond (leb (n + n) (length units)) (x ⊗ nth units i ⊗ nth units (n + i)) x
+
+-- a number, by its column's center and its period's weight
+unfoldable pub formed : Row → Float → Float → Float → Float
+formed Deviation x c w = x ⊖ c
+formed Shortfall x c w = min0 (x ⊖ c)
+formed Weighted x c w = (x ⊖ c) ⊗ w
+formed (Scaled near far) x c w = (x ⊖ c) ⊗ near ⊗ far
+
+-- the rows of all periods
+unfoldable pub rowsOf : Row → ℕ → List Float → List Float → List Float → Matrix → Matrix
+rowsOf row n units centers weights x t i = formed row (inUnit n units i (x t i)) (nth centers i) (nth weights t)
+
+-- ---- tables of sums: of the second moments, of π and of θ
+
+-- the summand of entry i j, from the row y: row i's factor, joined with the number of column j
+unfoldable pub factor : Term → Matrix → (ℕ → Float) → ℕ → Float
+factor Product s y i = y i
+factor Square s y i = y i
+factor Cube s y i = (y i ⊗ y i ⊖ s i i) ⊗ y i
+
+abbrev pub distance² : Float → Float → Float
+distance² x s = (x ⊖ s) ⊗ (x ⊖ s)
+
+unfoldable pub joined : Term → Float → Float → Float → Float
+joined Product a x s = a ⊗ x
+joined Square a x s = distance² (a ⊗ x) s
+joined Cube a x s = a ⊗ x
+
+abbrev pub summand : Term → Matrix → (ℕ → Float) → Matrix
+summand term s y i j = joined term (factor term s y i) (y j) (s i j)
+
+-- the first column of row i that is summed up: of a symmetric table the diagonal's, or up to three before it, so that rows are whole vectors
+unfoldable pub start : Term → ℕ → ℕ
+start Product i = i - i % 4
+start Square i = i - i % 4
+start Cube i = 0
+
+-- entry i j with the row y's summand added
+unfoldable pub plus : Term → Matrix → (ℕ → Float) → ℕ → ℕ → Float → Float
+plus term s y i j v = cond (leb (start term i) j) (v ⊕ summand term s y i j) v
+
+-- s has k numbers, where it is read
+abbrev pub Sized : Term → ℕ → List Float → Type 0
+Sized Product k s = Unit {0}
+Sized Square k s = k ≤ length s
+Sized Cube k s = k ≤ length s
+
+-- a stored matrix that is its transpose
+abbrev pub Symmetric : ℕ → List Float → Type 0
+Symmetric n s = (i j : ℕ) → i < n → j < n → at s n i j ≡ at s n j i

@@ -1,0 +1,153 @@
+// A given covariance: its checks, its average with its transpose and its decomposition (covariance.rs, `CovarianceConfig::given`).
+ghost use mathlib.Core.Path.{_≡_};
+ghost use mathlib.Core.List.{List};
+ghost use Prim.Native.Nat.{_*_, _≤_, _<_};
+ghost use lib.ListN.{length};
+ghost use lib.Ieee.{Float};
+ghost use Rattle.matrix.specs.Limits.{maxSide, maxSweeps};
+ghost use Rattle.matrix.specs.Matrix.{at, rows, averaged};
+ghost use Rattle.matrix.specs.Inner.{decomposed};
+ghost use Rattle.matrix.specs.Places.{placed};
+ghost use Rattle.estimators.specs.Refusals as Refusals;
+ghost use Rattle.estimators.specs.Given as Given;
+ghost use Rattle.estimators.specs.Checks as Checks;
+ghost use Rattle.estimators.specs.Checks.{checked, examined, judged};
+use crate::Refusal;
+use crate::checks::Check;
+use crate::checks::when;
+use crate::validate::bad_sweep_limit;
+use matrix::jacobi::Outcome;
+use matrix::places::Place;
+
+// The sweep limit; 1, 2, 10 for the slice's length.
+pub(crate) fn check_sizes(limit: usize, size: usize, n: usize) -> Check
+    ensures { λ r. ⌜ checked r ≡ Refusals.first (Checks.bySizes limit size n) ⌝ }
+{
+    let bad = bad_sweep_limit(limit);
+    if let Check::Refuses(refusal) = bad {
+        return Check::Refuses(refusal);
+    }
+    if n == 0 {
+        return Check::Refuses(Refusal::NoAssets);
+    }
+    if n > matrix::MAX_SIDE {
+        return Check::Refuses(Refusal::TooLarge);
+    }
+    when(size != n * n, Refusal::WrongSide(n))
+}
+
+// The first entry that differs from its transpose by more than 1e-12 of the largest.
+fn asymmetry(g: &[f64], n: usize) -> Place
+    requires { ⌜ length (now g) ≡ n * n ⌝ }
+    ensures { λ r. ⌜ placed r ≡ Given.asymmetry n (at (now (g .entry)) n) ⌝ }
+{
+    let tolerance = 1e-12 * matrix::entries::amax(g, n, n);
+    matrix::places::first_asymmetric(g, n, tolerance)
+}
+
+// 5 and 11.
+fn check_entries(g: &[f64], n: usize) -> Check
+    requires { ⌜ length (now g) ≡ n * n ⌝ }
+    ensures { λ r. ⌜ checked r ≡ Refusals.first (Checks.byEntries n (at (now (g .entry)) n)) ⌝ }
+{
+    let bad = matrix::places::first_not_finite(g, n, n);
+    if let Place::At(i, j) = bad {
+        return Check::Refuses(Refusal::NotFinite(i, j));
+    }
+    let skew = asymmetry(g, n);
+    if let Place::At(i, j) = skew {
+        return Check::Refuses(Refusal::Asymmetric(i, j));
+    }
+    Check::Passes
+}
+
+// The decomposition of a matrix over its largest entry, in `over`. A zero matrix is not taken apart.
+fn decompose(
+    a: &[f64],
+    n: usize,
+    limit: usize,
+    over: &mut [f64],
+    values: &mut [f64],
+    vectors: &mut [f64],
+) -> Outcome
+    requires { ⌜ (n ≤ maxSide) × (limit ≤ maxSweeps) × (length (now a) ≡ n * n) × (length (now over) ≡ n * n) × (length (now values) ≡ n) × (length (now vectors) ≡ n * n) ⌝ }
+    ensures { λ r. ⌜ decomposed (r .found) (now (values .exit)) (now (vectors .exit)) (r .sweeps) (r .rotations) ≡ Given.decomposeGiven limit n (at (now (a .entry)) n) ⌝ }
+{
+    let scale = matrix::entries::amax(a, n, n);
+    if 0.0 < scale {
+        matrix::tables::divide(a, n, scale, over);
+        return matrix::jacobi::decompose(over, n, limit, values, vectors);
+    }
+    matrix::jacobi::unturned(n, true, values, vectors)
+}
+
+pub(crate) enum Examined {
+    Refused(Refusal),
+    // sweeps, rotations
+    Accepted(usize, usize),
+}
+
+// 13 and 12, by the values that the decomposition `d` of the matrix `a` has.
+fn judge(d: Outcome, values: &[f64], a: &[f64], n: usize) -> Examined
+    requires { ⌜ (0 < n) × (length (now values) ≡ n) × (length (now a) ≡ n * n) ⌝ }
+    ensures { λ r. ⌜ ((v : List Float) → r ≡ judged n (at (now (a .entry)) n) (decomposed (d .found) (now (values .entry)) v (d .sweeps) (d .rotations))) ⌝ }
+{
+    let found = d.found;
+    if !found {
+        return Examined::Refused(Refusal::NotDecomposed);
+    }
+    let lowest = matrix::entries::smallest(values);
+    let size = std::num::nearest_u64_to_f64(n as u64);
+    if lowest < -10.0 * size * 2.220446049250313e-16 * leaves::sums::amax(values) {
+        return Examined::Refused(Refusal::Indefinite(lowest * matrix::entries::amax(a, n, n)));
+    }
+    Examined::Accepted(d.sweeps, d.rotations)
+}
+
+// `take_apart`, with three slices to reckon in.
+fn take_apart_in(
+    a: &[f64],
+    n: usize,
+    limit: usize,
+    over: &mut [f64],
+    values: &mut [f64],
+    vectors: &mut [f64],
+) -> Examined
+    requires { ⌜ (0 < n) × (n ≤ maxSide) × (limit ≤ maxSweeps) × (length (now a) ≡ n * n) × (length (now over) ≡ n * n) × (length (now values) ≡ n) × (length (now vectors) ≡ n * n) ⌝ }
+    ensures { λ r. ⌜ r ≡ judged n (at (now (a .entry)) n) (Given.decomposeGiven limit n (at (now (a .entry)) n)) ⌝ }
+{
+    let d = decompose(a, n, limit, over, values, vectors);
+    judge(d, values, a, n)
+}
+
+// 13 and 12 of an averaged matrix.
+fn take_apart(a: &[f64], n: usize, limit: usize) -> Examined
+    requires { ⌜ (0 < n) × (n ≤ maxSide) × (limit ≤ maxSweeps) × (length (now a) ≡ n * n) ⌝ }
+    ensures { λ r. ⌜ r ≡ judged n (at (now (a .entry)) n) (Given.decomposeGiven limit n (at (now (a .entry)) n)) ⌝ }
+{
+    let mut over = [0.0; matrix::MAX_SIDE * matrix::MAX_SIDE];
+    let mut values = [0.0; matrix::MAX_SIDE];
+    let mut vectors = [0.0; matrix::MAX_SIDE * matrix::MAX_SIDE];
+    let size = n * n;
+    take_apart_in(
+        a,
+        n,
+        limit,
+        &mut over[..size],
+        &mut values[..n],
+        &mut vectors[..size],
+    )
+}
+
+// The average of a given matrix with its transpose, and whether it is refused: 5, 11, 13, 12.
+pub(crate) fn examine(g: &[f64], n: usize, limit: usize, out: &mut [f64]) -> Examined
+    requires { ⌜ (0 < n) × (n ≤ maxSide) × (limit ≤ maxSweeps) × (length (now g) ≡ n * n) × (length (now out) ≡ n * n) ⌝ }
+    ensures { λ r. ⌜ (now (out .exit) ≡ rows n n (averaged (at (now (g .entry)) n))) × (r ≡ examined (Refusals.first (Checks.byNumbers n (at (now (g .entry)) n) (Given.decomposeGiven limit n (at (now (out .exit)) n)))) (Given.decomposeGiven limit n (at (now (out .exit)) n))) ⌝ }
+{
+    matrix::tables::average(g, n, out);
+    let bad = check_entries(g, n);
+    if let Check::Refuses(refusal) = bad {
+        return Examined::Refused(refusal);
+    }
+    take_apart(out, n, limit)
+}

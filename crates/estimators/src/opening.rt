@@ -1,0 +1,57 @@
+// What every call looks at first: the shapes and lengths, 1 to 4.
+ghost use mathlib.Core.Path.{_≡_};
+ghost use Prim.Native.Nat.{_≤_};
+ghost use Rattle.matrix.specs.Limits.{maxSide};
+ghost use Rattle.estimators.specs.Refusals as Refusals;
+ghost use Rattle.estimators.specs.Checks.{checked};
+ghost use Rattle.estimators.specs.Opening as Opening;
+use crate::Refusal;
+use crate::checks::Check;
+use crate::checks::when;
+
+// What a call's answer fills: an n × n table, n numbers, or nothing.
+pub(crate) enum Filled {
+    Table,
+    Vector,
+    Nothing,
+}
+
+// The numbers that the answer slice needs.
+fn needed(filled: Filled, n: usize) -> usize
+    requires { ⌜ n ≤ maxSide ⌝ }
+    ensures { λ r. ⌜ r ≡ Opening.needed filled n ⌝ }
+{
+    match filled {
+        Filled::Table => n * n,
+        Filled::Vector => n,
+        Filled::Nothing => 0,
+    }
+}
+
+// 1 to 4, for a return slice of `length` numbers and an answer slice of `room`.
+pub(crate) fn check_shape(
+    length: usize,
+    n: usize,
+    periods: usize,
+    filled: Filled,
+    room: usize,
+) -> Check
+    ensures { λ r. ⌜ checked r ≡ Refusals.first (Opening.byShape length n periods (Opening.needed filled n) room) ⌝ }
+{
+    if n == 0 {
+        return Check::Refuses(Refusal::NoAssets);
+    }
+    if n > matrix::MAX_SIDE {
+        return Check::Refuses(Refusal::TooLarge);
+    }
+    if periods > crate::MAX_PERIODS {
+        return Check::Refuses(Refusal::TooLarge);
+    }
+    if periods < 2 {
+        return Check::Refuses(Refusal::TooFewPeriods(periods));
+    }
+    if length != periods * n {
+        return Check::Refuses(Refusal::WrongLength);
+    }
+    when(room < needed(filled, n), Refusal::WrongLength)
+}

@@ -1,0 +1,87 @@
+// The checks of the settings, refusals 7 and 8 (covariance.rs, `validate`).
+ghost use mathlib.Core.Path.{_≡_};
+ghost use mathlib.Core.List.{[], _∷_};
+ghost use Rattle.estimators.specs.Refusals as Refusals;
+ghost use Rattle.estimators.specs.Checks.{checked};
+ghost use Rattle.estimators.specs.Adjusted as Adjusted;
+ghost use Rattle.estimators.specs.Order as Order;
+use crate::Estimate;
+use crate::Field;
+use crate::Refusal;
+use crate::Regularization;
+use crate::Settings;
+use crate::Shrinkage;
+use crate::checks::Check;
+use crate::checks::first;
+use crate::checks::when;
+
+fn is_sample(estimate: Estimate) -> bool
+    ensures { λ r. ⌜ r ≡ Adjusted.isSample estimate ⌝ }
+{
+    match estimate {
+        Estimate::Sample => true,
+        Estimate::Given => false,
+        Estimate::Weighted(_) => false,
+        Estimate::Semi => false,
+        Estimate::SemiBelow(_) => false,
+    }
+}
+
+pub(crate) fn is_given(estimate: Estimate) -> bool
+    ensures { λ r. ⌜ r ≡ Adjusted.isGiven estimate ⌝ }
+{
+    match estimate {
+        Estimate::Sample => false,
+        Estimate::Given => true,
+        Estimate::Weighted(_) => false,
+        Estimate::Semi => false,
+        Estimate::SemiBelow(_) => false,
+    }
+}
+
+// Finite and at least 0, as -0 is.
+fn bad_regularization(regularization: Regularization) -> Check
+    ensures { λ r. ⌜ checked r ≡ Order.badRegularization regularization ⌝ }
+{
+    match regularization {
+        Regularization::Unregularized => Check::Passes,
+        Regularization::Ridge(ridge) => {
+            let good = leaves::numbers::is_finite(ridge) && 0.0 <= ridge;
+            when(!good, Refusal::BadSetting(Field::RegularizationField))
+        }
+    }
+}
+
+// In [0, 1].
+fn bad_shrinkage(shrinkage: Shrinkage) -> Check
+    ensures { λ r. ⌜ checked r ≡ Order.badShrinkage shrinkage ⌝ }
+{
+    match shrinkage {
+        Shrinkage::Unshrunk => Check::Passes,
+        Shrinkage::Fixed(intensity) => {
+            let good = 0.0 <= intensity && intensity <= 1.0;
+            when(!good, Refusal::BadSetting(Field::ShrinkageField))
+        }
+        Shrinkage::LedoitWolf(_) => Check::Passes,
+    }
+}
+
+// Ledoit-Wolf with another estimate.
+fn not_the_sample(shrinkage: Shrinkage, estimate: Estimate) -> Check
+    ensures { λ r. ⌜ checked r ≡ Order.notTheSample shrinkage estimate ⌝ }
+{
+    match shrinkage {
+        Shrinkage::Unshrunk => Check::Passes,
+        Shrinkage::Fixed(_) => Check::Passes,
+        Shrinkage::LedoitWolf(_) => when(!is_sample(estimate), Refusal::NotTheSample),
+    }
+}
+
+pub(crate) fn bad_sweep_limit(limit: usize) -> Check
+    ensures { λ r. ⌜ checked r ≡ Order.sweepLimit limit ⌝ }
+{
+    when(
+        limit > matrix::MAX_SWEEPS,
+        Refusal::BadSetting(Field::SweepLimitField),
+    )
+}

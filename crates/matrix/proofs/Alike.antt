@@ -1,0 +1,68 @@
+-- Two matrices with the same entries, within m rows and n columns, are alike in all that is looked for, summed or decomposed. So a stored matrix
+-- stands for the function that it stores. Assumes nothing.
+use mathlib.Core.Path.{_≡_, refl, ap, _∙_}
+use mathlib.Core.Bool.{Bool, true, false, not}
+use mathlib.Core.List.{List}
+use mathlib.Core.Option.{Option, none, some}
+use Prim.Native.Nat.{ℕ, _*_, _/_, _%_, _<_}
+use lib.Ieee.{Float, eq}
+use Rattle.leaves.specs.Numbers.{_⊕_, _⊗_, _⊘_, zero⁺, half, isFinite}
+use Rattle.leaves.specs.Loops.{loop}
+use Rattle.leaves.proofs.Loops.{loop-ext, sum-ext, amax-ext, first-ext}
+use Rattle.matrix.specs.Matrix.{Matrix, at, rows, identity, product, transpose, trace, amax, sumOver, total, firstEntry, allFinite}
+use Rattle.matrix.specs.Jacobi.{Decomposition, start, swept, scaledBack, unturned, decompose}
+use Rattle.matrix.proofs.Stored.{cell-ext, rows-ext, rows-at, product-ext}
+
+pub first-entry-alike : (m n : ℕ) (f g : ℕ → ℕ → Bool) → ((i j : ℕ) → i < m → j < n → f i j ≡ g i j) → firstEntry m n f ≡ firstEntry m n g
+unfolding firstEntry
+first-entry-alike m n f g h =
+    ap (λ (o : Option ℕ). elim o as (λ z. Option (ℕ × ℕ)) [ none ↦ none | some k ↦ some (k / n, k % n) ]) (first-ext (m * n) (λ k. f (k / n) (k % n)) (λ k. g (k / n) (k % n)) (cell-ext m n f g h))
+
+module _ (m n : ℕ) (f g : Matrix) (h : (i j : ℕ) → i < m → j < n → f i j ≡ g i j) where
+  pub amax-alike : amax m n f ≡ amax m n g
+  unfolding amax
+  amax-alike = amax-ext (m * n) (λ k. f (k / n) (k % n)) (λ k. g (k / n) (k % n)) (cell-ext m n f g h)
+
+  pub finite-alike : allFinite m n f ≡ allFinite m n g
+  unfolding allFinite
+  finite-alike =
+      ap (λ (o : Option (ℕ × ℕ)). elim o as (λ z. Bool) [ none ↦ true | some k ↦ false ]) (first-entry-alike m n (λ i j. not (isFinite (f i j))) (λ i j. not (isFinite (g i j))) (λ i j hi hj. ap (λ (x : Float). not (isFinite x)) (h i j hi hj)))
+
+module _ (n : ℕ) (f g : Matrix) (h : (i j : ℕ) → i < n → j < n → f i j ≡ g i j) where
+  pub trace-alike : trace n f ≡ trace n g
+  unfolding trace
+  trace-alike = sum-ext n (λ i. f i i) (λ i. g i i) (λ i l. h i i l l)
+
+  pub total-alike : total n f ≡ total n g
+  unfolding total sumOver
+  total-alike = loop-ext n (loop-of f) (loop-of g) zero⁺ (λ i l s. loop-ext n (λ j s. s ⊕ f i j) (λ j s. s ⊕ g i j) s (λ j k s. ap (λ (x : Float). s ⊕ x) (h i j l k)))
+    where
+      loop-of : Matrix → ℕ → Float → Float
+      loop-of f i = loop n (λ j s. s ⊕ f i j)
+
+  pub start-alike : (scale : Float) → start n scale f ≡ start n scale g
+  unfolding start
+  start-alike scale =
+      ap (λ (b : List Float). rows n n (λ i j. (at b n i j ⊕ at b n j i) ⊗ half))
+      (rows-ext n n (product n (left f) identity) (product n (left g) identity) (λ i j hi hj. product-ext n (left f) (left g) identity identity i j
+      (λ k l. product-ext n (transpose identity) (transpose identity) (λ i j. f i j ⊘ scale) (λ i j. g i j ⊘ scale) i k (λ k l. refl) (λ o u. ap (λ (x : Float). x ⊘ scale) (h o k u l))) (λ k l. refl)))
+    where
+      left : Matrix → Matrix
+      left f = product n (transpose identity) (λ i j. f i j ⊘ scale)
+
+-- a decomposition, by whether the matrix is finite, whether its largest size is zero, that size, and what the sweeps begin with
+abbrev pub decomposedBy : ℕ → ℕ → Bool → Bool → Float → List Float → Decomposition
+decomposedBy limit n finite empty scale b = elim finite [ false ↦ unturned n false | true ↦ elim empty [ true ↦ unturned n true | false ↦ scaledBack n scale (swept limit n b) ] ]
+
+pub decompose-is : (limit n : ℕ) (a : Matrix) → decompose limit n a ≡ decomposedBy limit n (allFinite n n a) (eq (amax n n a) zero⁺) (amax n n a) (start n (amax n n a) a)
+unfolding decompose
+decompose-is limit n a = refl
+
+pub decompose-alike : (limit n : ℕ) (f g : Matrix) → ((i j : ℕ) → i < n → j < n → f i j ≡ g i j) → decompose limit n f ≡ decompose limit n g
+unfolding decompose
+decompose-alike limit n f g h =
+    let scales = amax-alike n n f g h in
+    λ i. decomposedBy limit n (finite-alike n n f g h i) (eq (scales i) zero⁺) (scales i) ((ap (λ (s : Float). start n s f) scales ∙ start-alike n f g h (amax n n g)) i)
+
+pub decompose-rows : (limit n : ℕ) (f : Matrix) → decompose limit n (at (rows n n f) n) ≡ decompose limit n f
+decompose-rows limit n f = decompose-alike limit n (at (rows n n f) n) f (rows-at f n n)

@@ -1,0 +1,187 @@
+-- A row of numbers two of which are turned, again and again, from a row of the identity: the sum of its squares, in units, is at most 2 (257 / 256) ^ r after r
+-- turns (`Good`). So it stays far below 2 ^ 600 for as many turns as the limits allow. Assumes nothing.
+use mathlib.Core.Path.{_≡_, refl, sym, ap, _∙_, subst}
+use mathlib.Core.Logic.{_⊎_, inl, inr, _≢_}
+use mathlib.Core.Bool.{Bool, true, false, cond}
+use Prim.Native.Nat.{ℕ, zero, suc, _+_, _-_, _*_, _^_, _≤_, _<_}
+use native.Mathlib.Nat.{le-refl, le-trans, le-of-eq, le-step, le-of-suc-le-suc, lt-trans, not-suc-le-zero, eq-or-lt-of-le, ne-of-lt, add-sub-of-le, mul-mul-mul-comm, suc-mul, mul-le-mul, mul-le-mul-left, mul-le-mul-right, le-of-mul-le-mul-right, pow-suc, one-le-pow, pow-le-pow-left}
+use native.Mathlib.Omega.{arith}
+use lib.Dec.{eqb, lit≤}
+use lib.Pow.{pow-add}
+use lib.Ieee.{Float}
+use borrow.Author.Tests.{eqb-false, eq-eqb, ne-eqb}
+use Rattle.leaves.specs.Numbers.{_⊕_, _⊖_, _⊗_}
+use Rattle.leaves.proofs.Units.{U, mag}
+use Rattle.matrix.specs.Limits.{maxSide, maxSweeps}
+use Rattle.matrix.proofs.Squares.{square-back}
+use Rattle.matrix.proofs.Angle.{Angle}
+use Rattle.matrix.proofs.Turn.{Limit, Tame, Next, next}
+
+-- ---- sums
+unfoldable pub sum : (ℕ → ℕ) → ℕ → ℕ
+sum f zero = 0
+sum f (suc n) = sum f n + f n
+
+pub sum-same : (f g : ℕ → ℕ) (n : ℕ) → ((j : ℕ) → j < n → f j ≡ g j) → sum f n ≡ sum g n
+unfolding sum
+sum-same f g zero h = refl
+sum-same f g (suc n) h = λ i. sum-same f g n (λ j l. h j (le-step l)) i + h n (le-refl (suc n)) i
+
+-- f with 0 at p
+abbrev pub without : (ℕ → ℕ) → ℕ → ℕ → ℕ
+without f p j = cond (eqb j p) 0 (f j)
+
+other : (f : ℕ → ℕ) (p j : ℕ) → j ≢ p → without f p j ≡ f j
+other f p j d = ap (λ (b : Bool). cond b 0 (f j)) (ne-eqb j p d)
+
+pub sum-without : (f : ℕ → ℕ) (n p : ℕ) → p < n → sum f n ≡ sum (without f p) n + f p
+unfolding sum
+sum-without f zero p h = absurd (not-suc-le-zero h)
+sum-without f (suc n) p h = go (eq-or-lt-of-le (le-of-suc-le-suc h)) (sum-without f n p)
+  where
+    go : (p ≡ n) ⊎ (p < n) → (p < n → sum f n ≡ sum (without f p) n + f p) → sum f n + f n ≡ sum (without f p) n + without f p n + f p
+    go (inl e) ih =
+        let a : without f p n ≡ 0 = ap (λ (b : Bool). cond b 0 (f n)) (eq-eqb n p (sym e)) in
+        let b : f p ≡ f n = ap f e in
+        let c : sum (without f p) n ≡ sum f n = sum-same (without f p) f n (λ j l. other f p j (λ (d : j ≡ p). ne-of-lt l (d ∙ e))) in
+        omega arith
+    go (inr l) ih = let a = ih l in let b = other f p n (λ (d : n ≡ p). ne-of-lt l (sym d)) in omega arith
+
+-- all but one are 0
+sum-zero : (n : ℕ) → sum (λ j. 0) n ≡ 0
+unfolding sum
+sum-zero zero = refl
+sum-zero (suc n) = let e = sum-zero n in omega arith
+
+pub sum-alone : (f : ℕ → ℕ) (n k : ℕ) → k < n → ((j : ℕ) → j ≢ k → f j ≡ 0) → sum f n ≡ f k
+sum-alone f n k l h = let a = sum-without f n k l in let b = sum-same (without f k) (λ j. 0) n (λ j i. none j) in let c = sum-zero n in omega arith
+  where
+    none : (j : ℕ) → without f k j ≡ 0
+    none j = go (eqb j k) (eqb-false j k)
+      where
+        go : (b : Bool) → (b ≡ false → j ≢ k) → cond b 0 (f j) ≡ 0
+        go true d = refl
+        go false d = h j (d refl)
+
+-- two numbers changed
+module _ (f g : ℕ → ℕ) (n p q : ℕ) (pq : p < q) (qn : q < n) (h : (j : ℕ) → j ≢ p → j ≢ q → f j ≡ g j) where
+  apart : (f : ℕ → ℕ) → sum f n ≡ sum (without (without f p) q) n + f q + f p
+  apart f =
+      let a = sum-without f n p (lt-trans pq qn) in
+      let b = sum-without (without f p) n q qn in
+      let c = other f p q (λ (d : q ≡ p). ne-of-lt pq (sym d)) in
+      omega arith
+
+  alike : (j : ℕ) → without (without f p) q j ≡ without (without g p) q j
+  alike j = go (eqb j q) (eqb j p) (eqb-false j q) (eqb-false j p)
+    where
+      go : (x y : Bool) → (x ≡ false → j ≢ q) → (y ≡ false → j ≢ p) → cond x 0 (cond y 0 (f j)) ≡ cond x 0 (cond y 0 (g j))
+      go true y a b = refl
+      go false true a b = refl
+      go false false a b = h j (b refl) (a refl)
+
+  pub exchanged : sum g n + (f p + f q) ≡ sum f n + (g p + g q)
+  exchanged = let a = apart f in let b = apart g in let c = sum-same (without (without f p) q) (without (without g p) q) n (λ j l. alike j) in omega arith
+
+  pub both-in : f p + f q ≤ sum f n
+  both-in = let a = apart f in omega arith
+
+-- ---- a row after r turns
+abbrev squares : (ℕ → Float) → ℕ → ℕ
+squares row j = mag (row j) * mag (row j)
+
+pub record Good (n : ℕ) (row : ℕ → Float) (r : ℕ) : Type 0 where
+  pub tame : (j : ℕ) → j < n → Tame (row j)
+  pub most : (sum (squares row) n + 33554432) * 256 ^ r ≤ U * U * 2 * 257 ^ r
+
+pub good-same : (n r : ℕ) (row row′ : ℕ → Float) → ((j : ℕ) → j < n → row j ≡ row′ j) → Good n row r → Good n row′ r
+good-same n r row row′ h g = record {
+  tame = λ j l. subst Tame (h j l) (g .tame j l);
+  most = subst (λ (k : ℕ). (k + 33554432) * 256 ^ r ≤ U * U * 2 * 257 ^ r) (sum-same (squares row) (squares row′) n (λ j l. ap (λ (x : Float). mag x * mag x) (h j l))) (g .most);
+}
+
+-- at most as many turns as the limits allow: a block of 177 at most doubles the squares
+abbrev pub mostTurns : ℕ
+mostTurns = maxSweeps * (maxSide * maxSide)
+
+blocks : (k : ℕ) → 257 ^ (k * 177) ≤ 2 ^ k * 256 ^ (k * 177)
+blocks zero = lit≤ tt
+blocks (suc k) =
+    rw (suc-mul k 177, pow-add 257 (k * 177) 177, pow-add 256 (k * 177) 177, pow-suc 2 k)
+    (le-trans (mul-le-mul (blocks k) (lit≤ {m = 257 ^ 177} {n = 2 * 256 ^ 177} tt)) (le-of-eq (mul-mul-mul-comm (2 ^ k) (256 ^ (k * 177)) 2 (256 ^ 177))))
+
+-- twice the squares' growth, and its root
+unfoldable Most : ℕ
+Most = 2 ^ 290
+
+growth : (r : ℕ) → r ≤ mostTurns → 2 * 257 ^ r ≤ Most * Most * 256 ^ r
+unfolding Most
+growth r h =
+    let k = 579 * 177 - r in
+    let e : r + k ≡ 579 * 177 = add-sub-of-le (le-trans h (lit≤ tt)) in
+    let a : 257 ^ (r + k) ≤ 2 ^ 579 * 256 ^ (r + k) = rw e (blocks 579) in
+    cancel (257 ^ r) (257 ^ k) (2 ^ 579) (256 ^ r) (256 ^ k) (rw (pow-add 257 r k, pow-add 256 r k) at a) (pow-le-pow-left (lit≤ tt) k) (one-le-pow k 256 (lit≤ tt))
+  where
+    cancel : (x y z v w : ℕ) → x * y ≤ z * (v * w) → w ≤ y → 0 < w → 2 * x ≤ 2 * z * v
+    cancel x y z v w h g W = le-of-mul-le-mul-right {m = 2 * x} {n = 2 * z * v} {k = w} (let f = mul-le-mul-left x g in omega arith) W
+
+pub good-small : (n r : ℕ) (row : ℕ → Float) → r ≤ mostTurns → Good n row r → (j : ℕ) → j < n → mag (row j) ≤ Limit
+good-small n r row h g j l =
+    let e = sum-without (squares row) n j l in
+    le-trans (square-back (mag (row j)) (U * Most) (cancel (mag (row j)) (sum (squares row) n) (256 ^ r) (257 ^ r) U Most (omega arith) (g .most) (growth r h) (one-le-pow r 256 (lit≤ tt)))) fits-in
+  where
+    fits-in : U * Most ≤ Limit
+    fits-in = unfold U Most Limit in lit≤ tt
+
+    cancel : (x t d b u w : ℕ) → x * x ≤ t → (t + 33554432) * d ≤ u * u * 2 * b → 2 * b ≤ w * w * d → 0 < d → x * x ≤ u * w * (u * w)
+    cancel x t d b u w a g h D = le-of-mul-le-mul-right {m = x * x} {n = u * w * (u * w)} {k = d} (let f = mul-le-mul-left (u * u) h in let e = mul-le-mul-right d a in omega arith) D
+
+-- ---- a turn
+abbrev pub turnedRow : Float → Float → ℕ → ℕ → (ℕ → Float) → ℕ → Float
+turnedRow c s p q row j = cond (eqb j p) (c ⊗ row p ⊖ s ⊗ row q) (cond (eqb j q) (s ⊗ row p ⊕ c ⊗ row q) (row j))
+
+raised : (t t′ d b l : ℕ) → (t′ + 33554432) * 256 ≤ (t + 33554432) * 257 → (t + 33554432) * d ≤ l * b → (t′ + 33554432) * (d * 256) ≤ l * (b * 257)
+raised t t′ d b l h g = let f = mul-le-mul-right d h in omega arith
+
+pub good-still : (n r : ℕ) (row : ℕ → Float) → Good n row r → Good n row (suc r)
+good-still n r row g = record {
+  tame = g .tame;
+  most = rw (pow-suc 256 r, pow-suc 257 r) (raised (sum (squares row) n) (sum (squares row) n) (256 ^ r) (257 ^ r) (U * U * 2) (omega arith) (g .most));
+}
+
+pub good-turned : (n r p q : ℕ) (c s : Float) (row : ℕ → Float) → p < q → q < n → Angle c s → r ≤ mostTurns → Good n row r → Good n (turnedRow c s p q row) (suc r)
+good-turned n r p q c s row pq qn a h g = record {
+  tame = λ j l. go j (eqb j p) (eqb j q) (g .tame j l);
+  most = rw (pow-suc 256 r, pow-suc 257 r) (raised (sum (squares row) n) (sum (squares row′) n) (256 ^ r) (257 ^ r) (U * U * 2) grown (g .most));
+}
+  where
+    row′ : ℕ → Float
+    row′ = turnedRow c s p q row
+
+    pn : p < n
+    pn = lt-trans pq qn
+
+    N : Next (c ⊗ row p ⊖ s ⊗ row q) (s ⊗ row p ⊕ c ⊗ row q) (mag (row p)) (mag (row q))
+    N = next c s (row p) (row q) a (g .tame p pn) (g .tame q qn) (good-small n r row h g p pn) (good-small n r row h g q qn)
+
+    go : (j : ℕ) (x y : Bool) → Tame (row j) → Tame (cond x (c ⊗ row p ⊖ s ⊗ row q) (cond y (s ⊗ row p ⊕ c ⊗ row q) (row j)))
+    go j true y t = N .at-p
+    go j false true t = N .at-q
+    go j false false t = t
+
+    other-j : (j : ℕ) → j ≢ p → j ≢ q → squares row j ≡ squares row′ j
+    other-j j d e = rw (ne-eqb j p d, ne-eqb j q e)
+
+    at-p : squares row′ p ≡ mag (c ⊗ row p ⊖ s ⊗ row q) * mag (c ⊗ row p ⊖ s ⊗ row q)
+    at-p = rw (eq-eqb p p refl)
+
+    at-q : squares row′ q ≡ mag (s ⊗ row p ⊕ c ⊗ row q) * mag (s ⊗ row p ⊕ c ⊗ row q)
+    at-q = rw (ne-eqb q p (λ (d : q ≡ p). ne-of-lt pq (sym d)), eq-eqb q q refl)
+
+    shift : (t t′ x y : ℕ) → t′ + x ≡ t + y → x ≤ t → y * 256 ≤ x * 257 + 33554432 → (t′ + 33554432) * 256 ≤ (t + 33554432) * 257
+    shift t t′ x y e h k = omega arith
+
+    grown : (sum (squares row′) n + 33554432) * 256 ≤ (sum (squares row) n + 33554432) * 257
+    grown =
+        shift (sum (squares row) n) (sum (squares row′) n) (squares row p + squares row q) (squares row′ p + squares row′ q) (exchanged (squares row) (squares row′) n p q pq qn other-j) (both-in (squares row) (squares row′) n p q pq qn other-j)
+        (rw (at-p, at-q) (N .growth))

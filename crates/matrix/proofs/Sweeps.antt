@@ -1,0 +1,99 @@
+-- Document 01, "Jacobi": sweeps ≤ limit, rotations ≤ sweeps × n(n - 1)/2, and a decomposition found at a limit is found at every larger one, in every bit and count.
+-- What every rotation keeps, the vectors and the count of a decomposition have. Assumes nothing.
+use mathlib.Core.Path.{_≡_, refl, sym, ap, _∙_}
+use mathlib.Core.Bool.{Bool, true, false, true≢false}
+use mathlib.Core.List.{List}
+use mathlib.Core.Option.{Option, none, some}
+use Prim.Native.Nat.{ℕ, _-_, _*_, _/_, _≤_, _<_, zero-le}
+use native.Mathlib.Nat.{le-refl, le-of-lt, zero-add}
+use lib.Ieee.{Float, eq}
+use Rattle.leaves.specs.Numbers.{_⊗_, zero⁺, ε}
+use Rattle.leaves.specs.Loops.{loop, firstTo}
+use Rattle.leaves.specs.Root.{sqrt}
+use Rattle.matrix.specs.Matrix.{Matrix, at, rows, identity, amax, squares, allFinite}
+use Rattle.matrix.specs.Rotation.{State}
+use Rattle.matrix.specs.Jacobi.{afterSweeps, test, stops, isConverged, Swept, sweeping, start, swept, scaledBack, unturned, decompose}
+use Rattle.matrix.specs.Inner.{state, sweptTo}
+use Rattle.matrix.proofs.First.{first-below, first-later}
+use Rattle.matrix.proofs.Counts.{pairs, sweeps-keep, AtMost, rotate-count}
+use Rattle.matrix.proofs.Alike.{decomposedBy, decompose-is}
+
+-- ---- sweeping, by what the search for the first sweep that the test forbids finds
+module _ (n : ℕ) (tolerance : Float) (st : State) where
+  -- whether the test forbids sweep k
+  abbrev pub stopping : ℕ → Bool
+  stopping k = stops (test n tolerance (afterSweeps k n st))
+
+  abbrev pub sweptBy : ℕ → Option ℕ → Swept
+  sweptBy limit o = elim o [
+    | none ↦ sweptTo false limit (afterSweeps limit n st)
+    | some k ↦ sweptTo (isConverged (test n tolerance (afterSweeps k n st))) k (afterSweeps k n st)
+  ]
+
+  pub sweeping-is : (limit : ℕ) → sweeping limit n tolerance st ≡ sweptBy limit (firstTo limit stopping)
+  unfolding sweeping
+  sweeping-is limit = refl
+
+  sweeping-reached : (limit : ℕ) → sweeping limit n tolerance st .reached ≡ afterSweeps (sweeping limit n tolerance st .sweeps) n st
+  unfolding sweeping
+  sweeping-reached limit = go (firstTo limit stopping)
+    where
+      go : (o : Option ℕ) → sweptBy limit o .reached ≡ afterSweeps (sweptBy limit o .sweeps) n st
+      go none = refl
+      go (some k) = refl
+
+  sweeping-limit : (limit : ℕ) → sweeping limit n tolerance st .sweeps ≤ limit
+  unfolding sweeping
+  sweeping-limit limit = go (firstTo limit stopping) (first-below stopping limit)
+    where
+      go : (o : Option ℕ) → ((k : ℕ) → o ≡ some k → k < limit) → sweptBy limit o .sweeps ≤ limit
+      go none h = le-refl limit
+      go (some k) h = le-of-lt (h k refl)
+
+  sweeping-later : (limit limit′ : ℕ) → limit ≤ limit′ → sweeping limit n tolerance st .done ≡ true → sweeping limit′ n tolerance st ≡ sweeping limit n tolerance st
+  sweeping-later limit limit′ l d = go (firstTo limit stopping) refl (ap done-of (sym (sweeping-is limit)) ∙ d)
+    where
+      done-of : Swept → Bool
+      done-of w = w .done
+
+      go : (o : Option ℕ) → firstTo limit stopping ≡ o → sweptBy limit o .done ≡ true → sweeping limit′ n tolerance st ≡ sweeping limit n tolerance st
+      go none e d = absurd (true≢false (sym d))
+      go (some k) e d = sweeping-is limit′ ∙ ap (sweptBy limit′) (first-later stopping limit limit′ k l e) ∙ sym (sweeping-is limit ∙ ap (sweptBy limit) e)
+
+-- ---- the decomposition
+abbrev pub initial : ℕ → List Float → State
+initial n b = state b (rows n n identity) 0
+
+module _ (n : ℕ) (a : Matrix) where
+  unfoldable pub begun : State
+  begun = initial n (start n (amax n n a) a)
+
+  -- V and the count of rotations are those of the state after as many sweeps as were made
+  pub decompose-reached : (limit : ℕ) → let d = decompose limit n a in let st = afterSweeps (d .sweeps) n begun in (d .vectors ≡ st .vectors) × (d .rotations ≡ st .rotations)
+  unfolding begun
+  decompose-reached limit = rw (decompose-is limit n a) (go (allFinite n n a) (eq (amax n n a) zero⁺) (amax n n a) (start n (amax n n a) a))
+    where
+      go : (x y : Bool) (scale : Float) (b : List Float) → let d = decomposedBy limit n x y scale b in let st = afterSweeps (d .sweeps) n (initial n b) in (d .vectors ≡ st .vectors) × (d .rotations ≡ st .rotations)
+      go false y scale b = unfold unturned afterSweeps loop in (refl, refl)
+      go true true scale b = unfold unturned afterSweeps loop in (refl, refl)
+      go true false scale b = unfold scaledBack swept in let e = sweeping-reached n (ε ⊗ sqrt (squares n (at b n))) (initial n b) limit in ((λ i. e i .vectors), (λ i. e i .rotations))
+
+  pub sweeps-bound : (limit : ℕ) → decompose limit n a .sweeps ≤ limit
+  sweeps-bound limit = rw (decompose-is limit n a) (go (allFinite n n a) (eq (amax n n a) zero⁺) (amax n n a) (start n (amax n n a) a))
+    where
+      go : (x y : Bool) (scale : Float) (b : List Float) → decomposedBy limit n x y scale b .sweeps ≤ limit
+      go false y scale b = unfold unturned in zero-le
+      go true true scale b = unfold unturned in zero-le
+      go true false scale b = unfold scaledBack swept in sweeping-limit n (ε ⊗ sqrt (squares n (at b n))) (initial n b) limit
+
+  pub rotations-bound : (limit : ℕ) → decompose limit n a .rotations ≤ decompose limit n a .sweeps * (n * (n - 1) / 2)
+  unfolding pairs begun
+  rotations-bound limit = rw (decompose-reached limit .1) (rw zero-add at (sweeps-keep n AtMost (rotate-count n) (decompose limit n a .sweeps) 0 begun (le-refl 0)))
+
+  pub larger-limit : (limit limit′ : ℕ) → limit ≤ limit′ → decompose limit n a .found ≡ true → decompose limit′ n a ≡ decompose limit n a
+  larger-limit limit limit′ l = rw (decompose-is limit n a, decompose-is limit′ n a) (go (allFinite n n a) (eq (amax n n a) zero⁺) (amax n n a) (start n (amax n n a) a))
+    where
+      go : (x y : Bool) (scale : Float) (b : List Float) → decomposedBy limit n x y scale b .found ≡ true → decomposedBy limit′ n x y scale b ≡ decomposedBy limit n x y scale b
+      go false y scale b d = refl
+      go true true scale b d = refl
+      go true false scale b d = unfold scaledBack swept in ap (scaledBack n scale) (sweeping-later n (ε ⊗ sqrt (squares n (at b n))) (initial n b) limit limit′ l d)

@@ -1,0 +1,141 @@
+/* The engine with C linkage. Link target/staticlib/libcapi.a, which `rt staticlib capi` writes.
+
+   A slice is a pointer to its first number and a count of numbers. The pointer is never null, also
+   where the count is 0, and what is written to overlaps no other argument. A matrix stands row by
+   row; rows and columns count from 0. No function keeps a pointer, allocates or fails otherwise
+   than its number says, and each has an answer for all values of its arguments. */
+
+#ifndef ENGINE_H
+#define ENGINE_H
+
+#include <stdbool.h>
+#include <stddef.h>
+#include <stdint.h>
+
+#ifdef __cplusplus
+extern "C" {
+#endif
+
+/* ---- The five calls (document 01)
+
+   `returns` has `assets` columns and `periods` rows. `answer` receives the first assets * assets
+   numbers (the covariance) or assets numbers (the means); its later numbers keep their value. A
+   call that refuses writes nothing to it.
+
+   Each returns 0 where it accepts, and writes
+       numbers: the intensity (0 if none); the target (James-Stein and Bayes-Stein, else 0)
+       wholes:  the sweeps and the rotations of the decomposition (0 if none)
+   else the number of the refusal, with what comes with it; the rest of numbers and wholes is 0:
+
+    1  assets or given side 0
+    2  over 32 assets or side, or over 4,096 periods
+    3  fewer than 2 periods                            wholes[0]: the periods
+    4  returns_len is not periods * assets, or answer_len too small
+    5  an entry is NaN or infinite                     wholes: the first row and column
+    6  the sample or adjusted covariance is not finite
+    7  a bad setting                                   wholes[0]: 1 regularization, 2 shrinkage,
+                                                       3 half-life, 4 threshold, 5 sweep limit
+    8  Ledoit-Wolf with another estimate than the sample
+    9  a variance of 0                                 wholes[0]: the first column
+   10  given_len is not side * side, or side not assets  wholes[0]: the side
+   11  the given matrix is not symmetric               wholes: the first row and column
+   12  the given matrix has a negative eigenvalue      numbers[0]: that value
+   13  the given matrix is not decomposed within the sweep limit
+   14  trace 0; a mean's decomposition fails; a singular correlation
+   16  a number that stands for no kind: this interface only, before all other causes
+
+   (15 is the exam program's: a malformed paper.) */
+
+enum engine_estimate {
+    ENGINE_SAMPLE = 0,
+    ENGINE_GIVEN = 1,
+    ENGINE_WEIGHTED = 2,  /* estimate_value: the half-life, in periods */
+    ENGINE_SEMI = 3,      /* below each asset's mean */
+    ENGINE_SEMI_BELOW = 4 /* estimate_value: the threshold */
+};
+
+enum engine_shrinkage {
+    ENGINE_UNSHRUNK = 0,
+    ENGINE_FIXED = 1, /* shrinkage_value: the intensity */
+    ENGINE_LEDOIT_WOLF_VARIANCE = 2,
+    ENGINE_LEDOIT_WOLF_CORRELATION = 3
+};
+
+enum engine_regularization {
+    ENGINE_UNREGULARIZED = 0,
+    ENGINE_RIDGE = 1 /* regularization_value: what is added to each variance */
+};
+
+enum engine_target {
+    ENGINE_CONSTANT_VARIANCE = 0,
+    ENGINE_CONSTANT_CORRELATION = 1
+};
+
+/* A value that its kind does not have is not read, nor are `limit`, `given` and `side` for another
+   estimate than ENGINE_GIVEN. */
+uint32_t engine_adjusted_covariance(
+    const double *returns, size_t returns_len, size_t assets, size_t periods,
+    uint32_t estimate, double estimate_value,
+    uint32_t shrinkage, double shrinkage_value,
+    uint32_t regularization, double regularization_value,
+    size_t limit, const double *given, size_t given_len, size_t side,
+    double *answer, size_t answer_len, double numbers[2], size_t wholes[2]);
+
+/* The intensity only. */
+uint32_t engine_ledoit_wolf(
+    const double *returns, size_t returns_len, size_t assets, size_t periods,
+    uint32_t target, double numbers[2], size_t wholes[2]);
+
+uint32_t engine_weighted_mean(
+    const double *returns, size_t returns_len, size_t assets, size_t periods,
+    double half_life,
+    double *answer, size_t answer_len, double numbers[2], size_t wholes[2]);
+
+uint32_t engine_james_stein_mean(
+    const double *returns, size_t returns_len, size_t assets, size_t periods,
+    size_t limit,
+    double *answer, size_t answer_len, double numbers[2], size_t wholes[2]);
+
+uint32_t engine_bayes_stein_mean(
+    const double *returns, size_t returns_len, size_t assets, size_t periods,
+    size_t limit,
+    double *answer, size_t answer_len, double numbers[2], size_t wholes[2]);
+
+/* ---- The decomposition
+
+   a = V diag(values) V', for a symmetric matrix of `side` at most 32, in at most `limit` sweeps, at
+   most 100. Returns 0 where it is found and 1 where it is not: values and vectors then hold what
+   the sweeps reached. counts: the sweeps and the rotations made. Returns 2, and writes nothing,
+   where side or limit is larger, or a_len, values_len and vectors_len are not side * side, side and
+   side * side. */
+
+uint32_t matrix_decompose(
+    const double *a, size_t a_len, size_t side, size_t limit,
+    double *values, size_t values_len, double *vectors, size_t vectors_len, size_t counts[2]);
+
+/* ---- The float leaves (document 01, 'Float leaves') */
+
+bool leaf_is_finite(double x);
+double leaf_abs(double x);
+double leaf_signum(double x); /* 1 at +0, -1 at -0 */
+double leaf_larger(double first, double second);
+double leaf_smaller(double first, double second);
+double leaf_min0(double y);
+double leaf_max0(double y);
+double leaf_clamp01(double y);
+int32_t leaf_binary_exponent(double x);
+double leaf_pow2_scaled(double x, int32_t k); /* some |k| / 1000 calls deep */
+double leaf_sqrt(double x);
+double leaf_exp(double y); /* NaN above 0 */
+double leaf_exp_m1(double y);
+double leaf_sum(const double *xs, size_t xs_len);
+double leaf_amax(const double *xs, size_t xs_len);
+/* Column j of xs as whole rows of n numbers; none where j is not below n. */
+double leaf_sum_column(const double *xs, size_t xs_len, size_t n, size_t j);
+double leaf_amax_column(const double *xs, size_t xs_len, size_t n, size_t j);
+
+#ifdef __cplusplus
+}
+#endif
+
+#endif
