@@ -1,17 +1,21 @@
 -- Laws of stored matrices: their numbers, and a matrix made of another's entries. Assumes nothing.
 use mathlib.Core.Path.{_≡_, refl, sym, ap, _∙_}
-use mathlib.Core.Bool.{Bool, true, false}
+use mathlib.Core.Bool.{Bool, true, false, cond}
 use mathlib.Core.List.{List}
-use Prim.Native.Nat.{ℕ, _+_, _*_, _/_, _%_, _<_, _≤_}
+use Prim.Native.Nat.{ℕ, _+_, _*_, _/_, _%_, _-_, _<_, _≤_, zero-le}
+use native.Mathlib.Nat.{sub-zero, not-suc-le-zero}
 use native.Mathlib.Omega.{arith}
-use borrow.Author.Tests.{ltb-true, ltb-false}
-use lib.Dec.{ltb}
-use lib.ListN.{length, List·getD-eq-default}
+use borrow.Author.Tests.{ltb-true, ltb-false, eqb-true, eqb-false, eq-eqb, ne-eqb}
+use lib.Dec.{ltb, eqb}
+use lib.ListN.{length, take, drop, set, length-set, length-drop, List·getD-eq-default}
+use lib.Seq.{length-take-le, getD-set-same, getD-set-other}
 use lib.Ieee.{Float, nan}
-use Rattle.leaves.specs.Loops.{nth}
-use Rattle.leaves.proofs.Loops.{row-below, col-below, amax-ext}
-use Rattle.matrix.specs.Matrix.{Matrix, at, rows, amax}
+use Rattle.leaves.specs.Numbers.{_⊕_, _⊗_, zero⁺}
+use Rattle.leaves.specs.Loops.{tab, nth}
+use Rattle.leaves.proofs.Loops.{row, row-below, col-below, loop-ext, sum-ext, amax-ext, length-tab, tab-ext}
+use Rattle.matrix.specs.Matrix.{Matrix, at, rows, trace, amax, sumOver, every, total, squares}
 use Rattle.matrix.proofs.Stored.{entry-at, length-rows, rows-at}
+use Rattle.estimators.proofs.Stored.{tab-nth, tab-is, replaced, row-replaced, passed, passed-more}
 
 pub rows-nth : (f : Matrix) (n k : ℕ) → k < n * n → nth (rows n n f) k ≡ f (k / n) (k % n)
 rows-nth f n k h = sym (entry-at (rows n n f) n k) ∙ rows-at f n n (k / n) (k % n) (row-below k n h) (col-below k n h)
@@ -33,3 +37,58 @@ mapped-at h e a n l = λ t i j. number (i * n + j) t
             let past = ltb-false k (n * n) t in
             List·getD-eq-default (rows n n (λ i j. h (at a n i j))) nan (omega (arith, length-rows (λ i j. h (at a n i j)) n n))
             ∙ sym (ap h (List·getD-eq-default a nan (omega arith)) ∙ e)
+
+-- a list of which number i is replaced
+pub set-tab : (f : ℕ → Float) (n i : ℕ) (v : Float) → i < n → set (tab n f) i v ≡ tab n (λ j. cond (eqb i j) v (f j))
+set-tab f n i v h = tab-is (set (tab n f) i v) n (λ j. cond (eqb i j) v (f j)) (length-set (tab n f) i v ∙ length-tab f n) (λ k b. go k b (eqb i k) refl)
+  where
+    go : (k : ℕ) → k < n → (b : Bool) → eqb i k ≡ b → nth (set (tab n f) i v) k ≡ cond b v (f k)
+    go k b true e = let same : i ≡ k = eqb-true i k e in ap (λ (j : ℕ). nth (set (tab n f) i v) j) (sym same) ∙ getD-set-same (tab n f) i v nan (omega (arith, length-tab f n))
+    go k b false e = getD-set-other (tab n f) i k v nan (λ same. eqb-false i k e (sym same)) ∙ tab-nth f n k b
+
+-- a matrix made of a stored one, number by number, and another
+pub entrywise : (n : ℕ) (f : Matrix) (g : Float → Float → Float) (xs : List Float) {l out : List Float} → l ≡ rows n n f → out ≡ tab (length l) (λ k. g (nth xs k) (nth l k)) → out ≡ rows n n (λ i j. g (at xs n i j) (f i j))
+unfolding rows
+entrywise n f g xs {l} e e′ =
+    e′ ∙ ap (λ (m : ℕ). tab m (λ k. g (nth xs k) (nth l k))) (ap length e ∙ length-rows f n n)
+    ∙ tab-ext (λ k. g (nth xs k) (nth l k)) (λ k. g (at xs n (k / n) (k % n)) (f (k / n) (k % n))) (n * n)
+    (λ k h t. g (sym (entry-at xs n k) t) ((ap (λ (m : List Float). nth m k) e ∙ rows-nth f n k h) t))
+
+-- ---- sums over a stored matrix
+
+-- terms that are alike
+pub sum-over-ext : (n : ℕ) (keep : ℕ → ℕ → Bool) (f g : Matrix) (s : Float) → ((i j : ℕ) → i < n → j < n → f i j ≡ g i j) → sumOver n keep f s ≡ sumOver n keep g s
+unfolding sumOver
+sum-over-ext n keep f g s h = loop-ext n _ _ s (λ i hi x. loop-ext n _ _ x (λ j hj y t. elim (keep i j) [ true ↦ y ⊕ h i j hi hj t | false ↦ y ]))
+
+module _ (n : ℕ) (f : Matrix) {l : List Float} (e : l ≡ rows n n f) where
+  pub stored : (i j : ℕ) → i < n → j < n → at l n i j ≡ f i j
+  stored i j hi hj = ap (λ (m : List Float). at m n i j) e ∙ rows-at f n n i j hi hj
+
+  pub total-stored : total n (at l n) ≡ total n f
+  unfolding total
+  total-stored = sum-over-ext n every (at l n) f zero⁺ stored
+
+  pub squares-stored : squares n (at l n) ≡ squares n f
+  unfolding squares
+  squares-stored = sum-over-ext n every (λ i j. at l n i j ⊗ at l n i j) (λ i j. f i j ⊗ f i j) zero⁺ (λ i j hi hj t. stored i j hi hj t ⊗ stored i j hi hj t)
+
+  pub trace-stored : trace n (at l n) ≡ trace n f
+  unfolding trace
+  trace-stored = sum-ext n (λ i. at l n i i) (λ i. f i i) (λ i h. stored i i h h)
+
+-- ---- row by row
+
+-- a row, lent as a part of its table
+pub row-long : (n i : ℕ) (l : List Float) → length l ≡ n * n → i < n → length (take (i * n + n - i * n) (drop (i * n) l)) ≡ n
+row-long n i l e h = let m : i * n + n - i * n ≡ n = omega arith in length-take-le _ (drop (i * n) l) (omega (arith, length-drop (i * n) l, row i n n h)) ∙ m
+
+-- one whole row more
+pub passed-row : (n : ℕ) (F : Matrix) (old : List Float) (i : ℕ) (out ys : List Float) → out ≡ passed n i F old → i < n → ys ≡ tab n (F i) → replaced (i * n) (i * n + n - i * n) out ys ≡ passed n (i + 1) F old
+passed-row n F old i out ys e hi ey =
+    let m : i * n + n - i * n ≡ n = omega arith in
+    passed-more n F old i out e F (replaced (i * n) (i * n + n - i * n) out ys)
+    (row-replaced n i 0 (i * n) (i * n + n - i * n) out ys (λ p q. cond (eqb p i) (F p q) (at out n p q)) (ap length e ∙ length-rows _ n n) hi zero-le (omega arith) (omega arith)
+    (ap length ey ∙ length-tab (F i) n ∙ sym m) (λ p q hp hq h. rw (ne-eqb p i h)) (λ q h. absurd (not-suc-le-zero h))
+    (λ q h hq. rw (eq-eqb i i refl) (ap (nth ys) (sub-zero q) ∙ ap (λ (l : List Float). nth l q) ey ∙ tab-nth (F i) n q hq)))
+    (λ q h hq. refl)

@@ -6,6 +6,8 @@ pub mod Mirror
 pub mod Halves
 pub mod Firsts
 pub mod Entries
+pub mod LedoitWolf
 pub mod OfGiven
 pub mod Exponents
 pub mod Gathered
+pub mod Constant

@@ -2,23 +2,16 @@
 use Prim.Native.Nat.{ℕ}
 use mathlib.Core.Path.{_≡_}
 use mathlib.Core.List.{List}
-use mathlib.Core.Option.{Option, none, some}
 use lib.IntN.{ℤ, pos, _+ℤ_, _-ℤ_}
 use lib.ListN.{getD}
 use lib.Ieee.{Float}
 use Rattle.leaves.specs.Numbers.{_⊕_, _⊖_, _⊗_, _⊘_, count, two, max0}
 use Rattle.leaves.specs.Loops.{tab, nth}
 use Rattle.leaves.specs.Scaling.{pow2Scaled}
-use Rattle.leaves.specs.Root.{sqrt}
 use Rattle.matrix.specs.Matrix.{Matrix}
 use Rattle.matrix.specs.Jacobi.{Decomposition}
+use Rattle.estimators.specs.LedoitWolf.{deviationOf}
 use Rattle.estimators.specs.BayesStein.{project, form, Pull, bayesStein}
-use Rattle.estimators.specs.declared.bayes_stein.Found.{Found}
-use Rattle.estimators.specs.declared.bayes_stein.Found.the-variants.{Asset, Nothing}
-
-abbrev pub assetOf : Found → Option ℕ
-assetOf (Asset i) = some i
-assetOf Nothing = none
 
 -- the parts of `bayesStein`: xᵀC⁻¹y / xᵀC⁻¹x, and zᵀC⁻¹z for z = y - a x
 abbrev pub ratioOf : ℕ → Decomposition → List Float → List Float → Float
@@ -39,5 +32,5 @@ pulledBy n T ratio squared a b =
 -- α and μ₀ are `bayesStein`'s, for every covariance with these volatilities and every decomposition with these values and vectors
 abbrev pub Pulls : ℕ → List Float → List Float → List ℤ → Float → List Float → List Float → Float → Float → Type 0
 Pulls n μ v e T values vectors α μ₀ =
-    (Σ : Matrix) (d : Decomposition) → v ≡ tab n (λ i. sqrt (Σ i i)) → d .values ≡ values → d .vectors ≡ vectors
+    (Σ : Matrix) (d : Decomposition) → v ≡ tab n (deviationOf Σ) → d .values ≡ values → d .vectors ≡ vectors
     → pullOf α μ₀ ≡ bayesStein n T (nth μ) Σ (λ i. getD e i (pos 0)) d

@@ -2,53 +2,40 @@
 ghost use mathlib.Core.Path.{_≡_};
 ghost use Prim.Native.Nat.{ℕ, _*_, _≤_, _<_};
 ghost use lib.IntN.{natAbs};
-ghost use lib.ListN.{length, getD};
-ghost use lib.Ieee.{Float, le};
-ghost use Rattle.leaves.specs.Numbers.{_⊗_, _⊘_, 1e-10};
-ghost use Rattle.leaves.specs.Loops.{firstTo, tab, nth};
-ghost use Rattle.leaves.specs.Root.{sqrt};
+ghost use lib.ListN.{length};
+ghost use Rattle.leaves.specs.Numbers.{_⊘_};
+ghost use Rattle.leaves.specs.Loops.{tab, nth};
 ghost use Rattle.matrix.specs.Limits.{maxSide};
 ghost use Rattle.matrix.specs.Matrix.{Matrix, at, rows};
 ghost use Rattle.matrix.specs.Jacobi.{Decomposition};
+ghost use Rattle.estimators.specs.Refusals as Refusals;
+ghost use Rattle.estimators.specs.Sample as Sample;
+ghost use Rattle.estimators.specs.LedoitWolf.{deviationOf};
 ghost use Rattle.estimators.specs.BayesStein as BayesStein;
+ghost use Rattle.estimators.specs.Checks.{checked};
 ghost use Rattle.estimators.specs.Gather.{Exponents, twoExponents};
-ghost use Rattle.estimators.specs.Stein.{assetOf, pullOf, pulledBy, Pulls};
+ghost use Rattle.estimators.specs.Stein.{pullOf, pulledBy, Pulls};
+use crate::Refusal;
+use crate::checks::Check;
 use crate::forms::distance;
 use crate::forms::ratio;
 use crate::gather::gather_means;
 use crate::gather::gather_ones;
 use leaves::scaling::pow2_scaled;
 
-// The square roots of the variances.
-fn put_volatilities(covariance: &[f64], n: usize, out: &mut [f64])
-    requires { ⌜ (length (now covariance) ≡ n * n) × (length (now out) ≡ n) ⌝ }
-    ensures { λ _. ⌜ now (out .exit) ≡ tab n (λ (i : ℕ). sqrt (at (now (covariance .entry)) n i i)) ⌝ }
+// The first asset with a volatility of at most 1e-10 of its largest return.
+pub(crate) fn constant_asset(volatilities: &[f64], n: usize, sizes: &[f64]) -> Check
+    requires { ⌜ (length (now volatilities) ≡ n) × (length (now sizes) ≡ n) ⌝ }
+    ensures { λ r. ⌜ ((s : Matrix) → now (volatilities .entry) ≡ tab n (deviationOf s) → checked r ≡ Refusals.whenSome (Sample.constantAsset n s (nth (now (sizes .entry)))) Refusal.ZeroVariance) ⌝ }
 {
     let mut i = 0;
     while i < n {
-        out[i] = leaves::root::sqrt(covariance[i * n + i]);
-        i += 1;
-    }
-}
-
-enum Found {
-    Asset(usize),
-    Nothing,
-}
-
-// The first asset with a volatility of at most 1e-10 of its largest return.
-fn constant_asset(volatilities: &[f64], sizes: &[f64]) -> Found
-    requires { ⌜ length (now sizes) ≡ length (now volatilities) ⌝ }
-    ensures { λ r. ⌜ assetOf r ≡ firstTo (length (now (volatilities .entry))) (λ (i : ℕ). le (nth (now (volatilities .entry)) i) (1e-10 ⊗ nth (now (sizes .entry)) i)) ⌝ }
-{
-    let mut i = 0;
-    while i < volatilities.len() {
         if volatilities[i] <= 1e-10 * sizes[i] {
-            return Found::Asset(i);
+            return Check::Refuses(Refusal::ZeroVariance(i));
         }
         i += 1;
     }
-    Found::Nothing
+    Check::Passes
 }
 
 // The covariances over both assets' volatilities, one after the other.

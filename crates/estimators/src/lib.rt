@@ -1,4 +1,5 @@
 // The records of document 01 that cross a call.
+mod adjusted;
 mod bayes_stein;
 mod checks;
 mod forms;
@@ -6,10 +7,12 @@ mod gather;
 mod given;
 mod gram;
 mod james_stein;
+mod ledoit_wolf;
 mod moments;
 mod opening;
 mod rows;
 mod tables;
+mod targets;
 mod validate;
 mod vectors;
 

@@ -2,7 +2,7 @@
 ghost use mathlib.Core.Path.{_≡_};
 ghost use Prim.Native.Nat.{ℕ, _+_, _≤_};
 ghost use lib.ListN.{length};
-ghost use Rattle.leaves.specs.Numbers.{_⊕_, _⊗_, _⊘_};
+ghost use Rattle.leaves.specs.Numbers.{_⊕_, _⊖_, _⊗_, _⊘_};
 ghost use Rattle.leaves.specs.Loops.{tab, nth};
 ghost use Rattle.estimators.specs.Rows.{distance²};
 
@@ -22,6 +22,38 @@ pub(crate) fn divide(x: f64, out: &mut [f64])
     let mut k = 0;
     while k < out.len() {
         out[k] = out[k] / x;
+        k += 1;
+    }
+}
+
+pub(crate) fn copy(xs: &[f64], out: &mut [f64])
+    requires { ⌜ length (now xs) ≡ length (now out) ⌝ }
+    ensures { λ _. ⌜ now (out .exit) ≡ now (xs .entry) ⌝ }
+{
+    let mut k = 0;
+    while k < out.len() {
+        out[k] = xs[k];
+        k += 1;
+    }
+}
+
+pub(crate) fn times(a: f64, out: &mut [f64])
+    ensures { λ _. ⌜ now (out .exit) ≡ tab (length (now (out .entry))) (λ (k : ℕ). a ⊗ nth (now (out .entry)) k) ⌝ }
+{
+    let mut k = 0;
+    while k < out.len() {
+        out[k] = a * out[k];
+        k += 1;
+    }
+}
+
+pub(crate) fn subtract_from(xs: &[f64], out: &mut [f64])
+    requires { ⌜ length (now xs) ≡ length (now out) ⌝ }
+    ensures { λ _. ⌜ now (out .exit) ≡ tab (length (now (out .entry))) (λ (k : ℕ). nth (now (xs .entry)) k ⊖ nth (now (out .entry)) k) ⌝ }
+{
+    let mut k = 0;
+    while k < out.len() {
+        out[k] = xs[k] - out[k];
         k += 1;
     }
 }

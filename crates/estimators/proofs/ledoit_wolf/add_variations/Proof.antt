@@ -1,0 +1,64 @@
+-- `estimators::ledoit_wolf::add_variations` meets its contract. The invariant: the row's sum up to column j.
+use mathlib.Core.Path.{_≡_}
+use Prim.Native.Nat.{_≤_, _-_}
+use native.Mathlib.Omega.{arith}
+use Rattle.leaves.specs.Numbers.{_⊗_, _⊘_}
+use Rattle.leaves.specs.Loops.{nth}
+use Rattle.leaves.proofs.Loops.{row, loop-start, loop-turn, at-end}
+use Rattle.matrix.specs.Matrix.{Matrix, at}
+use Rattle.matrix.specs.Inner.{sumRow}
+use Rattle.estimators.specs.LedoitWolf.{apart}
+use borrow.Author.Needs.{needs}
+use Rattle.estimators.proofs.ledoit_wolf.add_variations.Statement.{statement}
+use Rattle.estimators.proofs.ledoit_wolf.add_variations.Tie as tie
+
+abbrev Inv-loop : tie.InvT-loop
+Inv-loop r sd theta n i sum base t₀ j₀ t j = (j ≤ n) × (t ≡ sumRow j apart (λ i j. r ⊗ nth sd j ⊘ nth sd i ⊗ at theta n i j) i sum)
+
+abbrev μ-loop : tie.MeasureT-loop
+μ-loop r sd theta n i sum base t₀ j₀ t j = n - j
+
+mul-base : tie.Need-mul-base Inv-loop μ-loop
+mul-base c = omega (arith, row _ _ (c .before .before .args .n) (c .before .before .pre .0))
+
+loop-holds : tie.Need-loop-holds Inv-loop μ-loop
+loop-holds c = (omega arith, loop-start _ _)
+
+mul-add-apart : tie.Need-mul-add-apart Inv-loop μ-loop
+mul-add-apart c = search needs
+
+shared-slice-read-add-apart : tie.Need-shared-slice-read-add-apart Inv-loop μ-loop
+shared-slice-read-add-apart c = search needs
+
+mul-add-apart-2 : tie.Need-mul-add-apart-2 Inv-loop μ-loop
+mul-add-apart-2 c = search needs
+
+shared-slice-read-add-apart-2 : tie.Need-shared-slice-read-add-apart-2 Inv-loop μ-loop
+shared-slice-read-add-apart-2 c = search needs
+
+add-add-apart : tie.Need-add-add-apart Inv-loop μ-loop
+add-add-apart c = omega (arith, row _ _ (c .before .before .before .before .before .before .args .n) (c .before .before .before .before .before .before .pre .0))
+
+mul-add-apart-3 : tie.Need-mul-add-apart-3 Inv-loop μ-loop
+mul-add-apart-3 c = omega (arith, row _ _ (c .before .before .before .before .before .before .args .n) (c .before .before .before .before .before .before .pre .0))
+
+shared-slice-read-add-apart-3 : tie.Need-shared-slice-read-add-apart-3 Inv-loop μ-loop
+shared-slice-read-add-apart-3 c = omega (arith, row _ _ (c .before .before .before .before .before .before .before .args .n) (c .before .before .before .before .before .before .before .pre .0))
+
+add-apart-requires : tie.Need-add-apart-requires Inv-loop μ-loop
+add-apart-requires c κs = search needs
+
+add-j : tie.Need-add-j Inv-loop μ-loop
+add-j c = search needs
+
+loop-less : tie.Need-loop-less Inv-loop μ-loop
+loop-less c = search needs
+
+loop-again : tie.Need-loop-again Inv-loop μ-loop
+loop-again c = (omega arith, loop-turn _ _ _ _ _ (c .before .before .before .before .before .loop .inv .1) (c .add-apart .ensures))
+
+returns : tie.Need-returns Inv-loop μ-loop
+returns c = let a = c .before .before .before .before .args in let f : Matrix = λ i j. a .r ⊗ nth (a .sd .now) j ⊘ nth (a .sd .now) i ⊗ at (a .theta .now) (a .n) i j in at-end (λ k. sumRow k apart f (a .i) (a .sum)) _ _ _ (c .before .loop .inv .1) (c .before .loop .inv .0) (c .loop-test .left)
+
+pub add-variations-spec : {M : Type 1} → statement M
+add-variations-spec = tie.close (tie.spec Inv-loop μ-loop mul-base loop-holds mul-add-apart shared-slice-read-add-apart mul-add-apart-2 shared-slice-read-add-apart-2 add-add-apart mul-add-apart-3 shared-slice-read-add-apart-3 add-apart-requires add-j loop-less loop-again returns)

@@ -1,0 +1,25 @@
+-- `estimators::ledoit_wolf::distance` meets its contract: what its two calls ensure, put together.
+use mathlib.Core.Path.{ap, _∙_}
+use mathlib.Core.List.{List}
+use lib.Ieee.{Float}
+use Rattle.leaves.specs.Numbers.{_⊖_}
+use Rattle.matrix.specs.Matrix.{at}
+use Rattle.estimators.proofs.Entries.{entrywise, squares-stored}
+use borrow.Author.Needs.{needs}
+use Rattle.estimators.proofs.ledoit_wolf.distance.Statement.{statement}
+use Rattle.estimators.proofs.ledoit_wolf.distance.Tie as tie
+
+subtract-from-requires : tie.Need-subtract-from-requires
+subtract-from-requires c κs = search needs
+
+squares-requires : tie.Need-squares-requires
+squares-requires c κs = search needs
+
+same-length : tie.Need-same-length
+same-length c = search needs
+
+returns : tie.Need-returns
+returns c = let a = c .before .before .before .before .before .before .before .before .args in λ f e. c .squares .ensures ∙ squares-stored (a .n) (λ i j. at (a .s .now) (a .n) i j ⊖ f i j) (entrywise (a .n) f (λ x y. x ⊖ y) (a .s .now) e (c .before .before .before .before .subtract-from .ensures))
+
+pub distance-spec : {M : Type 1} → statement M
+distance-spec = tie.close (tie.spec subtract-from-requires squares-requires same-length returns)

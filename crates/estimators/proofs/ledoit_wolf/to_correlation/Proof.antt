@@ -1,0 +1,42 @@
+-- `estimators::ledoit_wolf::to_correlation` meets its contract: what its calls ensure, put together.
+use Rattle.matrix.specs.Matrix.{at}
+use Rattle.estimators.specs.LedoitWolf.{target, distance}
+use Rattle.estimators.specs.declared.Target.the-variants.{ConstantCorrelation}
+use Rattle.estimators.proofs.LedoitWolf.{intensity-is, correlation-error}
+use borrow.Author.Needs.{needs}
+use Rattle.estimators.proofs.ledoit_wolf.to_correlation.Statement.{statement}
+use Rattle.estimators.proofs.ledoit_wolf.to_correlation.Tie as tie
+
+put-volatilities-requires : tie.Need-put-volatilities-requires
+put-volatilities-requires c κs = search needs
+
+average-correlation-requires : tie.Need-average-correlation-requires
+average-correlation-requires c κs = search needs
+
+put-constant-correlation-requires : tie.Need-put-constant-correlation-requires
+put-constant-correlation-requires c κs = search needs
+
+distance-requires : tie.Need-distance-requires
+distance-requires c κs = search needs
+
+total-requires : tie.Need-total-requires
+total-requires c κs = search needs
+
+target-variation-requires : tie.Need-target-variation-requires
+target-variation-requires c κs = search needs
+
+intensity-requires : tie.Need-intensity-requires
+intensity-requires c κs = search needs
+
+same-length : tie.Need-same-length
+same-length c = search needs
+
+same-length-2 : tie.Need-same-length-2
+same-length-2 c = search needs
+
+returns : tie.Need-returns
+unfolding distance target
+returns c = let a = c .before .before .before .before .before .before .before .before .before .before .before .before .before .before .before .before .before .before .before .before .before .before .before .before .args in let s = at (a .s .now) (a .n) in λ z eπ eθ. intensity-is ConstantCorrelation (a .periods) (a .n) z s (c .before .before .before .before .before .before .distance .ensures (target ConstantCorrelation (a .n) s) (c .before .before .before .before .before .before .before .before .before .before .put-constant-correlation .ensures)) (correlation-error (a .periods) (a .n) z s eπ (c .before .before .before .total .ensures) (c .before .before .before .before .before .before .before .before .before .before .before .before .before .before .before .before .before .put-volatilities .ensures) (c .before .before .before .before .before .before .before .before .before .before .before .before .before .average-correlation .ensures) eθ (c .before .target-variation .ensures)) (c .intensity .ensures)
+
+pub to-correlation-spec : {M : Type 1} → statement M
+to-correlation-spec = tie.close (tie.spec put-volatilities-requires average-correlation-requires put-constant-correlation-requires distance-requires total-requires target-variation-requires intensity-requires same-length same-length-2 returns)

@@ -1,0 +1,48 @@
+-- `estimators::ledoit_wolf::to_variance` meets its contract: what its calls ensure, put together.
+use mathlib.Core.Path.{_≡_, ap, _∙_}
+use mathlib.Core.List.{List, []}
+use Prim.Native.Nat.{ℕ}
+use lib.ListN.{length}
+use lib.Ieee.{Float}
+use Rattle.leaves.specs.Numbers.{_⊗_}
+use Rattle.leaves.specs.Loops.{tab, nth}
+use Rattle.matrix.specs.Matrix.{Matrix, at, rows, identity}
+use Rattle.estimators.specs.LedoitWolf.{averageVariance, target, distance}
+use Rattle.estimators.specs.declared.Target.the-variants.{ConstantVariance}
+use Rattle.estimators.proofs.Entries.{entrywise}
+use Rattle.estimators.proofs.LedoitWolf.{intensity-is, variance-error}
+use borrow.Author.Needs.{needs}
+use Rattle.estimators.proofs.ledoit_wolf.to_variance.Statement.{statement}
+use Rattle.estimators.proofs.ledoit_wolf.to_variance.Tie as tie
+
+target-is : (n : ℕ) (s : Matrix) {w w′ : List Float} {m : Float} → w ≡ rows n n identity → m ≡ averageVariance n s → w′ ≡ tab (length w) (λ k. m ⊗ nth w k) → w′ ≡ rows n n (target ConstantVariance n s)
+unfolding target
+target-is n s {m = m} e em e′ = entrywise n identity (λ x y. m ⊗ y) [] e e′ ∙ ap (λ (m : Float). rows n n (λ i j. m ⊗ identity i j)) em
+
+put-identity-requires : tie.Need-put-identity-requires
+put-identity-requires c κs = search needs
+
+average-variance-requires : tie.Need-average-variance-requires
+average-variance-requires c κs = search needs
+
+times-requires : tie.Need-times-requires
+times-requires c κs = search needs
+
+distance-requires : tie.Need-distance-requires
+distance-requires c κs = search needs
+
+total-requires : tie.Need-total-requires
+total-requires c κs = search needs
+
+intensity-requires : tie.Need-intensity-requires
+intensity-requires c κs = search needs
+
+same-length : tie.Need-same-length
+same-length c = search needs
+
+returns : tie.Need-returns
+unfolding distance
+returns c = let a = c .before .before .before .before .before .before .before .before .before .before .before .before .before .before .before .before .before .before .args in let s = at (a .s .now) (a .n) in λ z e. intensity-is ConstantVariance (a .periods) (a .n) z s (c .before .before .before .before .distance .ensures (target ConstantVariance (a .n) s) (target-is (a .n) s (c .before .before .before .before .before .before .before .before .before .before .before .before .before .put-identity .ensures) (c .before .before .before .before .before .before .before .before .before .before .average-variance .ensures) (c .before .before .before .before .before .before .before .before .times .ensures))) (variance-error (a .periods) (a .n) z s e (c .before .total .ensures)) (c .intensity .ensures)
+
+pub to-variance-spec : {M : Type 1} → statement M
+to-variance-spec = tie.close (tie.spec put-identity-requires average-variance-requires times-requires distance-requires total-requires intensity-requires same-length returns)

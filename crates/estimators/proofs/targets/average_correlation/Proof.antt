@@ -1,0 +1,68 @@
+-- `estimators::targets::average_correlation` meets its contract. The invariant: the sum of the rows passed.
+use mathlib.Core.Path.{_≡_, ap, _∙_}
+use mathlib.Core.List.{List}
+use Prim.Native.Nat.{ℕ, _≤_, _-_, _*_}
+use native.Mathlib.Nat.{mul-le-mul}
+use native.Mathlib.Omega.{arith}
+use lib.Ieee.{Float, ofBits}
+use Rattle.leaves.specs.Numbers.{_⊘_, count, zero⁺}
+use Rattle.leaves.specs.Loops.{loop, tab, nth}
+use Rattle.leaves.proofs.Loops.{loop-start, loop-turn, loop-end, length-tab}
+use Rattle.matrix.specs.Limits.{maxSide}
+use Rattle.matrix.specs.Matrix.{Matrix, at, sumOver}
+use Rattle.matrix.specs.Inner.{sumRow}
+use Rattle.estimators.specs.LedoitWolf.{apart, deviationOf, averageCorrelation}
+use Rattle.estimators.proofs.Stored.{tab-nth}
+use Rattle.estimators.proofs.Entries.{sum-over-ext}
+use lib.ListN.{length}
+use borrow.Author.Needs.{needs}
+use Rattle.estimators.proofs.targets.average_correlation.Statement.{statement}
+use Rattle.estimators.proofs.targets.average_correlation.Tie as tie
+
+-- by the volatilities v
+abbrev correlation : Matrix → (ℕ → Float) → Matrix
+correlation s v i j = s i j ⊘ v i ⊘ v j
+
+average : (n : ℕ) (s : Matrix) {sd : List Float} {t k : Float} → sd ≡ tab n (deviationOf s) → t ≡ loop n (sumRow n apart (correlation s (nth sd))) zero⁺ → k ≡ count (n * (n - 1)) → t ⊘ k ≡ averageCorrelation n s
+unfolding averageCorrelation sumOver
+average n s {sd} ed et ek = λ u. (et ∙ ap (λ (l : List Float). sumOver n apart (correlation s (nth l)) zero⁺) ed ∙ sum-over-ext n apart (correlation s (nth (tab n (deviationOf s)))) (correlation s (deviationOf s)) zero⁺ (λ i j hi hj v. s i j ⊘ tab-nth (deviationOf s) n i hi v ⊘ tab-nth (deviationOf s) n j hj v)) u ⊘ ek u
+
+room : (n : ℕ) → n ≤ maxSide → n * (n - 1) ≤ maxSide * maxSide
+room n h = let less : n - 1 ≤ maxSide = omega arith in mul-le-mul h less
+
+abbrev Inv-loop : tie.InvT-loop
+Inv-loop s sd n t₀ i₀ t i = (i ≤ n) × (t ≡ loop i (sumRow n apart (correlation (at s n) (nth sd))) zero⁺)
+
+abbrev μ-loop : tie.MeasureT-loop
+μ-loop s sd n t₀ i₀ t i = n - i
+
+loop-holds : tie.Need-loop-holds Inv-loop μ-loop
+unfolding ofBits
+loop-holds c = (omega arith, loop-start _ _)
+
+add-correlations-requires : tie.Need-add-correlations-requires Inv-loop μ-loop
+add-correlations-requires c κs = let p = c .before .before .before .before .pre in (c .loop-test .taken, p .2, ap length (p .3) ∙ length-tab _ _)
+
+add-i : tie.Need-add-i Inv-loop μ-loop
+add-i c = search needs
+
+loop-less : tie.Need-loop-less Inv-loop μ-loop
+loop-less c = search needs
+
+loop-again : tie.Need-loop-again Inv-loop μ-loop
+loop-again c = (omega arith, loop-turn _ _ _ _ _ (c .before .before .loop .inv .1) (c .add-correlations .ensures))
+
+sub-nearest-u64-to-f64 : tie.Need-sub-nearest-u64-to-f64 Inv-loop μ-loop
+sub-nearest-u64-to-f64 c = search needs
+
+mul-nearest-u64-to-f64 : tie.Need-mul-nearest-u64-to-f64 Inv-loop μ-loop
+mul-nearest-u64-to-f64 c = omega (arith, room _ (c .before .before .before .before .pre .1))
+
+nearest-u64-to-f64-requires : tie.Need-nearest-u64-to-f64-requires Inv-loop μ-loop
+nearest-u64-to-f64-requires c κs = search needs
+
+returns : tie.Need-returns Inv-loop μ-loop
+returns c = let a = c .before .before .before .before .before .args in average (a .n) (at (a .s .now) (a .n)) (c .before .before .before .before .before .pre .3) (loop-end _ _ _ _ _ (c .before .before .loop .inv .1) (omega arith)) (c .nearest-u64-to-f64 .ensures)
+
+pub average-correlation-spec : {M : Type 1} → statement M
+average-correlation-spec = tie.close (tie.spec Inv-loop μ-loop loop-holds add-correlations-requires add-i loop-less loop-again sub-nearest-u64-to-f64 mul-nearest-u64-to-f64 nearest-u64-to-f64-requires returns)

@@ -1,0 +1,85 @@
+-- `estimators::targets::put_constant_correlation` meets its contract. The invariant: the rows passed are the target's.
+use mathlib.Core.Path.{_≡_, refl, sym, ap, _∙_}
+use mathlib.Core.Bool.{cond}
+use mathlib.Core.List.{List}
+use Prim.Native.Nat.{ℕ, _≤_, _<_, _-_, _+_, _*_}
+use native.Mathlib.Omega.{arith}
+use lib.Dec.{eqb}
+use lib.ListN.{length}
+use lib.Ieee.{Float}
+use Rattle.leaves.specs.Numbers.{_⊗_}
+use Rattle.leaves.specs.Loops.{tab, nth}
+use Rattle.leaves.proofs.Loops.{row, length-tab, tab-ext}
+use Rattle.matrix.specs.Matrix.{Matrix, at}
+use Rattle.matrix.proofs.Stored.{length-rows}
+use Rattle.estimators.specs.LedoitWolf.{deviationOf, averageCorrelation, constantCorrelation}
+use Rattle.estimators.proofs.Stored.{tab-nth, passed, passed-none, passed-all}
+use Rattle.estimators.proofs.Entries.{row-long, passed-row}
+use borrow.Author.Needs.{needs}
+use Rattle.estimators.proofs.targets.put_constant_correlation.Statement.{statement}
+use Rattle.estimators.proofs.targets.put_constant_correlation.Tie as tie
+
+-- a row, by the numbers that the code has
+row-is : (n i m : ℕ) (s : Matrix) {r v : Float} {sd ys : List Float} → i < n → m ≡ n → r ≡ averageCorrelation n s → v ≡ s i i → sd ≡ tab n (deviationOf s)
+    → ys ≡ tab m (λ j. cond (eqb i j) v (r ⊗ nth sd i ⊗ nth sd j)) → ys ≡ tab n (constantCorrelation n s i)
+unfolding constantCorrelation
+row-is n i m s {r} {v} {sd} hi em er ev ed e =
+    e ∙ (λ t. tab (em t) (λ j. cond (eqb i j) (ev t) (er t ⊗ nth (ed t) i ⊗ nth (ed t) j)))
+    ∙ tab-ext _ (constantCorrelation n s i) n (λ j hj t. cond (eqb i j) (s i i) (averageCorrelation n s ⊗ tab-nth (deviationOf s) n i hi t ⊗ tab-nth (deviationOf s) n j hj t))
+
+abbrev Inv-loop : tie.InvT-loop
+Inv-loop s r sd n out₀ i₀ out i = (i ≤ n) × (length out ≡ n * n) × (out ≡ passed n i (constantCorrelation n (at s n)) out₀)
+
+abbrev μ-loop : tie.MeasureT-loop
+μ-loop s r sd n out₀ i₀ out i = n - i
+
+loop-holds : tie.Need-loop-holds Inv-loop μ-loop
+loop-holds c = (omega arith, search needs, passed-none _ _ _ (c .before .before .before .pre .3))
+
+mul-base : tie.Need-mul-base Inv-loop μ-loop
+mul-base c = omega (arith, row _ _ (c .before .before .before .before .before .args .n) (c .loop-test .taken))
+
+add-end : tie.Need-add-end Inv-loop μ-loop
+add-end c = omega (arith, row _ _ (c .before .before .before .before .before .args .n) (c .loop-test .taken))
+
+add-variance : tie.Need-add-variance Inv-loop μ-loop
+add-variance c = omega (arith, row _ _ (c .before .before .before .before .before .args .n) (c .loop-test .taken))
+
+mul-variance : tie.Need-mul-variance Inv-loop μ-loop
+mul-variance c = omega (arith, row _ _ (c .before .before .before .before .before .args .n) (c .loop-test .taken))
+
+shared-slice-read-variance : tie.Need-shared-slice-read-variance Inv-loop μ-loop
+shared-slice-read-variance c = omega (arith, row _ _ (c .before .before .before .before .before .before .args .n) (c .before .loop-test .taken))
+
+mul-put-row : tie.Need-mul-put-row Inv-loop μ-loop
+mul-put-row c = omega (arith, row _ _ (c .before .before .before .before .before .before .args .n) (c .before .loop-test .taken))
+
+sub-put-row : tie.Need-sub-put-row Inv-loop μ-loop
+sub-put-row c = omega (arith, row _ _ (c .before .before .before .before .before .before .args .n) (c .before .loop-test .taken))
+
+part-put-row-start : tie.Need-part-put-row-start Inv-loop μ-loop
+part-put-row-start c = omega (arith, row _ _ (c .before .before .before .before .before .before .args .n) (c .before .loop-test .taken))
+
+part-put-row-end : tie.Need-part-put-row-end Inv-loop μ-loop
+part-put-row-end c = omega (arith, row _ _ (c .before .before .before .before .before .before .args .n) (c .before .loop-test .taken))
+
+put-row-requires : tie.Need-put-row-requires Inv-loop μ-loop
+put-row-requires c κs = let p = c .before .before .before .before .before .before .before .pre in let long = row-long _ _ (c .before .before .before .loop .out) (c .before .before .before .loop .inv .1) (c .before .before .loop-test .taken) in (omega (arith, long), ap length (p .2) ∙ length-tab _ _ ∙ sym long)
+
+add-i : tie.Need-add-i Inv-loop μ-loop
+add-i c = search needs
+
+loop-less : tie.Need-loop-less Inv-loop μ-loop
+loop-less c = search needs
+
+loop-again : tie.Need-loop-again Inv-loop μ-loop
+loop-again c = let a = c .before .before .before .before .before .before .before .before .before .before .args in let p = c .before .before .before .before .before .before .before .before .before .before .pre in let long = row-long _ _ (c .before .before .before .before .before .before .loop .out) (c .before .before .before .before .before .before .loop .inv .1) (c .before .before .before .before .before .loop-test .taken) in let e = passed-row _ _ (a .out .now) _ _ _ (c .before .before .before .before .before .before .loop .inv .2) (c .before .before .before .before .before .loop-test .taken) (row-is (a .n) (c .before .before .before .before .before .before .loop .i) _ (at (a .s .now) (a .n)) (c .before .before .before .before .before .loop-test .taken) long (p .1) refl (p .2) (c .before .before .put-row .ensures)) in (omega arith, ap length e ∙ length-rows _ _ _, e)
+
+same-length : tie.Need-same-length Inv-loop μ-loop
+same-length c = c .before .loop .inv .1 ∙ sym (c .before .before .before .before .before .pre .3)
+
+returns : tie.Need-returns Inv-loop μ-loop
+returns c = passed-all _ _ (c .before .before .before .before .before .args .out .now) _ _ (c .before .loop .inv .0) (c .loop-test .left) (c .before .loop .inv .2)
+
+pub put-constant-correlation-spec : {M : Type 1} → statement M
+put-constant-correlation-spec = tie.close (tie.spec Inv-loop μ-loop loop-holds mul-base add-end add-variance mul-variance shared-slice-read-variance mul-put-row sub-put-row part-put-row-start part-put-row-end put-row-requires add-i loop-less loop-again same-length returns)

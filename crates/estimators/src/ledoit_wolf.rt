@@ -1,0 +1,98 @@
+// The shrinkage intensity of Ledoit and Wolf, from the second moments s of the centered returns and the tables of π and θ, all n × n
+// (covariance.rs, `ledoit_wolf`).
+ghost use mathlib.Core.Path.{_≡_};
+ghost use mathlib.Core.Bool.{cond};
+ghost use Prim.Native.Nat.{ℕ, _*_, _≤_, _<_};
+ghost use lib.ListN.{length};
+ghost use lib.Ieee.{lt};
+ghost use Rattle.leaves.specs.Numbers.{_⊖_, _⊗_, _⊘_, count, zero⁺, clamp01};
+ghost use Rattle.leaves.specs.Loops.{tab, nth};
+ghost use Rattle.matrix.specs.Limits.{maxSide};
+ghost use Rattle.matrix.specs.Matrix.{Matrix, at, rows, trace, sumOver, squares};
+ghost use Rattle.matrix.specs.Inner.{sumRow};
+ghost use Rattle.estimators.specs.LedoitWolf as LedoitWolf;
+ghost use Rattle.estimators.specs.LedoitWolf.{apart, deviationOf, averageCorrelation, variation, covariation, intensityOf};
+use crate::Target;
+use crate::targets;
+use crate::vectors;
+
+// γ: the squared distance of s from the target in `work`, which is overwritten.
+fn distance(s: &[f64], n: usize, work: &mut [f64]) -> f64
+    requires { ⌜ (length (now s) ≡ n * n) × (length (now work) ≡ n * n) ⌝ }
+    ensures { λ r. ⌜ ((f : Matrix) → now (work .entry) ≡ rows n n f → r ≡ squares n (λ (i j : ℕ). at (now (s .entry)) n i j ⊖ f i j)) ⌝ }
+{
+    vectors::subtract_from(s, work);
+    matrix::sums::squares(work, n)
+}
+
+// The summands of ρ in row i, added to `sum`.
+fn add_variations(r: f64, sd: &[f64], theta: &[f64], n: usize, i: usize, sum: f64) -> f64
+    requires { ⌜ (i < n) × (length (now sd) ≡ n) × (length (now theta) ≡ n * n) ⌝ }
+    ensures { λ t. ⌜ t ≡ sumRow n apart (λ (i j : ℕ). r ⊗ nth (now (sd .entry)) j ⊘ nth (now (sd .entry)) i ⊗ at (now (theta .entry)) n i j) i sum ⌝ }
+{
+    let base = i * n;
+    let mut t = sum;
+    let mut j = 0;
+    while j < n {
+        t = targets::add_apart(i, j, t, r * sd[j] / sd[i] * theta[base + j]);
+        j += 1;
+    }
+    t
+}
+
+// ρ, from the average correlation r and the volatilities.
+fn target_variation(r: f64, sd: &[f64], pi: &[f64], theta: &[f64], n: usize) -> f64
+    requires { ⌜ (length (now sd) ≡ n) × (length (now pi) ≡ n * n) × (length (now theta) ≡ n * n) ⌝ }
+    ensures { λ t. ⌜ t ≡ sumOver n apart (λ (i j : ℕ). r ⊗ nth (now (sd .entry)) j ⊘ nth (now (sd .entry)) i ⊗ at (now (theta .entry)) n i j) (trace n (at (now (pi .entry)) n)) ⌝ }
+{
+    let mut t = matrix::sums::trace(pi, n);
+    let mut i = 0;
+    while i < n {
+        t = add_variations(r, sd, theta, n, i, t);
+        i += 1;
+    }
+    t
+}
+
+// δ, in [0, 1], from the estimation error and γ.
+fn intensity(error: f64, periods: usize, distance: f64) -> f64
+    ensures { λ r. ⌜ r ≡ cond (lt zero⁺ distance) (clamp01 (error ⊘ count periods ⊘ distance)) zero⁺ ⌝ }
+{
+    if 0.0 < distance {
+        let t = std::num::nearest_u64_to_f64(periods as u64);
+        return leaves::numbers::clamp01(error / t / distance);
+    }
+    0.0
+}
+
+// δ towards the average variance.
+fn to_variance(s: &[f64], pi: &[f64], n: usize, periods: usize, work: &mut [f64]) -> f64
+    requires { ⌜ (length (now s) ≡ n * n) × (length (now pi) ≡ n * n) × (length (now work) ≡ n * n) ⌝ }
+    ensures { λ r. ⌜ ((z : Matrix) → now (pi .entry) ≡ rows n n (variation periods z (at (now (s .entry)) n)) → r ≡ intensityOf Target.ConstantVariance periods n z (at (now (s .entry)) n)) ⌝ }
+{
+    matrix::tables::put_identity(work, n);
+    vectors::times(targets::average_variance(s, n), work);
+    let gamma = distance(s, n, work);
+    intensity(matrix::sums::total(pi, n), periods, gamma)
+}
+
+// δ towards the average correlation.
+fn to_correlation(
+    s: &[f64],
+    pi: &[f64],
+    theta: &[f64],
+    n: usize,
+    periods: usize,
+    sd: &mut [f64],
+    work: &mut [f64],
+) -> f64
+    requires { ⌜ (0 < n) × (n ≤ maxSide) × (length (now s) ≡ n * n) × (length (now pi) ≡ n * n) × (length (now theta) ≡ n * n) × (length (now sd) ≡ n) × (length (now work) ≡ n * n) ⌝ }
+    ensures { λ r. ⌜ ((z : Matrix) → now (pi .entry) ≡ rows n n (variation periods z (at (now (s .entry)) n)) → now (theta .entry) ≡ rows n n (covariation periods z (at (now (s .entry)) n)) → r ≡ intensityOf Target.ConstantCorrelation periods n z (at (now (s .entry)) n)) ⌝ }
+{
+    targets::put_volatilities(s, n, sd);
+    let r = targets::average_correlation(s, sd, n);
+    targets::put_constant_correlation(s, r, sd, n, work);
+    let gamma = distance(s, n, work);
+    let error = matrix::sums::total(pi, n) - target_variation(r, sd, pi, theta, n);
+    intensity(error, periods, gamma)
+}

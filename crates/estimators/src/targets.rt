@@ -1,0 +1,97 @@
+// What a covariance s, an n × n table, is shrunk to: its average variance, or its volatilities with their average correlation
+// (covariance.rs, `average_correlation`, `constant_correlation`).
+ghost use mathlib.Core.Path.{_≡_};
+ghost use mathlib.Core.Bool.{Bool, true, false, cond};
+ghost use Prim.Native.Nat.{ℕ, _*_, _≤_, _<_};
+ghost use lib.Dec.{eqb};
+ghost use lib.ListN.{length};
+ghost use Rattle.leaves.specs.Numbers.{_⊗_, _⊘_};
+ghost use Rattle.leaves.specs.Loops.{tab, nth};
+ghost use Rattle.matrix.specs.Limits.{maxSide};
+ghost use Rattle.matrix.specs.Matrix.{at, rows};
+ghost use Rattle.matrix.specs.Inner.{addKept, sumRow};
+ghost use Rattle.estimators.specs.LedoitWolf as LedoitWolf;
+ghost use Rattle.estimators.specs.LedoitWolf.{apart, deviationOf};
+
+pub(crate) fn average_variance(s: &[f64], n: usize) -> f64
+    requires { ⌜ length (now s) ≡ n * n ⌝ }
+    ensures { λ r. ⌜ r ≡ LedoitWolf.averageVariance n (at (now (s .entry)) n) ⌝ }
+{
+    matrix::sums::trace(s, n) / std::num::nearest_u64_to_f64(n as u64)
+}
+
+// The square root of each variance.
+pub(crate) fn put_volatilities(s: &[f64], n: usize, out: &mut [f64])
+    requires { ⌜ (length (now s) ≡ n * n) × (length (now out) ≡ n) ⌝ }
+    ensures { λ _. ⌜ now (out .exit) ≡ tab n (deviationOf (at (now (s .entry)) n)) ⌝ }
+{
+    let mut i = 0;
+    while i < n {
+        out[i] = leaves::root::sqrt(s[i * n + i]);
+        i += 1;
+    }
+}
+
+// x added to a sum over i and j other than i.
+pub(crate) fn add_apart(i: usize, j: usize, sum: f64, x: f64) -> f64
+    ensures { λ r. ⌜ r ≡ addKept apart (λ (i j : ℕ). x) i j sum ⌝ }
+{
+    if i == j { sum } else { sum + x }
+}
+
+// The correlations of asset i with the others, added to `sum`.
+fn add_correlations(s: &[f64], sd: &[f64], n: usize, i: usize, sum: f64) -> f64
+    requires { ⌜ (i < n) × (length (now s) ≡ n * n) × (length (now sd) ≡ n) ⌝ }
+    ensures { λ r. ⌜ r ≡ sumRow n apart (λ (i j : ℕ). at (now (s .entry)) n i j ⊘ nth (now (sd .entry)) i ⊘ nth (now (sd .entry)) j) i sum ⌝ }
+{
+    let base = i * n;
+    let mut t = sum;
+    let mut j = 0;
+    while j < n {
+        t = add_apart(i, j, t, s[base + j] / sd[i] / sd[j]);
+        j += 1;
+    }
+    t
+}
+
+pub(crate) fn average_correlation(s: &[f64], sd: &[f64], n: usize) -> f64
+    requires { ⌜ (0 < n) × (n ≤ maxSide) × (length (now s) ≡ n * n) × (now sd ≡ tab n (deviationOf (at (now s) n))) ⌝ }
+    ensures { λ r. ⌜ r ≡ LedoitWolf.averageCorrelation n (at (now (s .entry)) n) ⌝ }
+{
+    let mut t = 0.0;
+    let mut i = 0;
+    while i < n {
+        t = add_correlations(s, sd, n, i, t);
+        i += 1;
+    }
+    t / std::num::nearest_u64_to_f64((n * (n - 1)) as u64)
+}
+
+// Row i of the target with the correlation r.
+fn put_row(r: f64, sd: &[f64], i: usize, variance: f64, out: &mut [f64])
+    requires { ⌜ (i < length (now out)) × (length (now sd) ≡ length (now out)) ⌝ }
+    ensures { λ _. ⌜ now (out .exit) ≡ tab (length (now (out .entry))) (λ (j : ℕ). cond (eqb i j) variance (r ⊗ nth (now (sd .entry)) i ⊗ nth (now (sd .entry)) j)) ⌝ }
+{
+    let scale = r * sd[i];
+    let mut j = 0;
+    while j < out.len() {
+        out[j] = scale * sd[j];
+        j += 1;
+    }
+    out[i] = variance;
+}
+
+// The variances of s, and the average correlation r times two volatilities off the diagonal.
+pub(crate) fn put_constant_correlation(s: &[f64], r: f64, sd: &[f64], n: usize, out: &mut [f64])
+    requires { ⌜ (length (now s) ≡ n * n) × (r ≡ LedoitWolf.averageCorrelation n (at (now s) n)) × (now sd ≡ tab n (deviationOf (at (now s) n))) × (length (now out) ≡ n * n) ⌝ }
+    ensures { λ _. ⌜ now (out .exit) ≡ rows n n (LedoitWolf.constantCorrelation n (at (now (s .entry)) n)) ⌝ }
+{
+    let mut i = 0;
+    while i < n {
+        let base = i * n;
+        let end = base + n;
+        let variance = s[base + i];
+        put_row(r, sd, i, variance, &mut out[base..end]);
+        i += 1;
+    }
+}
