@@ -58,3 +58,23 @@ module _ (z : ℤ) (h : natAbs z < 2 ^ 31) where
 
   pub neg-read : toZ w32 (ofZ w32 (pos 0 -ℤ toZ w32 (ofZ w32 z))) ≡ negℤ z
   neg-read = toZ-ofZ neg-fits ∙ rw (read, neg-is)
+
+-- and of y + z, y - z and -y - z
+module _ (y z : ℤ) (h : natAbs y + natAbs z < 2 ^ 31) where
+  pub plus-fits : SFits w32 (toZ w32 (ofZ w32 y) +ℤ toZ w32 (ofZ w32 z))
+  plus-fits = rw (read y (omega arith), read z (omega arith)) (size-fits (y +ℤ z) (omega (arith, size-plus y z)))
+
+  pub plus-read : toZ w32 (ofZ w32 (toZ w32 (ofZ w32 y) +ℤ toZ w32 (ofZ w32 z))) ≡ y +ℤ z
+  plus-read = toZ-ofZ plus-fits ∙ rw (read y (omega arith), read z (omega arith))
+
+  pub minus-fits : SFits w32 (toZ w32 (ofZ w32 y) -ℤ toZ w32 (ofZ w32 z))
+  minus-fits = rw (read y (omega arith), read z (omega arith)) (size-fits (y -ℤ z) (omega (arith, size-minus y z)))
+
+  pub minus-read : toZ w32 (ofZ w32 (toZ w32 (ofZ w32 y) -ℤ toZ w32 (ofZ w32 z))) ≡ y -ℤ z
+  minus-read = toZ-ofZ minus-fits ∙ rw (read y (omega arith), read z (omega arith))
+
+  pub both-fits : SFits w32 (toZ w32 (ofZ w32 (pos 0 -ℤ toZ w32 (ofZ w32 y))) -ℤ toZ w32 (ofZ w32 z))
+  both-fits = rw (neg-read y (omega arith), read z (omega arith)) (size-fits (negℤ y -ℤ z) (omega (arith, size-minus (negℤ y) z, size-neg y)))
+
+  pub both-read : toZ w32 (ofZ w32 (toZ w32 (ofZ w32 (pos 0 -ℤ toZ w32 (ofZ w32 y))) -ℤ toZ w32 (ofZ w32 z))) ≡ negℤ y -ℤ z
+  both-read = toZ-ofZ both-fits ∙ rw (neg-read y (omega arith), read z (omega arith))

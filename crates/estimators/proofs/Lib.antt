@@ -9,3 +9,5 @@ pub mod Entries
 pub mod LedoitWolf
 pub mod OfGiven
 pub mod Exponents
+pub mod Gathered
+pub mod Constant

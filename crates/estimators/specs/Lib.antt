@@ -11,6 +11,8 @@ pub mod Moments
 pub mod Held
 pub mod JamesStein
 pub mod BayesStein
+pub mod Gather
+pub mod Stein
 pub mod Order
 pub mod Checks
 pub mod Opening

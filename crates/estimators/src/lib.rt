@@ -1,6 +1,9 @@
 // The records of document 01 that cross a call.
 mod adjusted;
+mod bayes_stein;
 mod checks;
+mod forms;
+mod gather;
 mod given;
 mod gram;
 mod james_stein;

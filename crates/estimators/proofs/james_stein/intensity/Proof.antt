@@ -15,7 +15,7 @@ use Rattle.matrix.specs.Jacobi.{Decomposition}
 use Rattle.estimators.specs.Moments.{Moments}
 use Rattle.estimators.specs.Held.{momentsOf}
 use Rattle.estimators.specs.JamesStein.{unevenness, spread, jamesSteinIntensity}
-use Rattle.estimators.proofs.Exponents.{size-plus, size-fits, read, neg-fits, neg-read}
+use Rattle.estimators.proofs.Exponents.{size-plus, read, plus-fits, neg-fits, neg-read}
 use Rattle.estimators.proofs.james_stein.intensity.Statement.{statement}
 use Rattle.estimators.proofs.james_stein.intensity.Tie as tie
 
@@ -39,7 +39,7 @@ spread-requires : tie.Need-spread-requires
 spread-requires c κs = search needs
 
 add-pow2-scaled : tie.Need-add-pow2-scaled
-add-pow2-scaled c = let e = c .before .before .before .exponent in rw (read (e .result) (omega (arith, e .ensures .1))) (size-fits (e .result +ℤ e .result) (omega (arith, e .ensures .1, size-plus (e .result) (e .result))))
+add-pow2-scaled c = let e = c .before .before .before .exponent in plus-fits (e .result) (e .result) (omega (arith, e .ensures .1))
 
 sub-pow2-scaled : tie.Need-sub-pow2-scaled
 sub-pow2-scaled c = let e = c .before .before .before .exponent in rw (read (e .result) (omega (arith, e .ensures .1))) (neg-fits (e .result +ℤ e .result) (omega (arith, e .ensures .1, size-plus (e .result) (e .result))))

@@ -1,0 +1,33 @@
+-- Laws of gathered numbers: they depend on the first n numbers and exponents alone. Assumes nothing.
+use mathlib.Core.Path.{_≡_, sym, ap, _∙_, subst}
+use mathlib.Core.List.{List}
+use mathlib.Core.Option.{Option, none}
+use Prim.Native.Nat.{ℕ, _≤_, _<_}
+use native.Mathlib.Omega.{arith}
+use lib.ListN.{getD, take, replicate, getD-replicate}
+use lib.Seq.{getD-take}
+use lib.IntN.{ℤ, _-ℤ_}
+use lib.Ieee.{Float}
+use mir.Syntax.{w32}
+use mir.Val.{toZ, ofZ}
+use Rattle.leaves.specs.Scaling.{pow2Scaled}
+use Rattle.estimators.specs.BayesStein.{orZero, commonExponent, gathered}
+use Rattle.estimators.specs.Gather.{withExponent, Gathered}
+use Rattle.leaves.proofs.Loops.{loop-ext, tab-ext}
+use Rattle.estimators.proofs.Exponents.{read}
+
+pub gathered-as : {n : ℕ} {m m′ : ℕ → Float} {k k′ : ℕ → ℤ} {e : ℤ} {l : List Float} → ((i : ℕ) → i < n → m i ≡ m′ i) → ((i : ℕ) → i < n → k i ≡ k′ i) → Gathered n m k e l → Gathered n m′ k′ e l
+unfolding commonExponent gathered
+gathered-as {n} {m} {m′} {k} {k′} {e} hm hk g = record {
+  power = g .power ∙ ap orZero (loop-ext n (λ i found. withExponent found (m i) (k i)) (λ i found. withExponent found (m′ i) (k′ i)) none (λ i h found t. withExponent found (hm i h t) (hk i h t)));
+  numbers = g .numbers ∙ tab-ext (λ i. pow2Scaled (m i) (k i -ℤ e)) (λ i. pow2Scaled (m′ i) (k′ i -ℤ e)) n (λ i h t. pow2Scaled (hm i h t) (hk i h t -ℤ e));
+  size = g .size;
+}
+
+-- the power, as the machine reads it back
+pub gathered-read : {n : ℕ} {m : ℕ → Float} {k : ℕ → ℤ} {e : ℤ} {l : List Float} → Gathered n m k e l → Gathered n m k (toZ w32 (ofZ w32 e)) l
+gathered-read {n} {m} {k} {e} {l} g = subst (λ (z : ℤ). Gathered n m k z l) (sym (read e (omega (arith, g .size)))) g
+
+-- a part of an array that holds x everywhere
+pub part-at : {A : Type 0} (x : A) (m n : ℕ) → n ≤ m → (d : A) (i : ℕ) → i < n → getD (take n (replicate m x)) i d ≡ x
+part-at x m n h d i l = getD-take n (replicate m x) i d l ∙ getD-replicate m i x d (omega arith)

@@ -1,0 +1,50 @@
+-- `estimators::gather::gather` meets its contract: the quotients, their common exponent, and the quotients over it.
+use mathlib.Core.Path.{_≡_, refl, ap, _∙_}
+use mathlib.Core.List.{List}
+use Prim.Native.Nat.{ℕ, _≤_}
+use native.Mathlib.Omega.{arith}
+use lib.IntN.{ℤ, pos, negℤ, natAbs}
+use lib.ListN.{length, getD}
+use lib.Ieee.{Float}
+use mir.Syntax.{w32}
+use mir.Val.{toZ, ofZ}
+use borrow.Author.Needs.{needs}
+use Rattle.leaves.specs.Numbers.{_⊘_}
+use Rattle.leaves.specs.Loops.{tab, nth}
+use Rattle.leaves.proofs.Loops.{length-tab}
+use Rattle.estimators.specs.BayesStein.{commonExponent, gathered}
+use Rattle.estimators.specs.Gather.{Gathered, twoExponents}
+use Rattle.estimators.proofs.Stored.{tab-nth}
+use Rattle.estimators.proofs.Exponents.{read}
+use Rattle.estimators.proofs.Gathered.{gathered-as}
+use Rattle.estimators.proofs.gather.gather.Statement.{statement}
+use Rattle.estimators.proofs.gather.gather.Tie as tie
+
+made : (n : ℕ) (m : ℕ → Float) (k : ℕ → ℤ) (quotients : List Float) (e : ℤ) (l : List Float) → quotients ≡ tab n m → e ≡ commonExponent (length quotients) (nth quotients) k → natAbs e ≤ twoExponents
+    → l ≡ gathered (length quotients) (nth quotients) k (toZ w32 (ofZ w32 e)) → Gathered n m k (toZ w32 (ofZ w32 e)) l
+made n m k quotients e l is-q is-e size is-l =
+    let long : length quotients ≡ n = ap length is-q ∙ length-tab m n in
+    let same : toZ w32 (ofZ w32 e) ≡ e = read e (omega arith) in
+    let g : Gathered n (nth quotients) k (toZ w32 (ofZ w32 e)) l = record { power = same ∙ rw long at is-e; numbers = rw long at is-l; size = rw same size } in
+    gathered-as (λ i h. ap (λ (q : List Float). nth q i) is-q ∙ tab-nth m n i h) (λ i h. refl) g
+
+divide-requires : tie.Need-divide-requires
+divide-requires c κs = search needs
+
+common-exponent-requires : tie.Need-common-exponent-requires
+common-exponent-requires c κs = search needs
+
+scale-requires : tie.Need-scale-requires
+scale-requires c κs = search needs
+
+same-length : tie.Need-same-length
+same-length c = search needs
+
+returns : tie.Need-returns
+returns c =
+    let a = c .before .before .before .before .before .before .before .before .before .before .before .before .before .args in
+    let b = c .before .before .before .before .common-exponent in
+    made (length (a .out .now)) (λ i. nth (a .xs .now) i ⊘ nth (a .volatilities .now) i) (λ i. negℤ (getD (a .exponents .now) i (pos 0))) _ (b .result) _ (c .before .before .before .before .before .before .before .before .divide .ensures) (b .ensures .0) (b .ensures .1) (c .before .before .scale .ensures)
+
+pub gather-spec : {M : Type 1} → statement M
+gather-spec = tie.close (tie.spec divide-requires common-exponent-requires scale-requires same-length returns)
