@@ -1,0 +1,288 @@
+-- The adjusted covariance. The estimate, the shrinking and the regularizing are scaled exactly; the intensity is the same, fixed or Ledoit-Wolf's; a given matrix is decomposed alike. So the checks
+-- agree one after another, and where all pass every entry is 2 ^ (2k) times the other's. Assumes nothing.
+use mathlib.Core.Path.{_≡_, refl, sym, ap, ap₂, _∙_, subst, subst₂}
+use mathlib.Core.Logic.{_⊎_, inl, inr}
+use Prim.Native.Nat.{ℕ, _+_, _-_, _*_, _/_, _%_, _^_, _≤_, _<_}
+use native.Mathlib.Nat.{le-trans, le-of-eq}
+use native.Mathlib.Omega.{arith}
+use mathlib.Core.Bool.{Bool, true, false, not, cond, _&&_, _||_}
+use mathlib.Core.Option.{Option, none, some}
+use mathlib.Core.List.{List, [], _∷_, _++_, map}
+use lib.Dec.{eqb, lit≤}
+use lib.IntN.{ℤ, pos, _+ℤ_}
+use lib.ListN.{length}
+use lib.Ieee.{Float, nan, inf, fin, binary64, fits, lt, le, eq}
+use lib.Ieee.Fits.{div-fits, and-l, and-r}
+use Rattle.leaves.specs.Numbers.{_⊗_, zero⁺, one, 1e-10, isFinite, clamp01}
+use Rattle.leaves.specs.Loops.{fill, nth}
+use Rattle.leaves.specs.Root.{sqrt}
+use Rattle.leaves.specs.Shift.{shift}
+use Rattle.leaves.proofs.Shift.{isFinite-shift, eq-shift, shift-zero⁺}
+use Rattle.leaves.proofs.Units.{sign, mag}
+use Rattle.leaves.proofs.Range.{Range, range-zero}
+use Rattle.leaves.proofs.Operations.{Moved, moved-weaken}
+use Rattle.leaves.proofs.Signs.{sign-not-below}
+use Rattle.leaves.proofs.SqrtNearest.{moved-sqrt}
+use Rattle.matrix.specs.Matrix.{Matrix, at, rows, trace, allFinite}
+use Rattle.matrix.specs.Jacobi.{Decomposition}
+use Rattle.matrix.proofs.Stored.{entry-at, rows-at}
+use Rattle.estimators.specs.Refusals.{Check, passes, refuses, when, whenSome, first}
+use Rattle.estimators.specs.Sample.{covariance, largest, constantAsset}
+use Rattle.estimators.specs.LedoitWolf.{constantCorrelation, intensityOf, ledoitWolf}
+use Rattle.estimators.specs.Adjusted.{isSample, isGiven, decompositionOf, base, intensity, mixed, shrunk, regularized, isAdjusted}
+use Rattle.estimators.specs.Adjusted as Spec
+use Rattle.estimators.specs.Order.{opening, ofGiven, badRegularization, badShrinkage, badEstimate, notTheSample, noCorrelation, noVariance, ofSettings, ledoitWolfOrder, adjustedOrder}
+use Rattle.estimators.specs.Calls.{Answered, answered, settle, ledoitWolfIntensity, adjustedCovariance}
+use Rattle.estimators.specs.declared.Estimate.{Estimate}
+use Rattle.estimators.specs.declared.Target.{Target}
+use Rattle.estimators.specs.declared.Target.the-variants.{ConstantVariance, ConstantCorrelation}
+use Rattle.estimators.specs.declared.Shrinkage.{Shrinkage}
+use Rattle.estimators.specs.declared.Shrinkage.the-variants.{Unshrunk, Fixed, LedoitWolf}
+use Rattle.estimators.specs.declared.Regularization.{Regularization}
+use Rattle.estimators.specs.declared.Settings.{Settings}
+use Rattle.estimators.specs.declared.Field.the-variants.{ShrinkageField}
+use Rattle.estimators.specs.declared.Refusal.{Refusal}
+use Rattle.estimators.specs.declared.Refusal.the-variants.{BadSetting, CovarianceNotFinite, NotTheSample, ZeroVariance, WrongSide, Singular}
+use Rattle.estimators.specs.declared.Answer.{Answer}
+use Rattle.estimators.specs.declared.Answer.the-variants.{Covariance, Intensity}
+use Rattle.law.specs.Law.{All, Sized, AtLeast, answerParts, Alike, ask, EstimateInRange, ShrinkageInRange, CopiedEstimate}
+use Rattle.law.specs.Law as Law
+use Rattle.law.proofs.Numbers.{times-itself, means-alike}
+use Rattle.law.proofs.Chain.{Chain, ends, chain-same, chain-test, chain-must, chain-map, chain-append, chained, parts, settled}
+use Rattle.law.proofs.Sizes.{le-not-lt}
+use Rattle.law.proofs.Sample.{tolerance-moved}
+use Rattle.law.proofs.Matrices.{by-cell, first-nothing, finite-entry, trace-moved, rows-moved}
+use Rattle.law.proofs.Opening.{Shape, returns, sample-moved, finite-same, opening-chain}
+use Rattle.law.proofs.LedoitWolf.{ledoitWolf-same, correlation-same}
+use Rattle.law.proofs.Correlation.{sign-variance, sign-largest, above-zero, target-moved}
+use Rattle.law.proofs.Settings.{sets}
+use Rattle.law.proofs.Given.{average}
+use Rattle.law.proofs.Shrinkage.{Estimated, Shrunken, Adjusted, correlation-mixed, variance-mixed, nan-mixed, Regularized}
+use Rattle.law.proofs.Shrinkage as Shrinking
+use Rattle.law.proofs.JamesStein.{unit-range, clamped-range}
+use Rattle.law.proofs.Estimates.{Based, estimate-chain}
+
+-- ---- the intensity: a number of the granted size, or NaN from Ledoit and Wolf
+abbrev Known : Shrinkage → Float → Type 0
+Known S δ = ((δ ≡ nan) × (S ≡ Unshrunk → ⊥)) ⊎ Shrinking.Intensity δ
+
+at-least-nan : (x : Float) → x ≡ nan → le zero⁺ x ≡ true → ⊥
+unfolding le lt eq
+at-least-nan x z e = subst lib.Dec.T (sym e ∙ ap (le zero⁺) z) tt
+
+module _ (r : List Float) (n P : ℕ) (opens : (ds : List Check) → first (opening r n P 0 [] ++ ds) ≡ first ds) where
+  -- where the adjustment gets as far as the intensity, the call for it does not refuse
+  answers : (F : Target) → noCorrelation (LedoitWolf F) P n (at r n) ≡ passes → ledoitWolfIntensity r n P F ≡ Intensity (ledoitWolf F P n (at r n))
+  unfolding ledoitWolfIntensity ledoitWolfOrder settle first
+  answers F e = ap (λ (c : Check). settle c [] (answered (Intensity (ledoitWolf F P n (at r n))) []) .answer) (opens (noCorrelation (LedoitWolf F) P n (at r n) ∷ []) ∙ ap (λ (c : Check). first (c ∷ [])) e)
+
+  ledoitWolf-known : (F : Target) → AtLeast 40 (ledoitWolf F P n (at r n)) → (ledoitWolf F P n (at r n) ≡ nan) ⊎ Shrinking.Intensity (ledoitWolf F P n (at r n))
+  unfolding ledoitWolf intensityOf
+  ledoitWolf-known F a = go (lt zero⁺ _) _ (div-fits binary64 _ _) a
+    where
+      go : (b : Bool) (w : Float) → lib.Dec.T (fits binary64 w) → AtLeast 40 (elim b [ true ↦ clamp01 w | false ↦ zero⁺ ])
+          → ((elim b [ true ↦ clamp01 w | false ↦ zero⁺ ]) ≡ nan) ⊎ Shrinking.Intensity (elim b [ true ↦ clamp01 w | false ↦ zero⁺ ])
+      go true w t a = clamped-range 40 (lit≤ tt) w t a
+      go false w t a = inr (range-zero 982 (2 ^ 1034) (2 ^ 1074))
+
+  no : {F : Target} → LedoitWolf F ≡ Unshrunk → ⊥
+  no e = let z : true ≡ false = cc in subst lib.Dec.T z tt
+
+  intensity-known : (S : Shrinkage) (E : Estimate) → ShrinkageInRange S (isSample E) r n P → badShrinkage S ≡ passes → notTheSample S E ≡ passes → noCorrelation S P n (at r n) ≡ passes → Known S (intensity S P n (at r n))
+  unfolding intensity badShrinkage notTheSample
+  intensity-known Unshrunk E q a b c = inr (range-zero 982 (2 ^ 1034) (2 ^ 1074))
+  intensity-known (Fixed δ) E q a b c = inr (fixed δ (q .0) (q .1) (both (le zero⁺ δ) (le δ one) a))
+    where
+      both : (u v : Bool) → when (not (u && v)) (BadSetting ShrinkageField) ≡ passes → (u ≡ true) × (v ≡ true)
+      both true true e = (refl, refl)
+      both true false e = let z : false ≡ true = cc in (refl, z)
+      both false v e = let z : false ≡ true = cc in (z, absurd (subst lib.Dec.T (sym z) tt))
+
+      fixed : (δ : Float) → lib.Dec.T (fits binary64 δ) → AtLeast 40 δ → (le zero⁺ δ ≡ true) × (le δ one ≡ true) → Shrinking.Intensity δ
+      fixed δ t a e = elim (unit-range 40 (lit≤ tt) δ t a (le-not-lt zero⁺ δ (e .0)) (le-not-lt δ one (e .1))) [ inl z ↦ absurd (at-least-nan δ z (e .0)) | inr q ↦ q ]
+  intensity-known (LedoitWolf F) E q a b c =
+      let e : isSample E ≡ true = must (isSample E) b in
+      let l : All (AtLeast 40) (ledoitWolf F P n (at r n) ∷ []) = subst (λ (w : Answer). All (AtLeast 40) (answerParts n w [] .intensity)) (answers F c) (subst (λ (z : Bool). All (AtLeast 40) (cond z (answerParts n (ledoitWolfIntensity r n P F) [] .intensity) [])) e q) in
+      elim (ledoitWolf-known F (l .0)) [ inl z ↦ inl (z, λ w. no w) | inr i ↦ inr i ]
+    where
+      must : (b : Bool) → when (not b) NotTheSample ≡ passes → b ≡ true
+      must true e = refl
+      must false e = let z : false ≡ true = cc in z
+
+-- ---- the checks of the settings, and the adjusted matrix
+not-finite-nan : {A : Type 0} → isFinite nan ≡ true → A
+unfolding isFinite
+not-finite-nan e = absurd (subst lib.Dec.T (sym e) tt)
+
+module _ (k : ℕ) (small : k ≤ 80) (r : List Float) (sizes : All (Sized 40) r) (n P : ℕ) (s : Shape r n P) (side limit : ℕ) (S : Shrinkage) (H H' : Regularization) (h : Regularized (k + k) H H') (E E' : Estimate) (G G' : Matrix)
+    (e : Based k n P side E E' (at r n) (at (map (shift (pos k)) r) n) G G') (δ : Float)
+    (known : badShrinkage S ≡ passes → notTheSample S E ≡ passes → noCorrelation S P n (at r n) ≡ passes → Known S δ) where
+  abbrev x : Matrix
+  x = at r n
+
+  abbrev y : Matrix
+  y = at (map (shift (pos k)) r) n
+
+  abbrev b : Matrix
+  b = at (rows n n (base E P (at r n) G)) n
+
+  abbrev b' : Matrix
+  b' = at (rows n n (base E' P (at (map (shift (pos k)) r) n) G')) n
+
+  double : k + k ≤ 160
+  double = omega arith
+
+  -- the estimate
+  module _ (e₃ : badEstimate E ≡ passes) (e₆ : (isGiven E && not (eqb side n)) ≡ false) where
+    estimated : (i j : ℕ) → i < n → j < n → Estimated (k + k) (b i j) (b' i j)
+    estimated = rows-moved n n (base E P x G) (base E' P y G') (e .entries e₃ e₆)
+
+    -- constant correlation needs the sample, and variances above zero
+    correlated : isSample E ≡ true → constantAsset n (covariance P x) (largest P x) ≡ none → (i j : ℕ) → i < n → j < n → Moved (k + k) 194 246 1644 (constantCorrelation n b i j) (constantCorrelation n b' i j)
+    unfolding constantAsset
+    correlated q nothing =
+        let is : (i j : ℕ) → i < n → j < n → b i j ≡ covariance P x i j = λ i j l m. rows-at (base E P x G) n n i j l m ∙ e .sampled q i j .0 in
+        let is' : (i j : ℕ) → i < n → j < n → b' i j ≡ covariance P y i j = λ i j l m. rows-at (base E' P y G') n n i j l m ∙ e .sampled q i j .1 in
+        let moved : (i j : ℕ) → i < n → j < n → Moved (k + k) 698 750 1192 (b i j) (b' i j) = λ i j l m. subst₂ (Moved (k + k) 698 750 1192) (sym (is i j l m)) (sym (is' i j l m)) (sample-moved k small r sizes n P s i j l m) in
+        let plus : (i : ℕ) → i < n → sign (b i i) ≡ false = λ i l. ap sign (is i i l l) ∙ sign-variance P x i in
+        target-moved k n small (s .assets) (s .few) b b' moved plus
+        (λ i l. above-zero (b i i) (largest P x i) (moved-sqrt (moved i i l l) (sign-not-below (b i i) (plus i l)) 860 1133 (lit≤ tt) (lit≤ tt) .range)
+        (tolerance-moved (returns k small r sizes n P s) (lit≤ tt) (lit≤ tt) (omega arith) i l .range) (plus i l) (sign-largest P x i)
+        (ap (λ (v : Float). le (sqrt v) (1e-10 ⊗ largest P x i)) (is i i l l) ∙ first-nothing n (λ i. le (sqrt (covariance P x i i)) (1e-10 ⊗ largest P x i)) nothing i l))
+
+    shrunk-moved : (S : Shrinkage) → Shrinking.Intensity δ → notTheSample S E ≡ passes → noCorrelation S P n (at r n) ≡ passes → (i j : ℕ) → i < n → j < n → Shrunken (k + k) (shrunk S δ n b i j) (shrunk S δ n b' i j)
+    unfolding shrunk notTheSample noCorrelation
+    shrunk-moved Unshrunk d e₄ e₅ i j l m = moved-weaken 5 5 1645 (lit≤ tt) (lit≤ tt) (lit≤ tt) (estimated i j l m)
+    shrunk-moved (Fixed f) d e₄ e₅ i j l m = variance-mixed (k + k) double δ d n b b' i j (s .assets) (s .few) estimated l m
+    shrunk-moved (LedoitWolf ConstantVariance) d e₄ e₅ i j l m = variance-mixed (k + k) double δ d n b b' i j (s .assets) (s .few) estimated l m
+    shrunk-moved (LedoitWolf ConstantCorrelation) d e₄ e₅ i j l m = correlation-mixed (k + k) double δ d n b b' i j (correlated (must (isSample E) e₄) (nothing (constantAsset n (covariance P x) (largest P x)) e₅) i j l m) (estimated i j l m)
+      where
+        must : (b : Bool) → when (not b) NotTheSample ≡ passes → b ≡ true
+        must true e = refl
+        must false e = let z : false ≡ true = cc in z
+
+        nothing : (o : Option ℕ) → whenSome o ZeroVariance ≡ passes → o ≡ none
+        nothing none e = refl
+        nothing (some i) e = let z : some i ≡ none = cc in z
+
+  shrunk-nan : (S : Shrinkage) → (S ≡ Unshrunk → ⊥) → (m : Matrix) (i j : ℕ) → shrunk S nan n m i j ≡ nan
+  unfolding shrunk
+  shrunk-nan Unshrunk u m i j = absurd (u refl)
+  shrunk-nan (Fixed f) u m i j = nan-mixed ConstantVariance n m i j
+  shrunk-nan (LedoitWolf F) u m i j = nan-mixed F n m i j
+
+  abbrev a : Matrix
+  a = at (rows n n (regularized H (shrunk S δ n b))) n
+
+  abbrev a' : Matrix
+  a' = at (rows n n (regularized H' (shrunk S δ n b'))) n
+
+  abbrev Done : Type 0
+  Done = (i j : ℕ) → i < n → j < n → Adjusted (k + k) (a i j) (a' i j)
+
+  correlation-alike : (S : Shrinkage) → noCorrelation S P n (at (map (shift (pos k)) r) n) ≡ noCorrelation S P n (at r n)
+  correlation-alike Unshrunk = unfold noCorrelation in refl
+  correlation-alike (Fixed f) = unfold noCorrelation in refl
+  correlation-alike (LedoitWolf F) = correlation-same k small r sizes n P F s
+
+  sample-alike : (S : Shrinkage) → notTheSample S E' ≡ notTheSample S E
+  unfolding notTheSample
+  sample-alike Unshrunk = refl
+  sample-alike (Fixed f) = refl
+  sample-alike (LedoitWolf F) = ap (λ (z : Bool). when (not z) NotTheSample) (e .sample)
+
+  variance-alike : badEstimate E ≡ passes → (isGiven E && not (eqb side n)) ≡ false → noVariance (isAdjusted δ H') E' P n y b' ≡ noVariance (isAdjusted δ H) E P n x b
+  variance-alike e₃ e₆ = ap (λ (z : Bool). noVariance z E' P n y b') (h .adjusts δ) ∙ either (isAdjusted δ H)
+    where
+      either : (z : Bool) → noVariance z E' P n y b' ≡ noVariance z E P n x b
+      either true = unfold noVariance in refl
+      either false = e .variance b b' (λ i l. estimated e₃ e₆ i i l l .copy)
+
+  last-checks : badEstimate E ≡ passes → (isGiven E && not (eqb side n)) ≡ false → notTheSample S E ≡ passes → noCorrelation S P n (at r n) ≡ passes → Known S δ
+      → Chain Done (when (not (allFinite n n a)) CovarianceNotFinite ∷ when (eq (trace n a) zero⁺) Singular ∷ []) (when (not (allFinite n n a')) CovarianceNotFinite ∷ when (eq (trace n a') zero⁺) Singular ∷ [])
+  last-checks e₃ e₆ e₄ e₅ (inr d) =
+      let moved : Done = rows-moved n n (regularized H (shrunk S δ n b)) (regularized H' (shrunk S δ n b')) (λ i j l m. h .entries (shrunk S δ n b) (shrunk S δ n b') i j (shrunk-moved e₃ e₆ S d e₄ e₅ i j l m)) in
+      let t = trace-moved n a a' (s .few) (omega arith) (λ i l. moved i i l l) in
+      chain-must (allFinite n n a) CovarianceNotFinite (finite-same n n a' a (λ i j l m. ap isFinite (moved i j l m .copy) ∙ isFinite-shift (pos (k + k)) (a i j))) (λ e₈.
+      chain-test (eq (trace n a) zero⁺) Singular (ap₂ eq (t .copy) (sym (shift-zero⁺ (pos (k + k)))) ∙ eq-shift (pos (k + k)) (trace n a) zero⁺) (λ e₉. ends moved))
+  last-checks e₃ e₆ e₄ e₅ (inl q) =
+      let void : (m : Matrix) (i j : ℕ) → shrunk S δ n m i j ≡ nan = λ m i j. ap (λ (z : Float). shrunk S z n m i j) (q .0) ∙ shrunk-nan S (q .1) m i j in
+      let f : (i j : ℕ) → i < n → j < n → a i j ≡ nan = λ i j l m. rows-at (regularized H (shrunk S δ n b)) n n i j l m ∙ h .nans (shrunk S δ n b) i j (void b i j) .0 in
+      let f' : (i j : ℕ) → i < n → j < n → a' i j ≡ nan = λ i j l m. rows-at (regularized H' (shrunk S δ n b')) n n i j l m ∙ h .nans (shrunk S δ n b') i j (void b' i j) .1 in
+      chain-must (allFinite n n a) CovarianceNotFinite (finite-same n n a' a (λ i j l m. ap isFinite (f' i j l m ∙ sym (f i j l m)))) (λ e₈.
+      not-finite-nan (sym (ap isFinite (f 0 0 (s .assets) (s .assets))) ∙ finite-entry n n a e₈ 0 0 (s .assets) (s .assets)))
+
+  pub settings-chain : Chain Done (ofSettings (sets E S H limit) δ P n side x b a) (ofSettings (sets E' S H' limit) δ P n side y b' a')
+  unfolding ofSettings
+  settings-chain =
+      chain-same (badRegularization H) (h .bad) (λ e₁.
+      chain-same (badShrinkage S) refl (λ e₂.
+      chain-same (badEstimate E) (e .bad) (λ e₃.
+      chain-same (notTheSample S E) (sample-alike S) (λ e₄.
+      chain-same (noCorrelation S P n x) (correlation-alike S) (λ e₅.
+      chain-test (isGiven E && not (eqb side n)) (WrongSide side) (ap (λ (z : Bool). z && not (eqb side n)) (e .given)) (λ e₆.
+      chain-same (noVariance (isAdjusted δ H) E P n x b) (variance-alike e₃ e₆) (λ e₇.
+      last-checks e₃ e₆ e₄ e₅ (known e₂ e₄ e₅))))))))
+
+-- ---- the call
+pub record Outcome (k n : ℕ) (δ δ' : Float) (d d' : Decomposition) (a a' : Matrix) : Type 0 where
+  pub intensity : δ' ≡ δ
+  pub decomposition : d' ≡ d
+  pub entries : (i j : ℕ) → i < n → j < n → Adjusted (k + k) (a i j) (a' i j)
+
+module _ (k : ℕ) (small : k ≤ 80) (r : List Float) (sizes : All (Sized 40) r) (n P side limit : ℕ) (S : Shrinkage) (H H' : Regularization) (h : Regularized (k + k) H H') (E E' : Estimate) (g g' : List Float)
+    (copied : CopiedEstimate (pos k) E E') (q : EstimateInRange P E) (q' : EstimateInRange P E') (given : isGiven E ≡ true → All (Sized 80) g × (g' ≡ map (shift (pos (k + k))) g)) (shrinks : ShrinkageInRange S (isSample E) r n P) where
+  abbrev r' : List Float
+  r' = map (shift (pos k)) r
+
+  abbrev δ : List Float → Float
+  δ r = intensity S P n (at r n)
+
+  abbrev d : Estimate → Regularization → List Float → Decomposition
+  d E H g = decompositionOf (sets E S H limit) side (average side g)
+
+  abbrev estimate : Estimate → List Float → List Float → List Float
+  estimate E r g = rows n n (base E P (at r n) (average side g))
+
+  abbrev adjusted : Float → Estimate → Regularization → List Float → List Float → List Float
+  adjusted δ E H r g = rows n n (regularized H (shrunk S δ n (at (estimate E r g) n)))
+
+  abbrev settings : Float → Estimate → Regularization → List Float → List Float → List Check
+  settings δ E H r g = ofSettings (sets E S H limit) δ P n side (at r n) (at (estimate E r g) n) (at (adjusted δ E H r g) n)
+
+  intensity-same : Shape r n P → δ r' ≡ δ r
+  intensity-same s = go S
+    where
+      go : (S : Shrinkage) → intensity S P n (at (map (shift (pos k)) r) n) ≡ intensity S P n (at r n)
+      go Unshrunk = unfold intensity in refl
+      go (Fixed f) = unfold intensity in refl
+      go (LedoitWolf F) = unfold intensity in ledoitWolf-same F small (returns k small r sizes n P s)
+
+  order : (slice slice' : List Float) → length slice' ≡ length slice
+      → Chain (Outcome k n (δ r) (δ r') (d E H g) (d E' H' g') (at (adjusted (δ r) E H r g) n) (at (adjusted (δ r') E' H' r' g') n))
+      (adjustedOrder r n P (sets E S H limit) g side slice (d E H g) (δ r) (at (estimate E r g) n) (at (adjusted (δ r) E H r g) n))
+      (adjustedOrder r' n P (sets E' S H' limit) g' side slice' (d E' H' g') (δ r') (at (estimate E' r' g') n) (at (adjusted (δ r') E' H' r' g') n))
+  unfolding adjustedOrder
+  order slice slice' e =
+      chain-append (opening-chain k small r sizes n P (n * n) slice slice' e (λ s opens.
+      estimate-chain k small r sizes n P s side limit S H H' E E' g g' copied q q' given (λ based same.
+      subst (λ (z : Float). Chain (Outcome k n (δ r) z (d E H g) (d E' H' g') (at (adjusted (δ r) E H r g) n) (at (adjusted z E' H' r' g') n)) (settings (δ r) E H r g) (settings z E' H' r' g')) (sym (intensity-same s))
+      (chain-map (λ moved. record { intensity = refl; decomposition = same; entries = moved })
+      (settings-chain k small r sizes n P s side limit S H H' h E E' (average side g) (average side g') based (δ r) (intensity-known r n P opens S E shrinks))))))
+
+  pub covariance-law : (slice slice' : List Float) → length slice' ≡ length slice
+      → Alike (pos k) (parts n (ask r n P (Law.adjusted (sets E S H limit) g side) slice)) (parts n (ask r' n P (Law.adjusted (sets E' S H' limit) g' side) slice'))
+  unfolding adjustedCovariance Spec.adjusted
+  covariance-law slice slice' e =
+      let a = adjusted (δ r) E H r g in
+      let a' = adjusted (δ r') E' H' r' g' in
+      settled (chained (order slice slice' e)) (pos k) n slice slice' (answered (Covariance (δ r) (d E H g .sweeps) (d E H g .rotations)) (fill (n * n) (nth a) slice)) (answered (Covariance (δ r') (d E' H' g' .sweeps) (d E' H' g' .rotations)) (fill (n * n) (nth a') slice'))
+      (λ p p' o. record {
+        refusal = refl;
+        entries = means-alike (k + k) (n * n) (nth a) (nth a') slice slice' (λ c l.
+            let m = by-cell n n (λ i j. Adjusted (k + k) (at a n i j) (at a' n i j)) (o .entries) c l in
+            subst₂ (λ (u v : Float). lib.Dec.T (fits binary64 u) × (v ≡ shift (pos (k + k)) u)) (entry-at a n c) (entry-at a' n c) (m .range .fit, m .copy));
+        meansAndTarget = tt;
+        intensity = (rw (o .intensity) (times-itself (δ r)), tt);
+        sweepsAndRotations = ap (λ (z : Decomposition). z .sweeps ∷ z .rotations ∷ []) (sym (o .decomposition));
+      })

@@ -1,0 +1,151 @@
+-- What the checks of the settings and the adjustment ask of an estimate E and its copy E', the second's returns 2 ^ k times the first's: the same refusals, and each entry 2 ^ (2k) times as large
+-- (`Based`). And the checks of a given matrix, which come before. Assumes nothing.
+use mathlib.Core.Path.{_≡_, refl, sym, ap, ap₂, _∙_, subst}
+use Prim.Native.Nat.{ℕ, _+_, _*_, _≤_, _<_}
+use native.Mathlib.Nat.{le-of-eq, lt-of-lt-of-le}
+use native.Mathlib.Omega.{arith}
+use mathlib.Core.Bool.{Bool, true, false, not, _&&_}
+use mathlib.Core.List.{List, [], _∷_, map}
+use mathlib.Core.Option.{Option}
+use lib.Dec.{T, eqb, lit≤}
+use lib.IntN.{pos}
+use lib.ListN.{length}
+use lib.Ieee.{Float, binary64, fits, eq}
+use borrow.Author.Tests.{eqb-true}
+use Rattle.leaves.specs.Numbers.{zero⁺, isFinite}
+use Rattle.leaves.specs.Shift.{shift}
+use Rattle.leaves.proofs.Loops.{first-ext}
+use Rattle.leaves.proofs.Shift.{isFinite-shift, eq-shift, shift-zero⁺}
+use Rattle.leaves.proofs.Operations.{Moved, moved-weaken}
+use Rattle.matrix.specs.Matrix.{Matrix, at}
+use Rattle.estimators.specs.Refusals.{Check, passes, refuses, when, whenSome}
+use Rattle.estimators.specs.Sample.{covariance, largest, constantAsset}
+use Rattle.estimators.specs.Weighted.{logDecay, accepted}
+use Rattle.estimators.specs.Adjusted.{isSample, isGiven, decompositionOf, base}
+use Rattle.estimators.specs.Order.{badHalfLife, badEstimate, noVariance, ofGiven}
+use Rattle.estimators.specs.declared.Estimate.{Estimate}
+use Rattle.estimators.specs.declared.Estimate.the-variants.{Sample, Given, Weighted, Semi, SemiBelow}
+use Rattle.estimators.specs.declared.Shrinkage.{Shrinkage}
+use Rattle.estimators.specs.declared.Regularization.{Regularization}
+use Rattle.estimators.specs.declared.Field.the-variants.{HalfLifeField, ThresholdField}
+use Rattle.estimators.specs.declared.Refusal.the-variants.{BadSetting, ZeroVariance}
+use Rattle.law.specs.Law.{All, Sized, EstimateInRange, CopiedEstimate, sample, given, weighted, semi, semiBelow}
+use Rattle.law.proofs.Numbers.{copy-shift}
+use Rattle.law.proofs.Chain.{Chain, ends}
+use Rattle.law.proofs.Sizes.{sized-fits}
+use Rattle.law.proofs.Sample.{Returns, semicovariance-moved, semicovarianceBelow-moved, constant-same}
+use Rattle.law.proofs.Opening.{Shape, sized-moved, returns, sample-moved}
+use Rattle.law.proofs.Weighted as Weighted
+use Rattle.law.proofs.Settings.{sets}
+use Rattle.law.proofs.Given.{average, average-moved, decomposition-same, given-chain}
+use Rattle.law.proofs.Shrinkage.{Estimated}
+
+pub record Based (k n P side : ℕ) (E E' : Estimate) (x y G G' : Matrix) : Type 0 where
+  pub bad : badEstimate E' ≡ badEstimate E
+  pub sample : isSample E' ≡ isSample E
+  pub given : isGiven E' ≡ isGiven E
+  pub entries : badEstimate E ≡ passes → (isGiven E && not (eqb side n)) ≡ false → (i j : ℕ) → i < n → j < n → Estimated (k + k) (base E P x G i j) (base E' P y G' i j)
+  pub variance : (b b' : Matrix) → ((i : ℕ) → i < n → b' i i ≡ shift (pos (k + k)) (b i i)) → noVariance false E' P n y b' ≡ noVariance false E P n x b
+  pub sampled : isSample E ≡ true → (i j : ℕ) → (base E P x G i j ≡ covariance P x i j) × (base E' P y G' i j ≡ covariance P y i j)
+
+module _ (k : ℕ) (small : k ≤ 80) (r : List Float) (sizes : All (Sized 40) r) (n P : ℕ) (s : Shape r n P) (side : ℕ) (G G' : Matrix) where
+  abbrev x : Matrix
+  x = at r n
+
+  abbrev y : Matrix
+  y = at (map (shift (pos k)) r) n
+
+  abbrev R : Returns k n P 982 1034 1114 (at r n) (at (map (shift (pos k)) r) n)
+  R = returns k small r sizes n P s
+
+  -- 9, of a variance from the returns
+  varies : (b b' : Matrix) → ((i : ℕ) → i < n → b' i i ≡ shift (pos (k + k)) (b i i)) → whenSome (constantAsset n b' (largest P y)) ZeroVariance ≡ whenSome (constantAsset n b (largest P x)) ZeroVariance
+  varies b b' e = ap (λ (o : Option ℕ). whenSome o ZeroVariance) (constant-same R (lit≤ tt) (lit≤ tt) (omega arith) b b' e)
+
+  no : {A : Type 0} → false ≡ true → A
+  no e = absurd (subst T (sym e) tt)
+
+  from-sample : Based k n P side Sample Sample (at r n) (at (map (shift (pos k)) r) n) G G'
+  unfolding badEstimate base noVariance
+  from-sample = record {
+    bad = refl;
+    sample = refl;
+    given = refl;
+    entries = λ e e' i j a b. moved-weaken 154 154 1522 (lit≤ tt) (lit≤ tt) (lit≤ tt) (sample-moved k small r sizes n P s i j a b);
+    variance = varies;
+    sampled = λ e i j. (refl, refl);
+  }
+
+  from-semi : Based k n P side Semi Semi (at r n) (at (map (shift (pos k)) r) n) G G'
+  unfolding badEstimate base noVariance
+  from-semi = record {
+    bad = refl;
+    sample = refl;
+    given = refl;
+    entries = λ e e' i j a b. moved-weaken 154 154 1522 (lit≤ tt) (lit≤ tt) (lit≤ tt) (semicovariance-moved R 918 (lit≤ tt) (omega arith) 762 (lit≤ tt) 698 (lit≤ tt) 1180 (lit≤ tt) (omega arith) i j a b);
+    variance = varies;
+    sampled = λ e. no e;
+  }
+
+  from-threshold : (θ θ' : Float) → Sized 40 θ → θ' ≡ shift (pos k) θ → Based k n P side (SemiBelow θ) (SemiBelow θ') (at r n) (at (map (shift (pos k)) r) n) G G'
+  unfolding badEstimate base noVariance
+  from-threshold θ θ' z e = record {
+    bad = ap (λ (b : Bool). when (not b) (BadSetting ThresholdField)) (ap isFinite e ∙ isFinite-shift (pos k) θ);
+    sample = refl;
+    given = refl;
+    entries = λ q q' i j a b. moved-weaken 154 154 1522 (lit≤ tt) (lit≤ tt) (lit≤ tt) (semicovarianceBelow-moved R 918 (lit≤ tt) (omega arith) 762 (lit≤ tt) 698 (lit≤ tt) 1180 (lit≤ tt) (omega arith) (sized-moved k 40 (lit≤ tt) θ θ' z e) i j a b);
+    variance = varies;
+    sampled = λ e. no e;
+  }
+
+  from-weights : (h : Float) → EstimateInRange P (Weighted h) → Based k n P side (Weighted h) (Weighted h) (at r n) (at (map (shift (pos k)) r) n) G G'
+  unfolding badEstimate badHalfLife base noVariance
+  from-weights h long = record {
+    bad = refl;
+    sample = refl;
+    given = refl;
+    entries = λ q q' i j a b. Weighted.covariance-moved small R h long (passed (accepted (logDecay h)) q) i j a b;
+    variance = varies;
+    sampled = λ e. no e;
+  }
+    where
+      passed : (b : Bool) → when (not b) (BadSetting HalfLifeField) ≡ passes → b ≡ true
+      passed true e = refl
+      passed false e = let z : false ≡ true = cc in z
+
+-- a given matrix, where its slice has the right length
+module _ (k : ℕ) (small : k ≤ 80) (n P side : ℕ) (x y : Matrix) (g : List Float) (sizes : All (Sized 80) g) (full : length g ≡ side * side) where
+  from-given : Based k n P side Given Given x y (average side g) (average side (map (shift (pos (k + k))) g))
+  unfolding badEstimate base noVariance
+  from-given = record {
+    bad = refl;
+    sample = refl;
+    given = refl;
+    entries = λ q q' i j a b.
+        let e : side ≡ n = eqb-true side n (not-no (eqb side n) q') in
+        moved-weaken 154 154 1522 (lit≤ tt) (lit≤ tt) (lit≤ tt) (average-moved (k + k) (omega arith) side 0 g sizes full i j (lt-of-lt-of-le a (le-of-eq (sym e))) (lt-of-lt-of-le b (le-of-eq (sym e))));
+    variance = λ b b' e. ap (λ (o : Option ℕ). whenSome o ZeroVariance) (first-ext n (λ i. eq (b' i i) zero⁺) (λ i. eq (b i i) zero⁺) (λ i l. ap₂ eq (e i l) (sym (shift-zero⁺ (pos (k + k)))) ∙ eq-shift (pos (k + k)) (b i i) zero⁺));
+    sampled = λ e. absurd (subst T (sym e) tt);
+  }
+    where
+      not-no : (b : Bool) → not b ≡ false → b ≡ true
+      not-no true h = refl
+      not-no false h = sym h
+
+-- ---- the checks of a given matrix, and after them what is known of the estimate
+pub estimate-chain : {Q : Type 0} (k : ℕ) (small : k ≤ 80) (r : List Float) (sizes : All (Sized 40) r) (n P : ℕ) (s : Shape r n P) (side limit : ℕ) (S : Shrinkage) (H H' : Regularization) (E E' : Estimate) (g g' : List Float)
+    → CopiedEstimate (pos k) E E' → EstimateInRange P E → EstimateInRange P E' → (isGiven E ≡ true → All (Sized 80) g × (g' ≡ map (shift (pos (k + k))) g))
+    → (Based k n P side E E' (at r n) (at (map (shift (pos k)) r) n) (average side g) (average side g') → decompositionOf (sets E' S H' limit) side (average side g') ≡ decompositionOf (sets E S H limit) side (average side g) → Q)
+    → Chain Q (ofGiven (sets E S H limit) g side (decompositionOf (sets E S H limit) side (average side g))) (ofGiven (sets E' S H' limit) g' side (decompositionOf (sets E' S H' limit) side (average side g')))
+unfolding ofGiven decompositionOf
+estimate-chain k small r sizes n P s side limit S H H' E E' g g' sample q q' known then = ends (then (from-sample k small r sizes n P s side (average side g) (average side g')) refl)
+estimate-chain k small r sizes n P s side limit S H H' E E' g g' semi q q' known then = ends (then (from-semi k small r sizes n P s side (average side g) (average side g')) refl)
+estimate-chain k small r sizes n P s side limit S H H' E E' g g' (weighted {halfLife = h}) q q' known then = ends (then (from-weights k small r sizes n P s side (average side g) (average side g') h q) refl)
+estimate-chain k small r sizes n P s side limit S H H' E E' g g' (semiBelow {x = θ} {y = θ'} c) q q' known then =
+    ends (then (from-threshold k small r sizes n P s side (average side g) (average side g') θ θ' q (copy-shift k θ θ' (sized-fits 40 θ q) (sized-fits 40 θ' q') c)) refl)
+estimate-chain {Q} k small r sizes n P s side limit S H H' E E' g g' given q q' known then =
+    let m = known refl in
+    let y = map (shift (pos (k + k))) g in
+    subst (λ (g' : List Float). (Based k n P side Given Given (at r n) (at (map (shift (pos k)) r) n) (average side g) (average side g') → decompositionOf (sets Given S H' limit) side (average side g') ≡ decompositionOf (sets Given S H limit) side (average side g) → Q)
+    → Chain Q (ofGiven (sets Given S H limit) g side (decompositionOf (sets Given S H limit) side (average side g))) (ofGiven (sets Given S H' limit) g' side (decompositionOf (sets Given S H' limit) side (average side g')))) (sym (m .1))
+    (λ then. given-chain (k + k) (omega arith) side limit g (m .0) S S H H' (λ full. then (from-given k small n P side (at r n) (at (map (shift (pos k)) r) n) g (m .0) full) (decomposition-same (k + k) (omega arith) side limit g (m .0) full))) then

@@ -1,0 +1,75 @@
+-- The Ledoit-Wolf call. Centered returns are scaled exactly. Over the power of two of their largest, which grows by k too, they are the same floats in both runs, and everything after is the same
+-- computation: the intensity is the same, bit for bit. Assumes nothing.
+use mathlib.Core.Path.{_≡_, refl, sym, ap, _∙_, subst₂}
+use Prim.Native.Nat.{ℕ, _+_, _^_, _≤_, _<_}
+use native.Mathlib.Omega.{arith}
+use mathlib.Core.List.{List, [], _∷_, _++_, map}
+use mathlib.Core.Option.{Option}
+use lib.Dec.{lit≤}
+use lib.IntN.{pos, negℤ}
+use lib.Ieee.{Float}
+use Rattle.leaves.specs.Numbers.{_⊘_, count}
+use Rattle.leaves.specs.Scaling.{binaryExponent}
+use Rattle.leaves.specs.Shift.{shift}
+use Rattle.matrix.specs.Matrix.{Matrix, at, rows, amax}
+use Rattle.matrix.proofs.Stored.{rows-ext}
+use Rattle.estimators.specs.Refusals.{Check, passes, refuses, whenSome, first}
+use Rattle.estimators.specs.Sample.{deviation, gram, covariance, scaled, largest, constantAsset}
+use Rattle.estimators.specs.LedoitWolf.{intensityOf, ledoitWolf}
+use Rattle.estimators.specs.Order.{opening, noCorrelation, ledoitWolfOrder}
+use Rattle.estimators.specs.Calls.{Answered, answered, settle, ledoitWolfIntensity}
+use Rattle.estimators.specs.declared.Target.{Target}
+use Rattle.estimators.specs.declared.Target.the-variants.{ConstantVariance, ConstantCorrelation}
+use Rattle.estimators.specs.declared.Shrinkage.the-variants.{LedoitWolf}
+use Rattle.estimators.specs.declared.Refusal.the-variants.{ZeroVariance}
+use Rattle.estimators.specs.declared.Answer.the-variants.{Intensity}
+use Rattle.law.specs.Law.{All, Sized, AnswerParts, answerParts, Alike, Times, ask}
+use Rattle.law.specs.Law as Law
+use Rattle.law.proofs.Numbers.{times-itself}
+use Rattle.law.proofs.Chain.{Chain, ends, chain-same, chained, parts, settled}
+use Rattle.law.proofs.Sample.{Returns, deviation-moved, constant-same}
+use Rattle.law.proofs.Matrices.{amax-moved, amax-above}
+use Rattle.law.proofs.Scaled.{Scaling, scaling}
+use Rattle.law.proofs.Opening.{Shape, returns, sample-moved, opening-chain}
+
+pub ledoitWolf-same : {k n T : ℕ} {x y : Matrix} (F : Target) → k ≤ 80 → Returns k n T 982 1034 1114 x y → ledoitWolf F T n y ≡ ledoitWolf F T n x
+unfolding ledoitWolf scaled
+ledoitWolf-same {k} {n} {T} {x} {y} F small r =
+    let each = deviation-moved r 918 (lit≤ tt) (omega arith) in
+    let s : Scaling k 918 918 1127 (amax T n (deviation T x)) (amax T n (deviation T y)) = scaling (amax-moved T n (deviation T x) (deviation T y) each) (lit≤ tt) (lit≤ tt) (lit≤ tt) (lit≤ tt) (lit≤ tt) (lit≤ tt) (omega arith) in
+    ap (λ (z : List Float). intensityOf F T n (at z n) (at (rows n n (λ i j. gram T (at z n) i j ⊘ count T)) n))
+    (rows-ext T n (scaled (λ i. binaryExponent (amax T n (deviation T y))) (deviation T y)) (scaled (λ i. binaryExponent (amax T n (deviation T x))) (deviation T x))
+    (λ t i a b. s .same (each t i a b) (amax-above T n (deviation T x) (deviation T y) each t i a b)))
+
+module _ (k : ℕ) (small : k ≤ 80) (r : List Float) (sizes : All (Sized 40) r) (n T : ℕ) where
+  pub correlation-same : (F : Target) → Shape r n T → noCorrelation (LedoitWolf F) T n (at (map (shift (pos k)) r) n) ≡ noCorrelation (LedoitWolf F) T n (at r n)
+  unfolding noCorrelation
+  correlation-same ConstantVariance s = refl
+  correlation-same ConstantCorrelation s = ap (λ (o : Option ℕ). whenSome o ZeroVariance)
+      (constant-same (returns k small r sizes n T s) (lit≤ tt) (lit≤ tt) (omega arith) (covariance T (at r n)) (covariance T (at (map (shift (pos k)) r) n)) (λ i l. sample-moved k small r sizes n T s i i l l .copy))
+
+  abbrev accepted : Target → List Float → Answered
+  accepted F r = answered (Intensity (ledoitWolf F T n (at r n))) []
+
+  -- the call takes no slice
+  no-slice : (c : Check) (δ : Float) (slice : List Float) → parts n (settle c [] (answered (Intensity δ) [])) ≡ answerParts n (settle c [] (answered (Intensity δ) []) .answer) slice
+  unfolding settle
+  no-slice passes δ slice = refl
+  no-slice (refuses c) δ slice = refl
+
+  pub intensity-law : (F : Target) (slice slice' : List Float) → Alike (pos k) (parts n (ask r n T (Law.intensity F) slice)) (parts n (ask (map (shift (pos k)) r) n T (Law.intensity F) slice'))
+  unfolding ledoitWolfIntensity
+  intensity-law F slice slice' =
+      let r' = map (shift (pos k)) r in
+      subst₂ (Alike (pos k)) (no-slice (first (ledoitWolfOrder r n T F)) (ledoitWolf F T n (at r n)) slice) (no-slice (first (ledoitWolfOrder r' n T F)) (ledoitWolf F T n (at r' n)) slice')
+      (settled (chained chain) (pos k) n [] [] (accepted F r) (accepted F r') (λ e e' same. record {
+        refusal = refl;
+        entries = tt;
+        meansAndTarget = tt;
+        intensity = (rw same (times-itself (ledoitWolf F T n (at r n))), tt);
+        sweepsAndRotations = refl;
+      }))
+    where
+      chain : Chain (ledoitWolf F T n (at (map (shift (pos k)) r) n) ≡ ledoitWolf F T n (at r n)) (ledoitWolfOrder r n T F) (ledoitWolfOrder (map (shift (pos k)) r) n T F)
+      chain = unfold ledoitWolfOrder in
+          opening-chain k small r sizes n T 0 [] [] refl (λ s opens. chain-same (noCorrelation (LedoitWolf F) T n (at r n)) (correlation-same F s) (λ e. ends (ledoitWolf-same F small (returns k small r sizes n T s))))

@@ -1,0 +1,25 @@
+-- The proof of the power-of-two law.
+pub mod Chain
+pub mod Sample
+pub mod Scaled
+pub mod Numbers
+pub mod Sizes
+pub mod Opening
+pub mod Matrices
+pub mod LedoitWolf
+pub mod Settings
+pub mod Given
+pub mod Correlation
+pub mod Shrinkage
+pub mod Exponential
+pub mod Weights
+pub mod Weighted
+pub mod Moments
+pub mod JamesStein
+pub mod Estimates
+pub mod Adjusted
+pub mod Ratio
+pub mod Common
+pub mod Tied
+pub mod BayesStein
+pub mod Theorem

@@ -1,0 +1,126 @@
+-- The checks that open every call, of returns in range and of the same returns times 2 ^ k: the shapes and lengths are equal, and returns in range, with their covariance, are finite. So both runs
+-- refuse alike, or both go on with returns of the granted sizes, the second's each 2 ^ k times the first's. Assumes nothing.
+use mathlib.Core.Path.{_≡_, refl, sym, ap, ap₂, _∙_, subst}
+use mathlib.Core.Logic.{_⊎_, inl, inr}
+use Prim.Native.Nat.{ℕ, zero, suc, _+_, _-_, _*_, _^_, _≤_, _<_}
+use native.Mathlib.Nat.{le-trans, le-of-eq, lt-of-lt-of-le, le-of-suc-le-suc, not-suc-le-zero}
+use native.Mathlib.Omega.{arith}
+use mathlib.Core.Bool.{Bool, true, false, not, _&&_, _||_}
+use mathlib.Core.List.{List, [], _∷_, _++_, map}
+use mathlib.Core.Option.{Option, none, some}
+use lib.Dec.{T, eqb, ltb, leb→le, lit≤}
+use lib.IntN.{ℤ, pos, negsuc, negℤ}
+use lib.ListN.{length, getD, length-map, List·getD-map}
+use lib.Ieee.{Float, nan, inf, fin, binary64, fits, eq, lt, le, below, level}
+use lib.Ieee.Fits.{and-l, and-r}
+use mir.Facts.{or-yes}
+use borrow.Author.Tests.{ltb-true, ltb-false, eqb-true, eq-eqb}
+use Rattle.leaves.specs.Numbers.{zero⁺, isFinite, abs}
+use Rattle.leaves.specs.Scaling.{pow2}
+use Rattle.leaves.specs.Shift.{shift}
+use Rattle.leaves.proofs.Loops.{cell}
+use Rattle.leaves.proofs.Shift.{isFinite-shift, shift-nan}
+use Rattle.leaves.proofs.Units.{U, Val, sign, mag, val-mag, mag-val, mag-abs, lt-val, eq-val}
+use Rattle.leaves.proofs.Range.{Range, range-size}
+use Rattle.leaves.proofs.Operations.{Moved, moved-weaken}
+use Rattle.matrix.specs.Limits.{maxSide}
+use Rattle.matrix.specs.Matrix.{Matrix, at, firstEntry, allFinite}
+use Rattle.matrix.proofs.Alike.{first-entry-alike}
+use Rattle.estimators.specs.Refusals.{Check, passes, when, whenSome, first}
+use Rattle.estimators.specs.Sample.{covariance}
+use Rattle.estimators.specs.Order.{maxPeriods, notFinite, opening}
+use Rattle.estimators.specs.declared.Refusal.the-variants.{NoAssets, TooLarge, TooFewPeriods, WrongLength, NotFinite, CovarianceNotFinite}
+use Rattle.law.specs.Law.{All, Sized}
+use Rattle.law.proofs.Chain.{Chain, chain-same, chain-test, chain-must, chain-append, ends}
+use Rattle.law.proofs.Sizes.{all-at, sized-range}
+use Rattle.law.proofs.Sample.{Returns, covariance-moved}
+
+-- ---- stored numbers and their copies
+pub at-copy : (k : ℤ) (l : List Float) (n i j : ℕ) → at (map (shift k) l) n i j ≡ shift k (at l n i j)
+at-copy k l n i j = ap (getD (map (shift k) l) (i * n + j)) (sym (shift-nan k)) ∙ List·getD-map (shift k) l (i * n + j) nan
+
+pub sized-moved : (k l : ℕ) → l ≤ 1022 → (x y : Float) → Sized l x → y ≡ shift (pos k) x → Moved k (1022 - l) (1022 - l + 52) (1074 + l) x y
+sized-moved k l h x y s e = record { range = sized-range l h x s; copy = e }
+
+pub finite-same : (m n : ℕ) (f g : Matrix) → ((i j : ℕ) → i < m → j < n → isFinite (f i j) ≡ isFinite (g i j)) → allFinite m n f ≡ allFinite m n g
+unfolding allFinite
+finite-same m n f g h = ap (λ (o : Option (ℕ × ℕ)). elim o as (λ z. Bool) [ none ↦ true | some k ↦ false ]) (first-entry-alike m n (λ i j. not (isFinite (f i j))) (λ i j. not (isFinite (g i j))) (λ i j a b. ap not (h i j a b)))
+
+-- 5
+pub entries-same : (k : ℕ) (l : List Float) (m n : ℕ) → notFinite m n (at (map (shift (pos k)) l) n) ≡ notFinite m n (at l n)
+unfolding notFinite
+entries-same k l m n = ap (λ (o : Option (ℕ × ℕ)). whenSome o (λ p. NotFinite (p .0) (p .1)))
+    (first-entry-alike m n (λ i j. not (isFinite (at (map (shift (pos k)) l) n i j))) (λ i j. not (isFinite (at l n i j))) (λ i j a b. ap not (ap isFinite (at-copy (pos k) l n i j) ∙ isFinite-shift (pos k) (at l n i j))))
+
+-- ---- the shapes that are accepted
+pub record Shape (r : List Float) (n T : ℕ) : Type 0 where
+  pub assets : 0 < n
+  pub few : n ≤ 32
+  pub periods : 2 ≤ T
+  pub most : T ≤ 4096
+  pub full : length r ≡ T * n
+
+module _ (k : ℕ) (small : k ≤ 80) (r : List Float) (sizes : All (Sized 40) r) (n T : ℕ) where
+  abbrev r' : List Float
+  r' = map (shift (pos k)) r
+
+  abbrev x : Matrix
+  x = at r n
+
+  abbrev y : Matrix
+  y = at (map (shift (pos k)) r) n
+
+  pub returns : Shape r n T → Returns k n T 982 1034 1114 (at r n) (at (map (shift (pos k)) r) n)
+  returns s = record {
+    assets = s .assets;
+    few = s .few;
+    periods = s .periods;
+    most = s .most;
+    entries = λ t i a b.
+        let in-r : t * n + i < length r = lt-of-lt-of-le (cell t T i n a b) (le-of-eq (sym (s .full))) in
+        sized-moved k 40 (lit≤ tt) (at r n t i) (at r' n t i) (all-at (Sized 40) r (t * n + i) sizes in-r) (at-copy (pos k) r n t i);
+  }
+
+  pub sample-moved : Shape r n T → (i j : ℕ) → i < n → j < n → Moved (k + k) 698 750 1192 (covariance T (at r n) i j) (covariance T (at (map (shift (pos k)) r) n) i j)
+  sample-moved s = covariance-moved (returns s) 918 (lit≤ tt) (omega arith) 762 (lit≤ tt) 698 (lit≤ tt) 1180 (lit≤ tt) (omega arith)
+
+  covariance-same : Shape r n T → allFinite n n (covariance T (at (map (shift (pos k)) r) n)) ≡ allFinite n n (covariance T (at r n))
+  covariance-same s = finite-same n n (covariance T (at (map (shift (pos k)) r) n)) (covariance T (at r n)) (λ i j a b. ap isFinite (sample-moved s i j a b .copy) ∙ isFinite-shift (pos (k + k)) (covariance T (at r n) i j))
+
+  -- for a slice of `needed` numbers
+  pub opening-chain : {P : Type 0} {cs cs' : List Check} (needed : ℕ) (slice slice' : List Float) → length slice' ≡ length slice
+      → (Shape r n T → ((ds : List Check) → first (opening r n T 0 [] ++ ds) ≡ first ds) → Chain P cs cs') → Chain P (opening r n T needed slice ++ cs) (opening (map (shift (pos k)) r) n T needed slice' ++ cs')
+  unfolding opening first
+  opening-chain needed slice slice' e then =
+      chain-test (eqb n 0) NoAssets refl (λ e₁.
+      chain-test (ltb maxSide n || ltb maxPeriods T) TooLarge refl (λ e₂.
+      chain-test (ltb T 2) (TooFewPeriods T) refl (λ e₃.
+      chain-test (not (eqb (length r) (T * n)) || ltb (length slice) needed) WrongLength (ap₂ (λ (u v : ℕ). not (eqb u (T * n)) || ltb v needed) (length-map r (shift (pos k))) e) (λ e₄.
+      let large = or-no (ltb maxSide n) (ltb maxPeriods T) e₂ in
+      let long = or-no (not (eqb (length r) (T * n))) (ltb (length slice) needed) e₄ in
+      let s : Shape r n T = record {
+        assets = not-zero n e₁;
+        few = le-trans (ltb-false maxSide n (large .0)) (lit≤ tt);
+        periods = ltb-false T 2 e₃;
+        most = le-trans (ltb-false maxPeriods T (large .1)) (lit≤ tt);
+        full = eqb-true (length r) (T * n) (not-no (eqb (length r) (T * n)) (long .0));
+      } in
+      chain-same (notFinite T n (at r n)) (entries-same k r T n) (λ e₅.
+      chain-must (allFinite n n (covariance T (at r n))) CovarianceNotFinite (covariance-same s) (λ e₆. then s (opens e₁ e₂ e₃ (s .full) e₅ e₆)))))))
+    where
+      -- it passes too where no slice is asked for
+      opens : eqb n 0 ≡ false → (ltb maxSide n || ltb maxPeriods T) ≡ false → ltb T 2 ≡ false → length r ≡ T * n → notFinite T n (at r n) ≡ passes → allFinite n n (covariance T (at r n)) ≡ true
+          → (ds : List Check) → first (opening r n T 0 [] ++ ds) ≡ first ds
+      opens e₁ e₂ e₃ e e₅ e₆ ds = rw (e₁, e₂, e₃, e, eq-eqb (T * n) (T * n) refl, e₅, e₆)
+
+      or-no : (a b : Bool) → (a || b) ≡ false → (a ≡ false) × (b ≡ false)
+      or-no true b h = absurd (subst lib.Dec.T h tt)
+      or-no false b h = (refl, h)
+
+      not-no : (a : Bool) → not a ≡ false → a ≡ true
+      not-no true h = refl
+      not-no false h = sym h
+
+      not-zero : (n : ℕ) → eqb n 0 ≡ false → 0 < n
+      not-zero zero h = absurd (subst lib.Dec.T h (lib.Dec.eqb-refl 0))
+      not-zero (suc n) h = omega arith

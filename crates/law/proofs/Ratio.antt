@@ -1,0 +1,529 @@
+-- The Bayes-Stein ratio N / D, with N the sum of p m / λ and D the sum of p p / λ over the columns of V, is NaN, infinite or at most 2 ^ 912: so scaled by a power of two that is small enough it is
+-- finite in both runs or in none. V's entries are at most 2 ^ 300 in size, what it is multiplied with at most 2, and the smallest value λ is above n 2 ^ -52 times the largest, Λ. Where D is
+-- finite and not zero, every λ is above 0, and at least 2 ^ -53 Λ. With P the largest p in size, N is at most 2 ^ 367 P / Λ; and D is at least P P / 16 Λ where that is a unit or more, and else 1 / 4 Λ
+-- at least, in units. Both bounds give the ratio's, and no lower bound on V or Λ is needed. Assumes nothing.
+use mathlib.Core.Path.{_≡_, refl, sym, ap, ap₂, _∙_, subst, subst₂}
+use mathlib.Core.Logic.{_⊎_, inl, inr}
+use Prim.Native.Nat.{ℕ, zero, suc, _+_, _-_, _*_, _/_, _^_, _≤_, _<_, zero-le}
+use native.Mathlib.Nat.{le-refl, le-trans, le-of-eq, le-of-lt, lt-of-lt-of-le, lt-of-le-of-lt, lt-irrefl, lt-suc-self, lt-trans, mul-le-mul, mul-le-mul-left, mul-le-mul-right, mul-pos, mul-assoc, mul-comm, mul-right-comm, mul-one, one-mul, zero-mul, le-of-mul-le-mul-right, zero-lt-suc, eq-zero-or-pos, not-suc-le-zero, le-div-iff-mul-le, div-mul-le-self, eq-or-lt-of-le, le-of-suc-le-suc, add-zero}
+use native.Mathlib.Omega.{arith}
+use mathlib.Core.Bool.{Bool, true, false, not, _&&_, _||_, cond}
+use lib.Dec.{T, ltb, eqb, eqb·suc-zero, lit≤, lit<}
+use lib.IntN.{ℤ, pos}
+use lib.Pow.{pow-add, pow-pos, pow-mono}
+use lib.Ieee.{Float, nan, inf, fin, binary64, fits, up, down, mul, div, unlike, lt, le, eq, size, below, level}
+use lib.Ieee.Digits.{size-lt, size-reaches}
+use lib.Ieee.Fits.{up-pos, down-pos, add-fits, mul-fits, div-fits}
+use lib.Ieee.Positive.{first-pos}
+use Rattle.leaves.proofs.Laws.{size-pos}
+use Rattle.leaves.proofs.Whole.{le-or-lt}
+use borrow.Author.Tests.{lt-ltb, le-ltb, ltb-true, ltb-false, eqb-true}
+use Rattle.leaves.specs.Numbers.{_⊕_, _⊗_, _⊘_, zero⁺, ε, count, isFinite, larger, smaller}
+use Rattle.leaves.specs.Loops.{loop, sumTo, minTo, maxTo}
+use Rattle.leaves.proofs.Rounding.{near, Held, Near, near-most, near-least, near-error, near-held, held-pow, held-small, held-times}
+use Rattle.leaves.proofs.Units.{U, U-pos, U-is, Top, pow-under-Top, Val, zero-mag, sign, mag, val-mag, val-finite, mag-val, mag-held, rounded, rounded-val, rounded-under, lt-val, eq-val}
+use Rattle.leaves.proofs.Arithmetic.{sumSign, total, total-le, add-finite, mul-finite, div-finite, add-rounded, mul-rounded, div-rounded}
+use Rattle.leaves.proofs.Range.{Range, range-fits, range-weaken, count-val}
+use Rattle.leaves.proofs.Operations.{Moved, still}
+use Rattle.leaves.proofs.Signs.{sign-mul, sign-div}
+use Rattle.leaves.proofs.Totals.{moved-sum}
+use Rattle.law.proofs.Sizes.{number, le-or}
+use Rattle.law.proofs.Weighted.{sum-fits, sum-least}
+
+-- ---- one operation's size
+module _ (x y : Float) (fx : T (fits binary64 x)) (fy : T (fits binary64 y)) where
+  pub product-is : T (isFinite (x ⊗ y)) → mag (x ⊗ y) ≡ near (mag x * mag y) U
+  product-is f =
+      let q = mul-finite x y f in
+      let e = mul-rounded x y (sign x) (sign y) (mag x) (mag y) (mag-val x fx (q .0)) (mag-val y fy (q .1)) in
+      let n = mag x * mag y in
+      let v = rounded-val (unlike (sign x) (sign y)) n U U-pos (rounded-under (unlike (sign x) (sign y)) n U U-pos (subst (λ (z : Float). T (isFinite z)) e f)) in
+      ap mag e ∙ val-mag (rounded (unlike (sign x) (sign y)) n U) (unlike (sign x) (sign y)) (near n U) v .1
+
+  product : T (isFinite (x ⊗ y)) → Near (mag (x ⊗ y)) (mag x * mag y) U
+  product f = subst (λ (g : ℕ). Near g (mag x * mag y) U) (sym (product-is f)) (near-error (mag x * mag y) U U-pos)
+
+  module _ (ny : T (isFinite y)) (p : 0 < mag y) where
+    pub quotient-is : T (isFinite (x ⊘ y)) → mag (x ⊘ y) ≡ near (mag x * U) (mag y)
+    quotient-is f =
+        let e = div-rounded x y (sign x) (sign y) (mag x) (mag y) (mag-val x fx (div-finite x y f)) (mag-val y fy ny) p in
+        let n = mag x * U in
+        let v = rounded-val (unlike (sign x) (sign y)) n (mag y) p (rounded-under (unlike (sign x) (sign y)) n (mag y) p (subst (λ (z : Float). T (isFinite z)) e f)) in
+        ap mag e ∙ val-mag (rounded (unlike (sign x) (sign y)) n (mag y)) (unlike (sign x) (sign y)) (near n (mag y)) v .1
+
+    quotient : T (isFinite (x ⊘ y)) → Near (mag (x ⊘ y)) (mag x * U) (mag y)
+    quotient f = subst (λ (g : ℕ). Near g (mag x * U) (mag y)) (sym (quotient-is f)) (near-error (mag x * U) (mag y) p)
+
+-- ---- a finite sum has finite terms
+pub sum-finite : (n : ℕ) (f : ℕ → Float) → T (isFinite (sumTo n f)) → (t : ℕ) → t < n → T (isFinite (f t))
+unfolding sumTo loop
+sum-finite zero f h t l = absurd (not-suc-le-zero l)
+sum-finite (suc n) f h t l =
+    let q = add-finite (sumTo n f) (f n) h in
+    elim (eq-or-lt-of-le (le-of-suc-le-suc l)) [ inl e ↦ subst (λ (i : ℕ). T (isFinite (f i))) (sym e) (q .1) | inr i ↦ sum-finite n f (q .0) t i ]
+
+-- at most 2 ^ h units each, and 32 of them
+pub sum-most : (n h : ℕ) (f : ℕ → Float) → n ≤ 32 → 5 + h ≤ 2097 → ((t : ℕ) → t < n → T (fits binary64 (f t)) × T (isFinite (f t)) × (mag (f t) ≤ 2 ^ h)) → mag (sumTo n f) ≤ 2 ^ (5 + h)
+sum-most n h f few o each = moved-sum 0 0 h n 5 few (lit≤ tt) (rw (add-zero (5 + h)) o) 0 f f (λ t l. let q = each t l in still 0 h (range-weaken (2 ^ 0) (2 ^ h) (le-refl 1) (q .2) (record { fit = q .0; finite = q .1; count = mag (f t); grain = sym (mul-one (mag (f t))); least = λ p. p; most = le-refl (mag (f t)) }))) .range .most
+
+-- zeros sum to zero, so a sum that is not zero has a term that is not
+sum-some : (n : ℕ) (f : ℕ → Float) → ((t : ℕ) → t < n → T (fits binary64 (f t))) → T (isFinite (sumTo n f)) → 0 < mag (sumTo n f) → (t : ℕ) × (t < n) × (0 < mag (f t))
+unfolding sumTo loop
+sum-some zero f h F p = absurd (lt-irrefl 0 (subst (λ (n : ℕ). 0 < n) (zero-mag false (pos 0)) p))
+sum-some (suc n) f h F p =
+    let q = add-finite (sumTo n f) (f n) F in
+    let rest : 0 < mag (sumTo n f) → (t : ℕ) × (t < suc n) × (0 < mag (f t)) = λ r. let w = sum-some n f (λ t l. h t (lt-trans l (lt-suc-self n))) (q .0) r in (w .0, lt-trans (w .1) (lt-suc-self n), w .2) in
+    elim (eq-zero-or-pos (mag (f n))) [
+      | inr r ↦ (n, lt-suc-self n, r)
+      | inl z ↦ elim (eq-zero-or-pos (mag (sumTo n f))) [ inr r ↦ rest r | inl y ↦ absurd (both (sumTo n f) (f n) (sum-fits n f) (h n (lt-suc-self n)) (q .0) (q .1) y z p) ]
+    ]
+  where
+    both : (x y : Float) → T (fits binary64 x) → T (fits binary64 y) → T (isFinite x) → T (isFinite y) → mag x ≡ 0 → mag y ≡ 0 → 0 < mag (x ⊕ y) → ⊥
+    both x y fx fy nx ny zx zy p =
+        let e = add-rounded x y (sign x) (sign y) 0 0 (subst (Val x (sign x)) zx (mag-val x fx nx)) (subst (Val y (sign y)) zy (mag-val y fy ny)) in
+        let n : total (sign x) 0 (sign y) 0 ≤ 0 = le-trans (total-le (sign x) (sign y) 0 0) (lit≤ tt) in
+        let m = near-most (total (sign x) 0 (sign y) 0) 1 0 (lit< tt) (held-small 0 (lit< tt)) (le-trans n (lit≤ tt)) in
+        let v = rounded-val (sumSign (sign x) 0 (sign y) 0) (total (sign x) 0 (sign y) 0) 1 (lit< tt) (lt-of-le-of-lt m (lt-of-le-of-lt zero-le (pow-under-Top 0 (lit≤ tt)))) in
+        lt-irrefl 0 (lt-of-lt-of-le p (le-trans (le-of-eq (ap mag e ∙ val-mag (rounded (sumSign (sign x) 0 (sign y) 0) (total (sign x) 0 (sign y) 0) 1) (sumSign (sign x) 0 (sign y) 0) (near (total (sign x) 0 (sign y) 0) 1) v .1)) m))
+
+-- ---- the order of values that are not NaN, by a number for each
+unfoldable key : Float → ℕ
+key nan = 0
+key (inf s) = cond s 0 (Top + Top)
+key (fin s m e) = cond s (Top - mag (fin s m e)) (Top + mag (fin s m e))
+
+ltb-same : (a b c d : ℕ) → (a < b → c < d) → (c < d → a < b) → ltb a b ≡ ltb c d
+ltb-same a b c d f g = go (ltb a b) refl
+  where
+    go : (x : Bool) → ltb a b ≡ x → x ≡ ltb c d
+    go true e = sym (lt-ltb c d (f (ltb-true a b e)))
+    go false e = sym (le-ltb c d (omega' (ltb-false a b e)))
+      where
+        omega' : b ≤ a → d ≤ c
+        omega' h = elim (le-or-lt d c) [ inl l ↦ l | inr l ↦ absurd (lt-irrefl a (lt-of-lt-of-le (g l) h)) ]
+
+module _ (x y : Float) (fx : T (fits binary64 x)) (fy : T (fits binary64 y)) where
+  lt-key : T (number x) → T (number y) → lt x y ≡ ltb (key x) (key y)
+  lt-key = go x y fx fy
+    where
+      size-of : (s : Bool) (m : ℕ) (e : ℤ) → T (fits binary64 (fin s m e)) → mag (fin s m e) < Top
+      size-of s m e t = mag-held (fin s m e) t (unfold isFinite in tt) .1
+
+      pair : (s t : Bool) (a b : ℕ) → a < Top → b < Top → below s a t b ≡ ltb (cond s (Top - a) (Top + a)) (cond t (Top - b) (Top + b))
+      pair false false a b l k = ltb-same a b (Top + a) (Top + b) (λ h. omega arith) (λ h. omega arith)
+      pair false true a b l k = sym (le-ltb (Top + a) (Top - b) (omega arith))
+      pair true false a b l k = ltb-same 0 (a + b) (Top - a) (Top + b) (λ h. omega arith) (λ h. omega arith)
+      pair true true a b l k = ltb-same b a (Top - a) (Top - b) (λ h. omega arith) (λ h. omega arith)
+
+      go : (x y : Float) → T (fits binary64 x) → T (fits binary64 y) → T (number x) → T (number y) → lt x y ≡ ltb (key x) (key y)
+      go nan y tx ty p q = absurd p
+      go (inf s) nan tx ty p q = absurd q
+      go (fin s m e) nan tx ty p q = absurd q
+      go (inf true) (inf true) tx ty p q = unfold lt key in sym (le-ltb 0 0 (lit≤ tt))
+      go (inf true) (inf false) tx ty p q = unfold lt key in sym (lt-ltb 0 (Top + Top) (let t = pow-under-Top 0 (lit≤ tt) in omega arith))
+      go (inf false) (inf true) tx ty p q = unfold lt key in sym (le-ltb (Top + Top) 0 zero-le)
+      go (inf false) (inf false) tx ty p q = unfold lt key in sym (le-ltb (Top + Top) (Top + Top) (le-refl (Top + Top)))
+      go (inf true) (fin t n d) tx ty p q = unfold lt key in sym (lt-ltb 0 (cond t (Top - mag (fin t n d)) (Top + mag (fin t n d))) (above t (mag (fin t n d)) (size-of t n d ty)))
+        where
+          above : (t : Bool) (b : ℕ) → b < Top → 0 < cond t (Top - b) (Top + b)
+          above true b l = omega arith
+          above false b l = omega arith
+      go (inf false) (fin t n d) tx ty p q = unfold lt key in sym (le-ltb (Top + Top) (cond t (Top - mag (fin t n d)) (Top + mag (fin t n d))) (under t (mag (fin t n d)) (size-of t n d ty)))
+        where
+          under : (t : Bool) (b : ℕ) → b < Top → cond t (Top - b) (Top + b) ≤ Top + Top
+          under true b l = omega arith
+          under false b l = omega arith
+      go (fin s m e) (inf true) tx ty p q = unfold lt key in sym (le-ltb (cond s (Top - mag (fin s m e)) (Top + mag (fin s m e))) 0 zero-le)
+      go (fin s m e) (inf false) tx ty p q = unfold lt key in sym (lt-ltb (cond s (Top - mag (fin s m e)) (Top + mag (fin s m e))) (Top + Top) (under s (mag (fin s m e)) (size-of s m e tx)))
+        where
+          under : (t : Bool) (b : ℕ) → b < Top → cond t (Top - b) (Top + b) < Top + Top
+          under true b l = omega arith
+          under false b l = omega arith
+      go (fin s m e) (fin t n d) tx ty p q =
+          lt-val (fin s m e) (fin t n d) s t (mag (fin s m e)) (mag (fin t n d)) (unfold sign in mag-val (fin s m e) tx (unfold isFinite in tt)) (unfold sign in mag-val (fin t n d) ty (unfold isFinite in tt))
+          ∙ pair s t (mag (fin s m e)) (mag (fin t n d)) (size-of s m e tx) (size-of t n d ty) ∙ unfold key in refl
+
+le-key : (x y : Float) → T (fits binary64 x) → T (fits binary64 y) → T (number x) → T (number y) → le x y ≡ false → key y < key x
+le-key x y fx fy p q h = ltb-true (key y) (key x) (sym (lt-key y x fy fx q p) ∙ le-or x y p q h)
+
+-- ---- the smallest and the largest
+module _ (f : ℕ → Float) (n : ℕ) (fit : (t : ℕ) → t < suc n → T (fits binary64 (f t))) (nums : (t : ℕ) → t < suc n → T (number (f t))) where
+  abbrev Fine : Float → Type 0
+  Fine x = T (fits binary64 x) × T (number x)
+
+  larger-key : (m x : Float) → Fine m → Fine x → Fine (larger m x) × (key m ≤ key (larger m x)) × (key x ≤ key (larger m x))
+  unfolding larger
+  larger-key m x a b = go (lt m x) (lt-key m x (a .0) (b .0) (a .1) (b .1))
+    where
+      go : (c : Bool) → c ≡ ltb (key m) (key x) → Fine (cond c x m) × (key m ≤ key (cond c x m)) × (key x ≤ key (cond c x m))
+      go true e = (b, le-of-lt (ltb-true (key m) (key x) (sym e)), le-refl (key x))
+      go false e = (a, le-refl (key m), ltb-false (key m) (key x) (sym e))
+
+  smaller-key : (m x : Float) → Fine m → Fine x → Fine (smaller m x) × (key (smaller m x) ≤ key m) × (key (smaller m x) ≤ key x)
+  unfolding smaller
+  smaller-key m x a b = go (lt x m) (lt-key x m (b .0) (a .0) (b .1) (a .1))
+    where
+      go : (c : Bool) → c ≡ ltb (key x) (key m) → Fine (cond c x m) × (key (cond c x m) ≤ key m) × (key (cond c x m) ≤ key x)
+      go true e = (b, le-of-lt (ltb-true (key x) (key m) (sym e)), le-refl (key x))
+      go false e = (a, le-refl (key m), ltb-false (key x) (key m) (sym e))
+
+  max-loop : (k : ℕ) → k ≤ suc n → Fine (loop k (λ k m. larger m (f k)) (f 0)) × ((t : ℕ) → t < k → key (f t) ≤ key (loop k (λ k m. larger m (f k)) (f 0)))
+  unfolding loop
+  max-loop zero h = ((fit 0 (zero-lt-suc n), nums 0 (zero-lt-suc n)), λ t l. absurd (not-suc-le-zero l))
+  max-loop (suc k) h =
+      let r = max-loop k (le-trans (le-of-lt (lt-suc-self k)) h) in
+      let q = larger-key (loop k (λ k m. larger m (f k)) (f 0)) (f k) (r .0) (fit k h, nums k h) in
+      (q .0, λ t l. elim (eq-or-lt-of-le (le-of-suc-le-suc l)) [ inl e ↦ le-trans (le-of-eq (ap (λ (i : ℕ). key (f i)) e)) (q .2) | inr i ↦ le-trans (r .1 t i) (q .1) ])
+
+  min-loop : (k : ℕ) → k ≤ suc n → Fine (loop k (λ k m. smaller m (f k)) (f 0)) × ((t : ℕ) → t < k → key (loop k (λ k m. smaller m (f k)) (f 0)) ≤ key (f t))
+  unfolding loop
+  min-loop zero h = ((fit 0 (zero-lt-suc n), nums 0 (zero-lt-suc n)), λ t l. absurd (not-suc-le-zero l))
+  min-loop (suc k) h =
+      let r = min-loop k (le-trans (le-of-lt (lt-suc-self k)) h) in
+      let q = smaller-key (loop k (λ k m. smaller m (f k)) (f 0)) (f k) (r .0) (fit k h, nums k h) in
+      (q .0, λ t l. elim (eq-or-lt-of-le (le-of-suc-le-suc l)) [ inl e ↦ le-trans (q .2) (le-of-eq (ap (λ (i : ℕ). key (f i)) (sym e))) | inr i ↦ le-trans (q .1) (r .1 t i) ])
+
+-- ---- values that pass the test of Bayes and Stein
+-- n 2 ^ -52
+tiny : (n : ℕ) → n ≤ 32 → Val (count n ⊗ ε) false (n * 2 ^ 1022)
+tiny n few =
+    let e : near (n * U * 2 ^ 1022) U ≡ n * 2 ^ 1022 = ap (λ (z : ℕ). near z U) (mul-right-comm n U (2 ^ 1022)) ∙ near-held (n * 2 ^ 1022) U U-pos (held-times n 1022 (lt-of-le-of-lt few (lit< tt))) in
+    let ε-val : Val ε false (2 ^ 1022) = unfold U in (refl, refl) in
+    let top : n * 2 ^ 1022 < Top = lt-of-le-of-lt (mul-le-mul-right (2 ^ 1022) few) (unfold Top in lit< tt) in
+    subst₂ (λ (z : Float) (a : ℕ). Val z false a) (sym (mul-rounded (count n) ε false false (n * U) (2 ^ 1022) (count-val n (le-trans few (lit≤ tt))) ε-val)) e
+    (rounded-val false (n * U * 2 ^ 1022) U U-pos (subst (λ (a : ℕ). a < Top) (sym e) top))
+
+pub record Positive (n : ℕ) (v : ℕ → Float) : Type 0 where
+  pub L : ℕ
+  pub some : 0 < L
+  pub finite : (e : ℕ) → e < n → T (isFinite (v e))
+  pub plus : (e : ℕ) → e < n → sign (v e) ≡ false
+  pub above : (e : ℕ) → e < n → 0 < mag (v e)
+  pub most : (e : ℕ) → e < n → mag (v e) ≤ L
+  pub least : (e : ℕ) → e < n → L ≤ 9007199254740992 * mag (v e)
+
+-- by the largest, Λ
+module _ (n : ℕ) (few : suc n ≤ 32) (v : ℕ → Float) (fit : (e : ℕ) → e < suc n → T (fits binary64 (v e))) (nums : (e : ℕ) → e < suc n → T (number (v e))) where
+  by-largest : (Λ : Float) → T (fits binary64 Λ) → T (number Λ) → ((e : ℕ) → e < suc n → key (v e) ≤ key Λ) → (m : Float) → T (fits binary64 m) → T (number m) → ((e : ℕ) → e < suc n → key m ≤ key (v e))
+      → le m (count (suc n) ⊗ ε ⊗ Λ) ≡ false → Positive (suc n) v
+  by-largest nan t p hi m tm pm lo h = absurd p
+  by-largest (inf s) t p hi m tm pm lo h = absurd (endless s hi lo h)
+    where
+      bar-is : (s : Bool) → count (suc n) ⊗ ε ⊗ inf s ≡ inf s
+      bar-is s = nonzero (count (suc n) ⊗ ε) (tiny (suc n) few)
+        where
+          nonzero : (c : Float) → Val c false (suc n * 2 ^ 1022) → c ⊗ inf s ≡ inf s
+          nonzero nan w = absurd w
+          nonzero (inf r) w = absurd w
+          nonzero (fin r zero e) w = absurd (lt-irrefl 0 (subst (λ (a : ℕ). 0 < a) (sym (val-mag (fin r zero e) false (suc n * 2 ^ 1022) w .1) ∙ zero-mag r e) (mul-pos (zero-lt-suc n) (pow-pos 1022))))
+          nonzero (fin r (suc k) e) w = unfold mul in rw (w .0, eqb·suc-zero k) (same s)
+            where
+              same : (s : Bool) → inf (unlike false s) ≡ inf s
+              same true = refl
+              same false = refl
+
+      endless : (s : Bool) → ((e : ℕ) → e < suc n → key (v e) ≤ key (inf s)) → ((e : ℕ) → e < suc n → key m ≤ key (v e)) → le m (count (suc n) ⊗ ε ⊗ inf s) ≡ false → ⊥
+      endless s hi lo h =
+          let k = le-key m (inf s) tm (unfold fits in tt) pm tt (ap (le m) (sym (bar-is s)) ∙ h) in
+          lt-irrefl (key m) (lt-of-le-of-lt (le-trans (lo 0 (zero-lt-suc n)) (hi 0 (zero-lt-suc n))) k)
+  by-largest (fin s c e) t p hi m tm pm lo h = signed s refl hi lo (le-key m bar tm (mul-fits binary64 (count (suc n) ⊗ ε) (fin s c e)) pm bar-number h)
+    where
+      Λ : Float
+      Λ = fin s c e
+
+      L : ℕ
+      L = mag (fin s c e)
+
+      bar : Float
+      bar = count (suc n) ⊗ ε ⊗ fin s c e
+
+      a : ℕ
+      a = suc n * 2 ^ 1022
+
+      a-most : suc n * 2 ^ 1022 ≤ U
+      a-most = le-trans (mul-le-mul-right (2 ^ 1022) few) (unfold U in lit≤ tt)
+
+      finite-Λ : T (isFinite (fin s c e))
+      finite-Λ = unfold isFinite in tt
+
+      B : ℕ
+      B = near (suc n * 2 ^ 1022 * mag (fin s c e)) U
+
+      B-most : near (suc n * 2 ^ 1022 * mag (fin s c e)) U ≤ mag (fin s c e)
+      B-most = near-most (suc n * 2 ^ 1022 * L) U L U-pos (mag-held Λ t finite-Λ .0) (le-trans (mul-le-mul-right L a-most) (le-of-eq (mul-comm U L)))
+
+      bar-val : Val (count (suc n) ⊗ ε ⊗ fin s c e) (unlike false s) (near (suc n * 2 ^ 1022 * mag (fin s c e)) U)
+      bar-val =
+          let w : Val Λ s L = unfold sign in mag-val Λ t finite-Λ in
+          subst (λ (z : Float). Val z (unlike false s) B) (sym (mul-rounded (count (suc n) ⊗ ε) Λ false s a L (tiny (suc n) few) w)) (rounded-val (unlike false s) (a * L) U U-pos (lt-of-le-of-lt B-most (mag-held Λ t finite-Λ .1)))
+
+      bar-number : T (number (count (suc n) ⊗ ε ⊗ fin s c e))
+      bar-number = go (count (suc n) ⊗ ε ⊗ fin s c e) (unlike false s) B bar-val
+        where
+          go : (x : Float) (r : Bool) (b : ℕ) → Val x r b → T (number x)
+          go nan r b w = absurd w
+          go (inf q) r b w = absurd w
+          go (fin q k d) r b w = tt
+
+      key-val : (x : Float) (r : Bool) (b : ℕ) → Val x r b → key x ≡ cond r (Top - b) (Top + b)
+      key-val nan r b w = absurd w
+      key-val (inf q) r b w = absurd w
+      key-val (fin q k d) r b w = unfold key in ap₂ (λ (q : Bool) (b : ℕ). cond q (Top - b) (Top + b)) (w .0) (val-mag (fin q k d) r b w .1)
+
+      signed : (r : Bool) → s ≡ r → ((i : ℕ) → i < suc n → key (v i) ≤ key (fin s c e)) → ((i : ℕ) → i < suc n → key m ≤ key (v i)) → key (count (suc n) ⊗ ε ⊗ fin s c e) < key m → Positive (suc n) v
+      signed true i hi lo h =
+          let k : key (fin s c e) ≡ Top - mag (fin s c e) = unfold key in ap (λ (b : Bool). cond b (Top - L) (Top + L)) i in
+          let k' : key (count (suc n) ⊗ ε ⊗ fin s c e) ≡ Top - B = key-val bar (unlike false s) B bar-val ∙ ap (λ (b : Bool). cond (unlike false b) (Top - B) (Top + B)) i in
+          absurd (lt-irrefl (key m) (lt-of-le-of-lt (le-trans (lo 0 (zero-lt-suc n)) (le-trans (hi 0 (zero-lt-suc n)) (le-trans (le-of-eq k) (le-trans (less Top B L B-most) (le-of-eq (sym k')))))) h))
+        where
+          less : (t b l : ℕ) → b ≤ l → t - l ≤ t - b
+          less t b l h = omega arith
+      signed false i hi lo h =
+          let k : key (fin s c e) ≡ Top + mag (fin s c e) = unfold key in ap (λ (b : Bool). cond b (Top - L) (Top + L)) i in
+          let k' : key (count (suc n) ⊗ ε ⊗ fin s c e) ≡ Top + B = key-val bar (unlike false s) B bar-val ∙ ap (λ (b : Bool). cond (unlike false b) (Top - B) (Top + B)) i in
+          let l = mag-held Λ t finite-Λ .1 in
+          let each : (j : ℕ) → j < suc n → T (isFinite (v j)) × (sign (v j) ≡ false) × (key (v j) ≡ Top + mag (v j)) = λ j q. between (v j) (fit j q) (nums j q) (lt-of-le-of-lt (over Top B) (lt-of-lt-of-le (lt-of-le-of-lt (le-of-eq (sym k')) h) (lo j q))) (lt-of-le-of-lt (le-trans (hi j q) (le-of-eq k)) (under Top L l)) in
+          let more : (j : ℕ) → j < suc n → B < mag (v j) = λ j q. inside Top B (mag (v j)) (lt-of-lt-of-le (lt-of-le-of-lt (le-of-eq (sym k')) h) (le-trans (lo j q) (le-of-eq (each j q .2)))) in
+          let most : (j : ℕ) → j < suc n → mag (v j) ≤ L = λ j q. within Top (mag (v j)) L (le-trans (le-of-eq (sym (each j q .2))) (le-trans (hi j q) (le-of-eq k))) in
+          record {
+            L = L;
+            some = lt-of-le-of-lt zero-le (lt-of-lt-of-le (more 0 (zero-lt-suc n)) (most 0 (zero-lt-suc n)));
+            finite = λ j q. each j q .0;
+            plus = λ j q. each j q .1;
+            above = λ j q. lt-of-le-of-lt zero-le (more j q);
+            most = most;
+            least = λ j q. enough L B (mag (v j)) (2 ^ 1022) U (suc n * 2 ^ 1022) U-wide (le-trans (le-of-eq (sym (one-mul (2 ^ 1022)))) (mul-le-mul-right (2 ^ 1022) (zero-lt-suc n))) (pow-pos 1022) (near-error (suc n * 2 ^ 1022 * L) U U-pos .halved) (more j q);
+          }
+        where
+          over : (t b : ℕ) → t ≤ t + b
+          over t b = omega arith
+
+          under : (t l : ℕ) → l < t → t + l < t + t
+          under t l h = omega arith
+
+          inside : (t b m : ℕ) → t + b < t + m → b < m
+          inside t b m h = omega arith
+
+          within : (t m l : ℕ) → t + m ≤ t + l → m ≤ l
+          within t m l h = omega arith
+
+          U-wide : U ≡ 4503599627370496 * 2 ^ 1022
+          U-wide = unfold U in refl
+
+          between : (x : Float) → T (fits binary64 x) → T (number x) → Top < key x → key x < Top + Top → T (isFinite x) × (sign x ≡ false) × (key x ≡ Top + mag x)
+          between nan t p a b = absurd p
+          between (inf true) t p a b = unfold key in absurd (not-suc-le-zero a)
+          between (inf false) t p a b = unfold key in absurd (lt-irrefl (Top + Top) b)
+          between (fin true k d) t p a b = unfold key in absurd (lt-irrefl Top (lt-of-lt-of-le a (less Top (mag (fin true k d)))))
+            where
+              less : (t m : ℕ) → t - m ≤ t
+              less t m = omega arith
+          between (fin false k d) t p a b = unfold key isFinite sign in (tt, refl, refl)
+
+          enough : (L B M z u a : ℕ) → u ≡ 4503599627370496 * z → z ≤ a → 0 < z → 2 * (a * L) ≤ 4 * (B * u) + u → B < M → L ≤ 9007199254740992 * M
+          enough L B M z u a i l p h q =
+              let f : z * L ≤ a * L = mul-le-mul-right L l in
+              let c : 2 * L * z ≤ (4 * B + 1) * 4503599627370496 * z = subst (λ (u : ℕ). 2 * (a * L) ≤ 4 * (B * u) + u → 2 * L * z ≤ (4 * B + 1) * 4503599627370496 * z) (sym i) (λ h. omega arith) h in
+              let d : 2 * L ≤ (4 * B + 1) * 4503599627370496 = le-of-mul-le-mul-right {k = z} c p in
+              omega arith
+
+pub positive : (n : ℕ) → suc n ≤ 32 → (v : ℕ → Float) → ((e : ℕ) → e < suc n → T (fits binary64 (v e))) → ((e : ℕ) → e < suc n → T (number (v e))) → le (minTo (suc n) v) (count (suc n) ⊗ ε ⊗ maxTo (suc n) v) ≡ false → Positive (suc n) v
+unfolding minTo maxTo
+positive n few v fit nums h =
+    let M = max-loop v n fit nums (suc n) (le-refl (suc n)) in
+    let m = min-loop v n fit nums (suc n) (le-refl (suc n)) in
+    by-largest n few v fit nums (loop (suc n) (λ k m. larger m (v k)) (v 0)) (M .0 .0) (M .0 .1) (M .1) (loop (suc n) (λ k m. smaller m (v k)) (v 0)) (m .0 .0) (m .0 .1) (m .1) h
+
+-- ---- the largest of numbers
+largest-of : (n : ℕ) (a : ℕ → ℕ) → (e : ℕ) × (e < suc n) × ((i : ℕ) → i < suc n → a i ≤ a e)
+largest-of zero a = (0, zero-lt-suc 0, λ i l. le-of-eq (ap a (zero-only i l)))
+  where
+    zero-only : (i : ℕ) → i < 1 → i ≡ 0
+    zero-only i l = omega arith
+largest-of (suc n) a =
+    let r = largest-of n a in
+    elim (le-or-lt (a (suc n)) (a (r .0))) [
+      | inl h ↦ (r .0, lt-trans (r .1) (lt-suc-self (suc n)), λ i l. elim (eq-or-lt-of-le (le-of-suc-le-suc l)) [ inl e ↦ le-trans (le-of-eq (ap a e)) h | inr k ↦ r .2 i k ])
+      | inr h ↦ (suc n, lt-suc-self (suc n), λ i l. elim (eq-or-lt-of-le (le-of-suc-le-suc l)) [ inl e ↦ le-of-eq (ap a e) | inr k ↦ le-trans (r .2 i k) (le-of-lt h) ])
+    ]
+
+-- ---- the ratio
+module _ (n : ℕ) (few : suc n ≤ 32) (v : ℕ → Float) (vf : (e : ℕ) → e < suc n → T (fits binary64 (v e))) (test : le (minTo (suc n) v) (count (suc n) ⊗ ε ⊗ maxTo (suc n) v) ≡ false)
+    (p m : ℕ → Float) (pf : (e : ℕ) → e < suc n → T (fits binary64 (p e))) (mf : (e : ℕ) → e < suc n → T (fits binary64 (m e))) (small : (e : ℕ) → e < suc n → T (isFinite (m e)) → mag (m e) ≤ 2 ^ 1380) where
+  abbrev N : Float
+  N = sumTo (suc n) (λ e. p e ⊗ m e ⊘ v e)
+
+  abbrev D : Float
+  D = sumTo (suc n) (λ e. p e ⊗ p e ⊘ v e)
+
+  over-number : (x y : Float) → T (isFinite (x ⊘ y)) → T (number y)
+  over-number x nan f = absurd (by-nan x f)
+    where
+      by-nan : (x : Float) → T (isFinite (x ⊘ nan)) → ⊥
+      by-nan nan f = unfold div isFinite in f
+      by-nan (inf s) f = unfold div isFinite in f
+      by-nan (fin s k e) f = unfold div isFinite in f
+  over-number x (inf t) f = tt
+  over-number x (fin t k e) f = tt
+
+  module _ (FN : T (isFinite N)) (FD : T (isFinite D)) (PD : 0 < mag D) where
+    term : (e : ℕ) → e < suc n → T (isFinite (p e ⊗ p e ⊘ v e))
+    term = sum-finite (suc n) (λ e. p e ⊗ p e ⊘ v e) FD
+
+    values : Positive (suc n) v
+    values = positive n few v vf (λ e l. over-number (p e ⊗ p e) (v e) (term e l)) test
+
+    -- each square is at most 4 D Λ
+    square : (e : ℕ) → e < suc n → mag (p e ⊗ p e) * U ≤ 4 * (mag D * values .L)
+    square e l =
+        let q = quotient (p e ⊗ p e) (v e) (mul-fits binary64 (p e) (p e)) (vf e l) (values .finite e l) (values .above e l) (term e l) .halved in
+        let d : mag (p e ⊗ p e ⊘ v e) ≤ mag D = sum-least (suc n) (λ e. p e ⊗ p e ⊘ v e) (λ e l. (div-fits binary64 (p e ⊗ p e) (v e), sign-div (p e ⊗ p e) (v e) (sign-mul (p e) (p e) refl ∙ sym (values .plus e l)))) FD e l in
+        go (mag (p e ⊗ p e)) U (mag (p e ⊗ p e ⊘ v e)) (mag (v e)) (mag D) (values .L) q d (values .most e l) PD
+      where
+        go : (a u d w D L : ℕ) → 2 * (a * u) ≤ 4 * (d * w) + w → d ≤ D → w ≤ L → 0 < D → a * u ≤ 4 * (D * L)
+        go a u d w D L q dD wL pD =
+            let f : d * w ≤ D * L = mul-le-mul dD wL in
+            let g : 1 * L ≤ D * L = mul-le-mul-right L pD in
+            omega arith
+
+    -- a square that is not zero
+    unit : U ≤ 4 * (mag D * values .L)
+    unit =
+        let w = sum-some (suc n) (λ e. p e ⊗ p e ⊘ v e) (λ e l. div-fits binary64 (p e ⊗ p e) (v e)) FD PD in
+        let e = w .0 in
+        let q = quotient (p e ⊗ p e) (v e) (mul-fits binary64 (p e) (p e)) (vf e (w .1)) (values .finite e (w .1)) (values .above e (w .1)) (term e (w .1)) .doubled in
+        le-trans (le-trans (le-of-eq (sym (one-mul U))) (mul-le-mul-right U (above (mag (p e ⊗ p e)) U (mag (p e ⊗ p e ⊘ v e)) (mag (v e)) q (w .2) (values .above e (w .1))))) (square e (w .1))
+      where
+        above : (a u d w : ℕ) → d * w ≤ 2 * (a * u) → 0 < d → 0 < w → 1 ≤ a
+        above zero u d w q pd pw = absurd (let f = mul-pos pd pw in omega arith)
+        above (suc a) u d w q pd pw = omega arith
+
+    P : (e : ℕ) × (e < suc n) × ((i : ℕ) → i < suc n → mag (p i) ≤ mag (p e))
+    P = largest-of n (λ e. mag (p e))
+
+    abbrev Pm : ℕ
+    Pm = mag (p (P .0))
+
+    squared : Pm * Pm ≤ 16 * (mag D * values .L)
+    squared =
+        let e = P .0 in
+        let q = product (p e) (p e) (pf e (P .1)) (pf e (P .1)) (div-finite (p e ⊗ p e) (v e) (term e (P .1))) .halved in
+        go (Pm * Pm) (mag (p e ⊗ p e)) U (mag D * values .L) q (square e (P .1)) unit
+      where
+        go : (s a u X : ℕ) → 2 * s ≤ 4 * (a * u) + u → a * u ≤ 4 * X → u ≤ 4 * X → s ≤ 16 * X
+        go s a u X q h k = omega arith
+
+    -- each term of N is at most 2 ^ 1435 P / Λ
+    term-most : (e : ℕ) → e < suc n → mag (p e ⊗ m e ⊘ v e) * values .L ≤ 2 ^ 1435 * Pm
+    term-most e l =
+        let F = sum-finite (suc n) (λ e. p e ⊗ m e ⊘ v e) FN e l in
+        let G = div-finite (p e ⊗ m e) (v e) F in
+        let q = quotient (p e ⊗ m e) (v e) (mul-fits binary64 (p e) (m e)) (vf e l) (values .finite e l) (values .above e l) F .doubled in
+        let r = product (p e) (m e) (pf e l) (mf e l) G .doubled in
+        le-trans (go (mag (p e ⊗ m e ⊘ v e)) (mag (v e)) (mag (p e ⊗ m e)) U (mag (p e)) (mag (m e)) Pm (2 ^ 1380) (values .L) q r (P .2 e l) (small e l (mul-finite (p e) (m e) G .1)) (values .least e l)) (le-of-eq powers)
+      where
+        go : (t w a u p m P M L : ℕ) → t * w ≤ 2 * (a * u) → a * u ≤ 2 * (p * m) → p ≤ P → m ≤ M → L ≤ 9007199254740992 * w → t * L ≤ 36028797018963968 * (P * M)
+        go t w a u p m P M L q r pP mM lw =
+            let f : p * m ≤ P * M = mul-le-mul pP mM in
+            let g : t * L ≤ t * (9007199254740992 * w) = mul-le-mul-left t lw in
+            omega arith
+
+        powers : 36028797018963968 * (Pm * 2 ^ 1380) ≡ 2 ^ 1435 * Pm
+        powers = ap (λ (z : ℕ). 36028797018963968 * z) (mul-comm Pm (2 ^ 1380)) ∙ sym (mul-assoc 36028797018963968 (2 ^ 1380) Pm) ∙ ap (λ (z : ℕ). z * Pm) refl
+
+    N-most : mag N * values .L ≤ 2 ^ 1441 * Pm
+    N-most =
+        let L = values .L in
+        let X = 2 ^ 1435 * Pm in
+        let Q = X / L in
+        let t-most : (e : ℕ) → e < suc n → mag (p e ⊗ m e ⊘ v e) ≤ Q = λ e l. le-div-iff-mul-le (values .some) .1 (term-most e l) in
+        let most : mag N ≤ 64 * Q = elim (eq-zero-or-pos Q) [
+          | inl z ↦ elim (eq-zero-or-pos (mag N)) [
+            | inl y ↦ le-trans (le-of-eq y) zero-le
+            | inr k ↦ (let w = sum-some (suc n) (λ e. p e ⊗ m e ⊘ v e) (λ e l. div-fits binary64 (p e ⊗ m e) (v e)) FN k in absurd (lt-irrefl 0 (lt-of-lt-of-le (w .2) (le-trans (t-most (w .0) (w .1)) (le-of-eq z)))))
+          ]
+          | inr q ↦ by-size Q q (size Q) refl (λ e l. (div-fits binary64 (p e ⊗ m e) (v e), sum-finite (suc n) (λ e. p e ⊗ m e ⊘ v e) FN e l, le-of-lt (lt-of-le-of-lt (t-most e l) (size-lt Q))))
+        ] in
+        le-trans (mul-le-mul-right L most) (le-trans (le-of-eq (mul-assoc 64 Q L)) (le-trans (mul-le-mul-left 64 (div-mul-le-self X L)) (le-of-eq (sym (mul-assoc 64 (2 ^ 1435) Pm)))))
+      where
+        by-size : (Q : ℕ) → 0 < Q → (h : ℕ) → size Q ≡ h → ((e : ℕ) → e < suc n → T (fits binary64 (p e ⊗ m e ⊘ v e)) × T (isFinite (p e ⊗ m e ⊘ v e)) × (mag (p e ⊗ m e ⊘ v e) ≤ 2 ^ size Q)) → mag N ≤ 64 * Q
+        by-size Q q h i each = elim (le-or-lt (5 + size Q) 2097) [
+          | inl l ↦ le-trans (sum-most (suc n) (size Q) (λ e. p e ⊗ m e ⊘ v e) few l each) (le-trans (le-of-eq (halves (size Q) some)) (mul-le-mul-left 64 reach))
+          | inr l ↦ le-trans (le-of-lt (mag-held N (sum-fits (suc n) (λ e. p e ⊗ m e ⊘ v e)) FN .1)) (le-trans top (mul-le-mul-left 64 (le-trans (pow-mono {i = 2092} {j = size Q - 1} (omega arith)) reach)))
+        ]
+          where
+            some : 0 < size Q
+            some = go Q q
+              where
+                go : (Q : ℕ) → 0 < Q → 0 < size Q
+                go zero q = absurd (lt-irrefl 0 q)
+                go (suc k) q = size-pos k
+
+            reach : 2 ^ (size Q - 1) ≤ Q
+            reach = size-reaches Q (size Q - 1) (let k = some in omega arith)
+
+            halves : (h : ℕ) → 0 < h → 2 ^ (5 + h) ≡ 64 * 2 ^ (h - 1)
+            halves h p = ap (λ (i : ℕ). 2 ^ i) (omega arith) ∙ pow-add 2 6 (h - 1)
+
+            top : Top ≤ 64 * 2 ^ 2092
+            top = unfold Top in lit≤ tt
+
+    pub ratio-finite-most : T (isFinite (N ⊘ D)) → mag (N ⊘ D) ≤ 2 ^ 1983
+    ratio-finite-most F =
+        let L = values .L in
+        let X = mag D * L in
+        let R = mag (N ⊘ D) in
+        let q = quotient N D (sum-fits (suc n) (λ e. p e ⊗ m e ⊘ v e)) (sum-fits (suc n) (λ e. p e ⊗ p e ⊘ v e)) FD PD F .doubled in
+        let a : R * X ≤ 2 ^ 1442 * (Pm * U) = le-trans (joined R (mag D) L (mag N) U q) (le-trans (mul-le-mul-left 2 (mul-le-mul-right U N-most)) (le-of-eq (regroup (2 ^ 1441) Pm U))) in
+        let b : Pm * U ≤ 2 ^ 541 * X = elim (le-or-lt Pm (2 ^ 537)) [
+          | inl l ↦ le-trans (mul-le-mul l unit) (le-trans (le-of-eq (along (2 ^ 537) 4 X)) (mul-le-mul-right X small₁))
+          | inr l ↦ le-trans (le-of-eq (ap (λ (u : ℕ). Pm * u) U-square ∙ sym (mul-assoc Pm (2 ^ 537) (2 ^ 537)))) (le-trans (mul-le-mul-right (2 ^ 537) (le-trans (mul-le-mul-left Pm (le-of-lt l)) squared)) (le-of-eq (mul-right-comm 16 X (2 ^ 537))))
+        ] in
+        le-of-mul-le-mul-right {k = X} (le-trans a (le-trans (mul-le-mul-left (2 ^ 1442) b) (le-of-eq (sym (mul-assoc (2 ^ 1442) (2 ^ 541) X))))) (mul-pos PD (values .some))
+      where
+        joined : (R D L N u : ℕ) → R * D ≤ 2 * (N * u) → R * (D * L) ≤ 2 * (N * L * u)
+        joined R D L N u q = let f = mul-le-mul-right L q in omega arith
+
+        regroup : (c P u : ℕ) → 2 * (c * P * u) ≡ 2 * c * (P * u)
+        regroup c P u = omega arith
+
+        along : (a b X : ℕ) → a * (b * X) ≡ a * b * X
+        along a b X = sym (mul-assoc a b X)
+
+        small₁ : 2 ^ 537 * 4 ≤ 2 ^ 541
+        small₁ = lit≤ tt
+
+        U-square : U ≡ 2 ^ 537 * 2 ^ 537
+        U-square = unfold U in refl
+
+  -- the ratio is not finite, or at most 2 ^ 909
+  pub ratio-most : T (isFinite (N ⊘ D)) → mag (N ⊘ D) ≤ 2 ^ 1983
+  ratio-most F = go D refl (div-finite N D F) F
+    where
+      go : (d : Float) → D ≡ d → T (isFinite N) → T (isFinite (N ⊘ D)) → mag (N ⊘ D) ≤ 2 ^ 1983
+      go nan e f g = absurd (by-nan N (subst (λ (z : Float). T (isFinite (N ⊘ z))) e g))
+        where
+          by-nan : (x : Float) → T (isFinite (x ⊘ nan)) → ⊥
+          by-nan nan f = unfold div isFinite in f
+          by-nan (inf s) f = unfold div isFinite in f
+          by-nan (fin s k e) f = unfold div isFinite in f
+      go (inf s) e f g = le-trans (le-of-eq (ap (λ (z : Float). mag (N ⊘ z)) e ∙ by-inf N f)) zero-le
+        where
+          by-inf : (x : Float) → T (isFinite x) → mag (x ⊘ inf s) ≡ 0
+          by-inf nan f = unfold isFinite in absurd f
+          by-inf (inf r) f = unfold isFinite in absurd f
+          by-inf (fin r k d) f = unfold div in zero-mag (unlike r s) (pos 0)
+      go (fin s zero d) e f g = absurd (by-zero N (subst (λ (z : Float). T (isFinite (N ⊘ z))) e g))
+        where
+          by-zero : (x : Float) → T (isFinite (x ⊘ fin s zero d)) → ⊥
+          by-zero nan f = unfold div isFinite in f
+          by-zero (inf r) f = unfold div isFinite in f
+          by-zero (fin r zero i) f = unfold div isFinite in f
+          by-zero (fin r (suc k) i) f = unfold div isFinite in rw (eqb·suc-zero k) at f
+      go (fin s (suc k) d) e f g =
+          let FD : T (isFinite D) = subst (λ (z : Float). T (isFinite z)) (sym e) (unfold isFinite in tt) in
+          let w = mag-val D (sum-fits (suc n) (λ e. p e ⊗ p e ⊘ v e)) FD in
+          ratio-finite-most f FD (subst (λ (z : Float). 0 < mag z) (sym e) (above k s d (subst (λ (z : Float). Val z (sign z) (mag z)) e w))) g
+        where
+          above : (k : ℕ) (s : Bool) (d : ℤ) → Val (fin s (suc k) d) (sign (fin s (suc k) d)) (mag (fin s (suc k) d)) → 0 < mag (fin s (suc k) d)
+          above k s d w = first-pos (mag (fin s (suc k) d)) (down d) (subst (λ (n : ℕ). 0 < n) (w .1) (mul-pos (mul-pos (zero-lt-suc k) (up-pos d)) U-pos))

@@ -1,0 +1,105 @@
+-- An estimate b shrunk and regularized, and its copy b', each entry 2 ^ k times as large. A granted intensity or regularization is 0 or not so small that a product leaves the range in which
+-- it is exact. An intensity that is not a number makes every entry NaN, in both runs. Assumes nothing.
+use mathlib.Core.Path.{_≡_, refl, sym, ap, ap₂, _∙_}
+use Prim.Native.Nat.{ℕ, _+_, _-_, _*_, _^_, _≤_, _<_}
+use native.Mathlib.Nat.{le-trans, zero-add, add-zero}
+use native.Mathlib.Omega.{arith}
+use mathlib.Core.Bool.{Bool, true, false, not, cond, _&&_, _||_}
+use lib.Dec.{eqb, lit≤}
+use lib.IntN.{pos}
+use lib.Ieee.{Float, nan, fits, add, mul, lt, le}
+use Rattle.leaves.specs.Numbers.{_⊕_, _⊖_, _⊗_, zero⁺, one, isFinite}
+use Rattle.leaves.specs.Shift.{shift}
+use Rattle.leaves.proofs.Shift.{isFinite-shift, lt-shift, le-shift, shift-zero⁺}
+use Rattle.leaves.proofs.Units.{U, mag}
+use Rattle.leaves.proofs.Range.{Range, sized, range-sized, count-pos}
+use Rattle.leaves.proofs.Operations.{Moved, still, moved-weaken, moved-zero, moved-add, moved-sub, moved-mul, moved-mul-normal, moved-over}
+use Rattle.matrix.specs.Matrix.{Matrix, identity, trace}
+use Rattle.estimators.specs.LedoitWolf.{averageVariance, constantCorrelation}
+use Rattle.estimators.specs.Adjusted.{pull, mixed, shrunk, regularized, isAdjusted}
+use Rattle.estimators.specs.Refusals.{Check, when}
+use Rattle.estimators.specs.Order.{badRegularization}
+use Rattle.estimators.specs.declared.Target.{Target}
+use Rattle.estimators.specs.declared.Target.the-variants.{ConstantVariance, ConstantCorrelation}
+use Rattle.estimators.specs.declared.Regularization.{Regularization}
+use Rattle.estimators.specs.declared.Regularization.the-variants.{Unregularized, Ridge}
+use Rattle.estimators.specs.declared.Field.the-variants.{RegularizationField}
+use Rattle.estimators.specs.declared.Refusal.the-variants.{BadSetting}
+use Rattle.law.proofs.Sample.{count-moved}
+use Rattle.law.proofs.Matrices.{trace-moved}
+
+-- ---- 0 and 1
+pub one-moved : Moved 0 1022 1074 1074 one one
+unfolding sized fits isFinite mag U
+one-moved = still 1074 1074 (range-sized 1022 1074 one tt)
+
+identity-moved : (i j : ℕ) → Moved 0 1022 1074 1074 (identity i j) (identity i j)
+identity-moved i j = go (eqb i j)
+  where
+    go : (b : Bool) → Moved 0 1022 1074 1074 (cond b one zero⁺) (cond b one zero⁺)
+    go true = one-moved
+    go false = moved-zero 0 1022 1074 1074
+
+-- an intensity: 0, or from 2 ^ -40 to 1
+abbrev pub Intensity : Float → Type 0
+Intensity δ = Range 982 (2 ^ 1034) (2 ^ 1074) δ
+
+-- ---- an estimate of any kind; after shrinking; after regularizing
+abbrev pub Estimated : ℕ → Float → Float → Type 0
+Estimated k x x' = Moved k 154 154 1522 x x'
+
+abbrev pub Shrunken : ℕ → Float → Float → Type 0
+Shrunken k x x' = Moved k 5 5 1645 x x'
+
+abbrev pub Adjusted : ℕ → Float → Float → Type 0
+Adjusted k x x' = Moved k 5 5 1646 x x'
+
+module _ (k : ℕ) (small : k ≤ 160) (δ : Float) (d : Intensity δ) (n : ℕ) (b b' : Matrix) (i j : ℕ) where
+  -- with (1 - δ) b
+  mixed-moved : {g l h g' l' h' : ℕ} (F : Target) → Moved k g l h (pull F δ n b i j) (pull F δ n b' i j) → Moved k g' l' h' (b i j) (b' i j) → 5 ≤ g → 5 ≤ l → h ≤ 1644 → 97 ≤ g' → 97 ≤ l' → h' ≤ 1643
+      → Shrunken k (mixed F δ n b i j) (mixed F δ n b' i j)
+  unfolding mixed
+  mixed-moved {h' = h'} F p u gp lp hp gu lu hu =
+      let rest : Moved 0 982 982 1075 (one ⊖ δ) (one ⊖ δ) = moved-sub (moved-weaken 982 1034 1074 (lit≤ tt) (lit≤ tt) (lit≤ tt) one-moved) (still 1034 1074 d) (lit≤ tt) in
+      let q = rw (zero-add k) at (moved-mul rest (moved-weaken 97 97 1643 gu lu hu u) 5 5 1644 (lit≤ tt) (lit≤ tt) (lit≤ tt) (omega arith)) in
+      moved-add (moved-weaken 5 5 1644 gp lp hp p) q (omega arith)
+
+  pub correlation-mixed : Moved k 194 246 1644 (constantCorrelation n b i j) (constantCorrelation n b' i j) → Estimated k (b i j) (b' i j) → Shrunken k (mixed ConstantCorrelation δ n b i j) (mixed ConstantCorrelation δ n b' i j)
+  unfolding pull
+  correlation-mixed t u = mixed-moved ConstantCorrelation (rw (zero-add k) at (moved-mul-normal (still 1034 1074 d) t 154 1644 (lit≤ tt) (lit≤ tt) (omega arith))) u (lit≤ tt) (lit≤ tt) (lit≤ tt) (lit≤ tt) (lit≤ tt) (lit≤ tt)
+
+  pub variance-mixed : 0 < n → n ≤ 32 → ((i j : ℕ) → i < n → j < n → Estimated k (b i j) (b' i j)) → i < n → j < n → Shrunken k (mixed ConstantVariance δ n b i j) (mixed ConstantVariance δ n b' i j)
+  unfolding pull averageVariance
+  variance-mixed assets few each a c =
+      let m = moved-over (trace-moved n b b' few (omega arith) (λ i l. each i i l l)) (count-moved 5 n (lit≤ tt) few) (count-pos n assets (le-trans few (lit≤ tt))) 97 1527 (lit≤ tt) (lit≤ tt) (omega arith) in
+      let p = rw (zero-add k) at (moved-mul-normal (still 1034 1074 d) m 57 1527 (lit≤ tt) (lit≤ tt) (omega arith)) in
+      mixed-moved ConstantVariance (rw (add-zero k) at (moved-mul p (identity-moved i j) 5 109 1527 (lit≤ tt) (lit≤ tt) (lit≤ tt) (omega arith))) (each i j a c) (lit≤ tt) (lit≤ tt) (lit≤ tt) (lit≤ tt) (lit≤ tt) (lit≤ tt)
+
+pub nan-mixed : (F : Target) (n : ℕ) (b : Matrix) (i j : ℕ) → mixed F nan n b i j ≡ nan
+unfolding mixed pull add mul
+nan-mixed ConstantVariance n b i j = refl
+nan-mixed ConstantCorrelation n b i j = refl
+
+-- ---- what is asked of a regularization H and its copy
+pub record Regularized (k : ℕ) (H H' : Regularization) : Type 0 where
+  pub bad : badRegularization H' ≡ badRegularization H
+  pub adjusts : (δ : Float) → isAdjusted δ H' ≡ isAdjusted δ H
+  pub entries : (a a' : Matrix) (i j : ℕ) → Shrunken k (a i j) (a' i j) → Adjusted k (regularized H a i j) (regularized H' a' i j)
+  pub nans : (a : Matrix) (i j : ℕ) → a i j ≡ nan → (regularized H a i j ≡ nan) × (regularized H' a i j ≡ nan)
+
+pub unregularized : (k : ℕ) → Regularized k Unregularized Unregularized
+unfolding badRegularization isAdjusted regularized
+unregularized k = record { bad = refl; adjusts = λ δ. refl; entries = λ a a' i j u. moved-weaken 5 5 1646 (lit≤ tt) (lit≤ tt) (lit≤ tt) u; nans = λ a i j e. (e, e) }
+
+pub ridge : (k : ℕ) → k ≤ 160 → (ε ε' : Float) → Moved k 942 994 1154 ε ε' → Regularized k (Ridge ε) (Ridge ε')
+unfolding badRegularization isAdjusted regularized add
+ridge k small ε ε' e =
+    let s = pos k in
+    record {
+      bad = ap₂ (λ (u v : Bool). when (not (u && v)) (BadSetting RegularizationField)) (ap isFinite (e .copy) ∙ isFinite-shift s ε) (ap₂ le (sym (shift-zero⁺ s)) (e .copy) ∙ le-shift s zero⁺ ε);
+      adjusts = λ δ. ap (λ (u : Bool). lt zero⁺ δ || u) (ap₂ lt (sym (shift-zero⁺ s)) (e .copy) ∙ lt-shift s zero⁺ ε);
+      entries = λ a a' i j u.
+          let p = rw (add-zero k) at (moved-mul e (identity-moved i j) 5 5 1645 (lit≤ tt) (lit≤ tt) (lit≤ tt) (omega arith)) in
+          moved-add u p (omega arith);
+      nans = λ a i j n. (ap (λ (z : Float). z ⊕ ε ⊗ identity i j) n, ap (λ (z : Float). z ⊕ ε' ⊗ identity i j) n);
+    }

@@ -1,0 +1,187 @@
+-- The weighted mean and covariance. The weights are the same in both runs; over the power of two of a column's largest the returns are too, so the weighted mean of a column is one number, scaled back
+-- by 2 ^ e and by 2 ^ (e + k). Everything is in a range in which nothing rounds differently, and the weighted covariance's products with it. Assumes nothing.
+use mathlib.Core.Path.{_≡_, refl, sym, ap, ap₂, _∙_, subst, subst₂}
+use mathlib.Core.Logic.{_⊎_, inl, inr}
+use Prim.Native.Nat.{ℕ, zero, suc, _+_, _-_, _*_, _^_, _≤_, _<_, zero-le}
+use native.Mathlib.Nat.{le-refl, le-trans, le-of-eq, le-of-lt, lt-of-lt-of-le, lt-suc-self, lt-trans, zero-add, add-zero, mul-one}
+use native.Mathlib.Omega.{arith}
+use mathlib.Core.Bool.{Bool, true, false, not, _&&_, _||_}
+use mathlib.Core.List.{List, [], _∷_, _++_, map}
+use lib.Dec.{T, eqb, lit≤, lit<}
+use lib.IntN.{ℤ, pos, negℤ}
+use lib.ListN.{length, take}
+use lib.Pow.{pow-add, pow-mono}
+use lib.Ieee.{Float, nan, binary64, fits, le}
+use lib.Ieee.Fits.{add-fits, and-l, and-r}
+use borrow.Author.Tests.{ne-eqb}
+use Rattle.leaves.specs.Numbers.{_⊕_, _⊖_, _⊗_, _⊘_, zero⁺, count, isFinite}
+use Rattle.leaves.specs.Loops.{loop, sumTo, tab, fill, nth}
+use Rattle.leaves.specs.Root.{sqrt}
+use Rattle.leaves.specs.Scaling.{binaryExponent, pow2Scaled}
+use Rattle.leaves.specs.Shift.{shift}
+use Rattle.leaves.specs.Exp.{exp}
+use Rattle.leaves.proofs.Loops.{sum-ext}
+use Rattle.leaves.proofs.Whole.{over, under}
+use Rattle.leaves.proofs.Rounding.{near, near-least}
+use Rattle.leaves.proofs.Units.{Val, sign, mag, val-mag, mag-val, mag-held, rounded-val, rounded-under}
+use Rattle.leaves.proofs.Arithmetic.{add-rounded, add-finite}
+use Rattle.leaves.proofs.Range.{Range, range-value}
+use Rattle.leaves.proofs.Operations.{Moved, still, moved-weaken, moved-sub, moved-mul, moved-over, moved-div}
+use Rattle.leaves.proofs.Signs.{sign-add, sign-sum, sign-div, sign-not-below}
+use Rattle.leaves.proofs.SqrtNearest.{moved-sqrt}
+use Rattle.leaves.proofs.Totals.{moved-sum}
+use Rattle.leaves.proofs.PowersOfTwo.{range-move, scaled-moves}
+use Rattle.matrix.specs.Matrix.{Matrix, at}
+use Rattle.estimators.specs.Refusals.{Check, passes, first, when}
+use Rattle.estimators.specs.Sample.{gram, largest}
+use Rattle.estimators.specs.Weighted.{logDecay, accepted, weights, weightedMean, denominator, weightedCovariance}
+use Rattle.estimators.specs.Order.{badHalfLife, weightedOrder}
+use Rattle.estimators.specs.Calls.{Answered, answered, exponentiallyWeightedMean}
+use Rattle.estimators.specs.declared.Field.the-variants.{HalfLifeField}
+use Rattle.estimators.specs.declared.Refusal.the-variants.{BadSetting}
+use Rattle.estimators.specs.declared.Answer.the-variants.{Mean}
+use Rattle.law.specs.Law.{All, Sized, LongHalfLife, Alike, ask}
+use Rattle.law.specs.Law as Law
+use Rattle.law.proofs.Numbers.{nth-tab, means-alike}
+use Rattle.law.proofs.Chain.{Chain, ends, chain-must, chained, parts, settled}
+use Rattle.law.proofs.Sizes.{is-true}
+use Rattle.law.proofs.Sample.{Returns, largest-moved, largest-above}
+use Rattle.law.proofs.Scaled.{Scaling, scaling, scaled-back, scaled-range}
+use Rattle.law.proofs.Opening.{Shape, returns, opening-chain}
+use Rattle.law.proofs.Weights.{weight-range, denominator-range}
+
+-- ---- a sum of numbers without a minus sign is as large as each
+pub sum-fits : (n : ℕ) (f : ℕ → Float) → T (fits binary64 (sumTo n f))
+unfolding sumTo loop fits
+sum-fits zero f = tt
+sum-fits (suc n) f = add-fits binary64 (sumTo n f) (f n)
+
+pub plus-least : (x y : Float) → T (fits binary64 x) → T (fits binary64 y) → sign x ≡ false → sign y ≡ false → T (isFinite (x ⊕ y)) → (mag x ≤ mag (x ⊕ y)) × (mag y ≤ mag (x ⊕ y))
+plus-least x y tx ty sx sy F =
+    let q = add-finite x y F in
+    let v : Val x false (mag x) = subst (λ (s : Bool). Val x s (mag x)) sx (mag-val x tx (q .0)) in
+    let w : Val y false (mag y) = subst (λ (s : Bool). Val y s (mag y)) sy (mag-val y ty (q .1)) in
+    let e = add-rounded x y false false (mag x) (mag y) v w in
+    let r = rounded-val false (mag x + mag y) 1 (lit< tt) (rounded-under false (mag x + mag y) 1 (lit< tt) (subst (λ (z : Float). T (isFinite z)) e F)) in
+    let i : mag (x ⊕ y) ≡ near (mag x + mag y) 1 = ap mag e ∙ val-mag _ false (near (mag x + mag y) 1) r .1 in
+    (rw i (near-least (mag x + mag y) 1 (mag x) (lit< tt) (mag-held x tx (q .0) .0) (omega arith)), rw i (near-least (mag x + mag y) 1 (mag y) (lit< tt) (mag-held y ty (q .1) .0) (omega arith)))
+
+pub sum-least : (n : ℕ) (f : ℕ → Float) → ((t : ℕ) → t < n → T (fits binary64 (f t)) × (sign (f t) ≡ false)) → T (isFinite (sumTo n f)) → (t : ℕ) → t < n → mag (f t) ≤ mag (sumTo n f)
+unfolding sumTo loop
+sum-least zero f h F t l = absurd (native.Mathlib.Nat.not-suc-le-zero l)
+sum-least (suc n) f h F t l =
+    let h' : (t : ℕ) → t < n → T (fits binary64 (f t)) × (sign (f t) ≡ false) = λ t l. h t (lt-trans l (lt-suc-self n)) in
+    let q = add-finite (sumTo n f) (f n) F in
+    let s = sign-sum n f (λ t l. h' t l .1) in
+    let x = plus-least (sumTo n f) (f n) (sum-fits n f) (h n (lt-suc-self n) .0) s (h n (lt-suc-self n) .1) F in
+    elim (native.Mathlib.Nat.eq-or-lt-of-le (native.Mathlib.Nat.le-of-suc-le-suc l)) [
+      | inl e ↦ le-trans (le-of-eq (ap (λ (i : ℕ). mag (f i)) e)) (x .1)
+      | inr i ↦ le-trans (sum-least n f h' (q .0) t i) (x .0)
+    ]
+
+-- ---- the weighted mean of a column
+-- weights w, without a minus sign and not zero
+pub record Weighing (T : ℕ) (w : List Float) : Type 0 where
+  pub range : (t : ℕ) → t < T → Range 950 (2 ^ 1002) (2 ^ 1075) (nth w t)
+  pub plus : (t : ℕ) → t < T → sign (nth w t) ≡ false
+  pub above : (t : ℕ) → t < T → 0 < mag (nth w t)
+
+module _ {k n T : ℕ} {x y : Matrix} (small : k ≤ 80) (r : Returns k n T 982 1034 1114 x y) (w : List Float) (W : Weighing T w) where
+  weight-moved : (t : ℕ) → t < T → Moved 0 950 950 1075 (nth w t) (nth w t)
+  weight-moved t l = moved-weaken 950 950 1075 (lit≤ tt) (lit≤ tt) (lit≤ tt) (still 1002 1075 (W .range t l))
+
+  all-moved : Moved 0 950 950 1087 (sumTo T (nth w)) (sumTo T (nth w))
+  all-moved = moved-sum 0 950 1075 T 12 (r .most) (lit≤ tt) (lit≤ tt) 950 (nth w) (nth w) weight-moved
+
+  all-above : 0 < mag (sumTo T (nth w))
+  all-above =
+      let l : 0 < T = omega (arith, r .periods) in
+      lt-of-lt-of-le (W .above 0 l) (sum-least T (nth w) (λ t l. (W .range t l .fit, W .plus t l)) (all-moved .range .finite) 0 l)
+
+  module _ (i : ℕ) (a : i < n) where
+    abbrev e : ℤ
+    e = binaryExponent (largest T x i)
+
+    common : Scaling k 982 1034 1114 (largest T x i) (largest T y i)
+    common = scaling (largest-moved r i a) (lit≤ tt) (lit≤ tt) (lit≤ tt) (lit≤ tt) (lit≤ tt) (lit≤ tt) (omega arith)
+
+    average : Float
+    average = sumTo T (λ t. nth w t ⊗ pow2Scaled (x t i) (negℤ (binaryExponent (largest T x i)))) ⊘ sumTo T (nth w)
+
+    average-moved : Moved (common .still) 753 753 1212 average average
+    unfolding average
+    average-moved =
+        let j = common .still in
+        let terms : (t : ℕ) → t < T → Moved j 818 818 1076 (nth w t ⊗ pow2Scaled (x t i) (negℤ e)) (nth w t ⊗ pow2Scaled (x t i) (negℤ e)) =
+        λ t l. rw (zero-add j) at (moved-mul (weight-moved t l) (common .moved (r .entries t i l a) (largest-above r t i l a)) 818 818 1076 (lit≤ tt) (lit≤ tt) (lit≤ tt) (omega (arith, common .few))) in
+        moved-weaken 753 753 1212 (lit≤ tt) (lit≤ tt) (lit≤ tt)
+        (moved-over (moved-sum j 818 1076 T 12 (r .most) (lit≤ tt) (omega (arith, common .few)) 818 (λ t. nth w t ⊗ pow2Scaled (x t i) (negℤ e)) (λ t. nth w t ⊗ pow2Scaled (x t i) (negℤ e)) terms)
+        all-moved all-above 753 1212 (lit≤ tt) (lit≤ tt) (omega (arith, common .few)))
+
+    pub mean-moved : Moved k 712 712 1252 (weightedMean T w x i) (weightedMean T w y i)
+    unfolding weightedMean average
+    mean-moved = record {
+      range = scaled-range 1212 e 40 41 (average-moved .range) (common .small .0) (common .small .1) (lit≤ tt) (lit≤ tt);
+      copy = ap (λ (s : Float). pow2Scaled (s ⊘ sumTo T (nth w)) (binaryExponent (largest T y i)))
+          (sum-ext T (λ t. nth w t ⊗ pow2Scaled (y t i) (negℤ (binaryExponent (largest T y i)))) (λ t. nth w t ⊗ pow2Scaled (x t i) (negℤ e)) (λ t l. ap (λ (z : Float). nth w t ⊗ z) (common .same (r .entries t i l a) (largest-above r t i l a))))
+          ∙ scaled-back common average-moved (lit≤ tt) (lit≤ tt) (omega arith);
+    }
+
+-- ---- an accepted half-life
+weighing : (P : ℕ) → 2 ≤ P → P ≤ 4096 → (h : Float) → T (fits binary64 h) → accepted (logDecay h) ≡ true → le (count (P - 1)) (count 64 ⊗ h) ≡ true → Weighing P (weights P (logDecay h))
+unfolding weights
+weighing P two most h fit ok long =
+    let at-t : (t : ℕ) → t < P → exp (count (P - 1 - t) ⊗ logDecay h) ≡ nth (tab P (λ t. exp (count (P - 1 - t) ⊗ logDecay h))) t = λ t l. sym (nth-tab P (λ t. exp (count (P - 1 - t) ⊗ logDecay h)) t nan l) in
+    let q = weight-range P two most h fit ok long in
+    record {
+      range = λ t l. subst (Range 950 (2 ^ 1002) (2 ^ 1075)) (at-t t l) (q (P - 1 - t) (omega arith) .0);
+      plus = λ t l. subst (λ (z : Float). sign z ≡ false) (at-t t l) (q (P - 1 - t) (omega arith) .1);
+      above = λ t l. subst (λ (z : Float). 0 < mag z) (at-t t l) (q (P - 1 - t) (omega arith) .2);
+    }
+
+long-enough : (P : ℕ) → 2 ≤ P → (h : Float) → LongHalfLife P h → T (fits binary64 h) × (le (count (P - 1)) (count 64 ⊗ h) ≡ true)
+long-enough P two h t =
+    let a : Bool = fits binary64 h in
+    let b : Bool = eqb P 0 || le (count (P - 1)) (count 64 ⊗ h) in
+    (and-l a b t, go P two (le (count (P - 1)) (count 64 ⊗ h)) (and-r a b t))
+  where
+    go : (P : ℕ) → 2 ≤ P → (b : Bool) → T (eqb P 0 || b) → b ≡ true
+    go zero two b t = absurd (omega arith)
+    go (suc P) two b t = is-true b (rw (ne-eqb (suc P) 0 (λ e. absurd (omega arith))) at t)
+
+-- ---- the weighted covariance
+pub covariance-moved : {k n T : ℕ} {x y : Matrix} → k ≤ 80 → Returns k n T 982 1034 1114 x y → (h : Float) → LongHalfLife T h → accepted (logDecay h) ≡ true
+    → (i j : ℕ) → i < n → j < n → Moved (k + k) 154 154 1522 (weightedCovariance T (logDecay h) x i j) (weightedCovariance T (logDecay h) y i j)
+unfolding weightedCovariance gram
+covariance-moved {k} {n} {T} {x} {y} small r h long ok i j a b =
+    let q = long-enough T (r .periods) h long in
+    let w = weights T (logDecay h) in
+    let W = weighing T (r .periods) (r .most) h (q .0) ok (q .1) in
+    let D = denominator-range T (r .periods) (r .most) h (q .0) ok (q .1) in
+    let d = denominator T (logDecay h) in
+    let root : (t : ℕ) → t < T → Moved 0 976 1028 1113 (sqrt (nth w t ⊘ d)) (sqrt (nth w t ⊘ d)) =
+    λ t l. moved-sqrt {k = 0} (moved-over (still 1002 1075 (W .range t l)) (still 997 1094 (D .0)) (D .2) 930 1152 (lit≤ tt) (lit≤ tt) (lit≤ tt)) (sign-not-below (nth w t ⊘ d) (sign-div (nth w t) d (W .plus t l ∙ sym (D .1)))) 976 1113 (lit≤ tt) (lit≤ tt) in
+    let term : (c : ℕ) → c < n → (t : ℕ) → t < T → Moved k 614 614 1292 ((x t c ⊖ weightedMean T w x c) ⊗ sqrt (nth w t ⊘ d)) ((y t c ⊖ weightedMean T w y c) ⊗ sqrt (nth w t ⊘ d)) =
+    λ c l t m. rw (add-zero k) at (moved-mul (moved-sub (moved-weaken 712 712 1252 (lit≤ tt) (lit≤ tt) (lit≤ tt) (r .entries t c m l)) (mean-moved small r w W c l) (omega arith)) (root t m) 614 614 1292 (lit≤ tt) (lit≤ tt) (lit≤ tt) (omega arith)) in
+    moved-sum (k + k) 154 1510 T 12 (r .most) (lit≤ tt) (omega arith) 154 (λ t. (x t i ⊖ weightedMean T w x i) ⊗ sqrt (nth w t ⊘ d) ⊗ ((x t j ⊖ weightedMean T w x j) ⊗ sqrt (nth w t ⊘ d)))
+    (λ t. (y t i ⊖ weightedMean T w y i) ⊗ sqrt (nth w t ⊘ d) ⊗ ((y t j ⊖ weightedMean T w y j) ⊗ sqrt (nth w t ⊘ d)))
+    (λ t l. moved-mul (term i a t l) (term j b t l) 154 154 1510 (lit≤ tt) (lit≤ tt) (lit≤ tt) (omega arith))
+
+-- ---- the call
+module _ (k : ℕ) (small : k ≤ 80) (r : List Float) (sizes : All (Sized 40) r) (n T : ℕ) (h : Float) (long : LongHalfLife T h) where
+  abbrev mean : List Float → ℕ → Float
+  mean r = weightedMean T (weights T (logDecay h)) (at r n)
+
+  pub weighted-law : (slice slice' : List Float) → length slice' ≡ length slice → Alike (pos k) (parts n (ask r n T (Law.weightedMean h) slice)) (parts n (ask (map (shift (pos k)) r) n T (Law.weightedMean h) slice'))
+  unfolding exponentiallyWeightedMean
+  weighted-law slice slice' e =
+      let r' = map (shift (pos k)) r in
+      settled (chained chain) (pos k) n slice slice' (answered Mean (fill n (mean r) slice)) (answered Mean (fill n (mean r') slice'))
+      (λ p p' same. record { refusal = refl; entries = tt; meansAndTarget = means-alike k n (mean r) (mean r') slice slice' same; intensity = tt; sweepsAndRotations = refl })
+    where
+      chain : Chain ((i : ℕ) → i < n → lib.Dec.T (fits binary64 (mean r i)) × (mean (map (shift (pos k)) r) i ≡ shift (pos k) (mean r i))) (weightedOrder r n T h slice) (weightedOrder (map (shift (pos k)) r) n T h slice')
+      chain = unfold weightedOrder badHalfLife in
+          opening-chain k small r sizes n T n slice slice' e (λ s opens. chain-must (accepted (logDecay h)) (BadSetting HalfLifeField) refl (λ ok. ends (λ i l.
+          let q = long-enough T (s .periods) h long in
+          let m = mean-moved small (returns k small r sizes n T s) (weights T (logDecay h)) (weighing T (s .periods) (s .most) h (q .0) ok (q .1)) i l in
+          (m .range .fit, m .copy))))

@@ -1,0 +1,309 @@
+-- The weights of an accepted half-life h with T - 1 ≤ 64 h: each is from 2 ^ -72 to 2, and the covariance's denominator from 2 ^ -77 to 2 ^ 20. For then no exponent of a weight is below
+-- -64 ln 2, which is above -48; and where the decay's logarithm is so small that it is not in the normal range, the two exp_m1 of the denominator are near multiples of it, which cancel. They
+-- are the same in both runs. Assumes nothing.
+use mathlib.Core.Path.{_≡_, refl, sym, ap, ap₂, _∙_, subst, subst₂}
+use mathlib.Core.Logic.{_⊎_, inl, inr}
+use Prim.Native.Nat.{ℕ, zero, suc, _+_, _-_, _*_, _^_, _≤_, _<_, zero-le}
+use native.Mathlib.Nat.{le-refl, le-trans, le-of-eq, le-of-lt, lt-of-lt-of-le, lt-of-le-of-lt, lt-irrefl, mul-le-mul, mul-le-mul-left, mul-le-mul-right, mul-pos, mul-assoc, mul-comm, mul-right-comm, mul-one, one-mul, le-of-mul-le-mul-right, zero-lt-suc, eq-zero-or-pos}
+use native.Mathlib.Omega.{arith}
+use mathlib.Core.Bool.{Bool, true, false, not, _&&_, _||_}
+use lib.Dec.{T, ltb, eqb, lit≤, lit<}
+use lib.IntN.{pos}
+use lib.Pow.{pow-add, pow-pos}
+use lib.Ieee.{Float, nan, inf, fin, binary64, fits, up, down, unlike, neg, lt, le, eq, div, ofBits, ofInt, round}
+use lib.Ieee.Fits.{up-pos, down-pos, div-fits, mul-fits, neg-fits, and-l, and-r}
+use lib.Ieee.Positive.{first-pos}
+use borrow.Author.Tests.{ltb-true, ltb-false}
+use Rattle.leaves.specs.Numbers.{_⊗_, _⊘_, zero⁺, two, count, isFinite}
+use Rattle.leaves.specs.Loops.{sumTo, nth}
+use Rattle.leaves.specs.Exp.{ln2, exp, expM1}
+use Rattle.leaves.proofs.Rounding.{near, Held, Near, near-most, near-least, near-error, near-held, held-pow, held-up}
+use Rattle.leaves.proofs.Units.{U, U-pos, U-is, Top, pow-under-Top, Val, rounded, sign, mag, zero-mag, val-mag, val-finite, mag-val, mag-held, zero-val, neg-val, rounded-val, rounded-cases, rounded-under, lt-val}
+use Rattle.leaves.proofs.Arithmetic.{mul-rounded, div-rounded, div-finite}
+use Rattle.leaves.proofs.Range.{Range, count-val, range-size}
+use Rattle.leaves.proofs.Whole.{le-or-lt}
+use Rattle.leaves.proofs.Signs.{sign-round}
+use Rattle.law.proofs.Sizes.{le-yes, two-val}
+use Rattle.law.proofs.Exponential.{W, U-W, W-pos, W-large, N, N-is, ln2-val, near-above, mul-most, Exp, exp-within, ExpM1, expM1-within}
+use Rattle.estimators.specs.Weighted.{logDecay, accepted, denominator}
+
+-- ---- the logarithm of the decay: finite and below zero, so the half-life is finite and above
+module _ (h : Float) (fit : T (fits binary64 h)) (ok : accepted (logDecay h) ≡ true) where
+  log-val : Val (logDecay h) true (mag (logDecay h)) × (0 < mag (logDecay h))
+  log-val = go (logDecay h) (unfold logDecay in div-fits binary64 (neg ln2) h) (unfold accepted in ok)
+    where
+      both : (a b : Bool) → (a && b) ≡ true → (a ≡ true) × (b ≡ true)
+      both true b e = (refl, e)
+      both false b e = (e, absurd (subst T (sym e) tt))
+
+      signed : (l : Float) (s : Bool) (a : ℕ) → Val l s a → lt l zero⁺ ≡ true → (s ≡ true) × (0 < a)
+      signed l false a v e = absurd (lt-irrefl 0 (lt-of-le-of-lt zero-le (ltb-true a 0 (sym (lt-val l zero⁺ false false a 0 v (zero-val false (pos 0))) ∙ e))))
+      signed l true a v e = (refl, let p = ltb-true 0 (a + 0) (sym (lt-val l zero⁺ true false a 0 v (zero-val false (pos 0))) ∙ e) in omega arith)
+
+      go : (l : Float) → T (fits binary64 l) → (le (fin true 177 (pos 2)) l && lt l zero⁺) ≡ true → Val l true (mag l) × (0 < mag l)
+      go nan t e = unfold le lt eq in absurd (subst T (sym e) tt)
+      go (inf true) t e = unfold le lt eq in absurd (subst T (sym e) tt)
+      go (inf false) t e = unfold le lt eq in absurd (subst T (sym e) tt)
+      go (fin s m x) t e =
+          let v = mag-val (fin s m x) t (unfold isFinite in tt) in
+          let q = signed (fin s m x) (sign (fin s m x)) (mag (fin s m x)) v (both (le (fin true 177 (pos 2)) (fin s m x)) (lt (fin s m x) zero⁺) e .1) in
+          (subst (λ (b : Bool). Val (fin s m x) b (mag (fin s m x))) (q .0) v, q .1)
+
+  abbrev a : ℕ
+  a = mag (logDecay h)
+
+  log-held : Held (mag (logDecay h))
+  log-held = mag-held (logDecay h) (unfold logDecay in div-fits binary64 (neg ln2) h) (val-finite (logDecay h) true a (log-val .0)) .0
+
+  -- h itself
+  half-life : (H : ℕ) × Val h false H × (0 < H) × Held H × (mag (logDecay h) ≡ near (N * U) H)
+  half-life = go h fit (log-val .0) (log-val .1)
+    where
+      log-is : (h : Float) → logDecay h ≡ neg ln2 ⊘ h
+      log-is h = unfold logDecay in refl
+
+      go : (h : Float) → T (fits binary64 h) → Val (logDecay h) true (mag (logDecay h)) → 0 < mag (logDecay h) → (H : ℕ) × Val h false H × (0 < H) × Held H × (mag (logDecay h) ≡ near (N * U) H)
+      go nan t v p = unfold logDecay div neg ofBits in absurd v
+      go (inf s) t v p = absurd (lt-irrefl 0 (subst (λ (n : ℕ). 0 < n) (ap mag (log-is (inf s)) ∙ unfold div neg ofBits in zero-mag (unlike true s) (pos 0)) p))
+      go (fin s zero e) t v p = unfold logDecay div neg ofBits in absurd v
+      go (fin s (suc m) e) t v p = signed s (mag-val (fin s (suc m) e) t (unfold isFinite in tt)) (mag-held (fin s (suc m) e) t (unfold isFinite in tt) .0)
+        where
+          H : ℕ
+          H = mag (fin s (suc m) e)
+
+          above : 0 < H
+          above = first-pos H (down e) (subst (λ (n : ℕ). 0 < n) (mag-val (fin s (suc m) e) t (unfold isFinite in tt) .1) (mul-pos (mul-pos (zero-lt-suc m) (up-pos e)) U-pos))
+
+          signed : (b : Bool) → Val (fin s (suc m) e) (sign (fin s (suc m) e)) H → Held H → (H : ℕ) × Val (fin s (suc m) e) false H × (0 < H) × Held H × (mag (logDecay (fin s (suc m) e)) ≡ near (N * U) H)
+          signed b w k =
+              let x = fin s (suc m) e in
+              let n = neg-val ln2 false N ln2-val in
+              let q = log-is x ∙ div-rounded (neg ln2) x true (sign x) N H n w above in
+              let i : unlike true (sign x) ≡ true = sym (ap sign q ∙ sign-round (unlike true (sign x)) (N * U) (H * U)) ∙ val-mag (logDecay x) true (mag (logDecay x)) v .0 in
+              let z : sign x ≡ false = not-true (sign x) i in
+              let r = rounded-val (unlike true (sign x)) (N * U) H above (rounded-under (unlike true (sign x)) (N * U) H above (subst (λ (z : Float). T (isFinite z)) q (val-finite (logDecay x) true (mag (logDecay x)) v))) in
+              (H, subst (λ (b : Bool). Val x b H) z w, above, k, ap mag q ∙ val-mag (rounded (unlike true (sign x)) (N * U) H) (unlike true (sign x)) (near (N * U) H) r .1)
+            where
+              not-true : (b : Bool) → unlike true b ≡ true → b ≡ false
+              not-true true i = sym i
+              not-true false i = refl
+
+-- ---- T - 1 ≤ 64 h
+times-log : (j a H n u w : ℕ) → j * u ≤ 64 * H → 100000 * (a * H) ≤ 100001 * (n * u) + 50000 * H → 0 < H → 100000 * n ≤ 69315 * u → u ≡ 32 * w → j ≤ 4096 → 10000000 ≤ w → j * a ≤ 1536 * w
+times-log j a H n u w l e p q i few large =
+    let f : j * (100000 * (a * H)) ≤ j * (100001 * (n * u) + 50000 * H) = mul-le-mul-left j e in
+    let g : n * (j * u) ≤ n * (64 * H) = mul-le-mul-left n l in
+    let c : 100000 * (j * a) * H ≤ (6400064 * n + 50000 * j) * H = omega arith in
+    finish (j * a) n u w j (le-of-mul-le-mul-right {k = H} c p) q i few large
+  where
+    finish : (x n u w j : ℕ) → 100000 * x ≤ 6400064 * n + 50000 * j → 100000 * n ≤ 69315 * u → u ≡ 32 * w → j ≤ 4096 → 10000000 ≤ w → x ≤ 1536 * w
+    finish x n u w j c q i few large = omega arith
+
+module _ (P : ℕ) (periods : 2 ≤ P) (most : P ≤ 4096) (h : Float) (fit : T (fits binary64 h)) (ok : accepted (logDecay h) ≡ true) (long : le (count (P - 1)) (count 64 ⊗ h) ≡ true) where
+  abbrev l : Float
+  l = logDecay h
+
+  abbrev m : ℕ
+  m = mag (logDecay h)
+
+  -- in units
+  granted : (P - 1) * U ≤ 64 * half-life h fit ok .0
+  granted =
+      let q = half-life h fit ok in
+      let H = q .0 in
+      let e : near (64 * U * H) U ≡ 64 * H = ap (λ (n : ℕ). near n U) (mul-right-comm 64 U H) ∙ near-held (64 * H) U U-pos (subst Held (mul-comm H 64) (held-up H 6 (q .3))) in
+      let x = mul-rounded (count 64) h false false (64 * U) H (count-val 64 (lit≤ tt)) (q .1) in
+      elim (rounded-cases false (64 * U * H) U U-pos) [
+        | inl under ↦
+            let v : Val (count 64 ⊗ h) false (64 * H) = subst₂ (λ (z : Float) (n : ℕ). Val z false n) (sym x) e (rounded-val false (64 * U * H) U U-pos under) in
+            le-yes (count (P - 1)) (count 64 ⊗ h) (count-val (P - 1) (le-trans (omega arith) (le-trans most (lit≤ tt)))) v long
+        | inr over ↦ let top : 4096 * U ≤ Top = unfold U Top in lit≤ tt in le-trans (mul-le-mul-right U (le-trans (omega arith) most)) (le-trans top (le-trans (over .0) (le-of-eq e)))
+      ]
+
+  times-bound : (j : ℕ) → j ≤ P - 1 → j * mag (logDecay h) ≤ 1536 * W
+  times-bound j few =
+      let q = half-life h fit ok in
+      let H = q .0 in
+      let e : near (N * U) H ≡ mag (logDecay h) = sym (q .4) in
+      times-log j (mag (logDecay h)) H N U W (le-trans (mul-le-mul-right U few) granted)
+      (subst (λ (a : ℕ). 100000 * (a * H) ≤ 100001 * (N * U) + 50000 * H) e (near-above (near (N * U) H) (N * U) H (near-error (N * U) H (q .2)))) (q .2) (N-is .1) U-W (omega arith) W-large
+
+  -- ---- the weights
+  exponent-val : (j : ℕ) → j ≤ P - 1 → Val (count j ⊗ logDecay h) true (near (j * U * mag (logDecay h)) U) × (near (j * U * mag (logDecay h)) U ≤ 1536 * W)
+  exponent-val j few = mul-most 1536 (lit≤ tt) (count j) (logDecay h) false true (j * U) m (count-val j (le-trans few (le-trans (omega arith) (le-trans most (lit≤ tt))))) (log-val h fit ok .0)
+      (le-trans (le-of-eq (mul-right-comm j U m)) (mul-le-mul-right U (times-bound j few)))
+
+  weight : (j : ℕ) → (few : j ≤ P - 1) → Exp (count j ⊗ logDecay h) (near (j * U * mag (logDecay h)) U)
+  weight j few = let v = exponent-val j few in exp-within (count j ⊗ logDecay h) (near (j * U * m) U) (v .0) (le-trans (v .1) (omega arith))
+
+  pub weight-range : (j : ℕ) → j ≤ P - 1 → Range 950 (2 ^ 1002) (2 ^ 1075) (exp (count j ⊗ logDecay h)) × (sign (exp (count j ⊗ logDecay h)) ≡ false) × (0 < mag (exp (count j ⊗ logDecay h)))
+  weight-range j few =
+      let v = exponent-val j few in
+      let x = weight j few in
+      let p = W-pos in
+      (x .range (le-trans (v .1) (omega arith)), x .plus, first-pos (mag (exp (count j ⊗ logDecay h))) (2 ^ (x .K)) (subst (λ (n : ℕ). 0 < n) (sym (x .is)) (lt-of-lt-of-le (mul-pos (lit< {m = 0} {n = 10} tt) W-pos) (x .least))))
+
+  -- ---- the denominator
+  log-bound : mag (logDecay h) ≤ 1536 * W
+  log-bound = le-trans (le-of-eq (sym (one-mul m))) (times-bound 1 (omega arith))
+
+  log-exp : Exp (logDecay h) (mag (logDecay h))
+  log-exp = exp-within (logDecay h) m (log-val h fit ok .0) (le-trans log-bound (omega arith))
+
+  -- (T - 1) l, from l to 4096 l
+  span : ℕ
+  span = near ((P - 1) * U * mag (logDecay h)) U
+
+  span-within : (mag (logDecay h) ≤ span) × (span ≤ 4096 * mag (logDecay h))
+  unfolding span
+  span-within =
+      let n = (P - 1) * U * m in
+      let k = log-held h fit ok in (
+        near-least n U m U-pos k (le-trans (le-of-eq (mul-comm m U)) (mul-le-mul-right m (le-trans (le-of-eq (sym (one-mul U))) (mul-le-mul-right U (omega arith))))),
+        near-most n U (4096 * m) U-pos (subst Held (mul-comm m 4096) (held-up m 12 k)) (le-trans (mul-le-mul-right m (mul-le-mul-right U (le-trans (omega arith) most))) (le-of-eq (mul-right-comm 4096 U m))),
+      )
+
+  above : ExpM1 (count (P - 1) ⊗ logDecay h) span
+  unfolding span
+  above =
+      let v = exponent-val (P - 1) (le-refl (P - 1)) in
+      expM1-within (count (P - 1) ⊗ logDecay h) (near ((P - 1) * U * m) U) (v .0) (lt-of-lt-of-le (log-val h fit ok .1) (unfold span in span-within .0)) (le-trans (v .1) (omega arith))
+
+  twice-val : Val (two ⊗ logDecay h) true (2 * mag (logDecay h))
+  twice-val =
+      let e : near (2 * U * m) U ≡ 2 * m = ap (λ (n : ℕ). near n U) (mul-right-comm 2 U m) ∙ near-held (2 * m) U U-pos (subst Held (mul-comm m 2) (held-up m 1 (log-held h fit ok))) in
+      subst (Val (two ⊗ logDecay h) true) e (mul-most 3072 (lit≤ tt) two (logDecay h) false true (2 * U) m two-val (log-val h fit ok .0)
+      (le-trans (le-of-eq (mul-right-comm 2 U m)) (mul-le-mul-right U (let b = log-bound in omega arith))) .0)
+
+  below : ExpM1 (two ⊗ logDecay h) (2 * mag (logDecay h))
+  below = expM1-within (two ⊗ logDecay h) (2 * m) twice-val (let p = log-val h fit ok .1 in omega arith) (let b = log-bound in omega arith)
+
+  -- 2 λ
+  pub factor : ℕ
+  factor = 2 * mag (exp (logDecay h))
+
+  exp-most : mag (exp (logDecay h)) ≤ 54 * W
+  exp-most = let x = log-exp in le-trans (le-trans (le-of-eq (sym (mul-one (mag (exp (logDecay h)))))) (mul-le-mul-left (mag (exp (logDecay h))) (pow-pos (x .K)))) (le-trans (le-of-eq (x .is)) (x .most))
+
+  factor-val : Val (two ⊗ exp (logDecay h)) false factor
+  unfolding factor
+  factor-val =
+      let x = log-exp in
+      let b = mag (exp (logDecay h)) in
+      let v : Val (exp (logDecay h)) false b = subst (λ (s : Bool). Val (exp (logDecay h)) s b) (x .plus) (mag-val (exp (logDecay h)) (x .fit) (x .finite)) in
+      let e : near (2 * U * b) U ≡ 2 * b = ap (λ (n : ℕ). near n U) (mul-right-comm 2 U b) ∙ near-held (2 * b) U U-pos (subst Held (mul-comm b 2) (held-up b 1 (mag-held (exp (logDecay h)) (x .fit) (x .finite) .0))) in
+      subst (Val (two ⊗ exp (logDecay h)) false) e (mul-most 108 (lit≤ tt) two (exp (logDecay h)) false false (2 * U) b two-val v (le-trans (le-of-eq (mul-right-comm 2 U b)) (mul-le-mul-right U (let l = exp-most in omega arith))) .0)
+
+  -- the dividend
+  E₁ : ℕ
+  E₁ = above .E
+
+  E₂ : ℕ
+  E₂ = below .E
+
+  dividend : ℕ
+  dividend = near (factor * E₁) U
+
+  E₁-most : E₁ ≤ 48 * W
+  unfolding E₁
+  E₁-most = elim (le-or-lt span (16 * W)) [ inl c ↦ (let q = above .near-zero c .1 in omega arith) | inr c ↦ (let q = above .far c .1 in omega arith) ]
+
+  dividend-val : Val (two ⊗ exp (logDecay h) ⊗ neg (expM1 (count (P - 1) ⊗ logDecay h))) false dividend × (dividend ≤ 162 * W)
+  unfolding dividend E₁ factor
+  dividend-val = mul-most 162 (lit≤ tt) (two ⊗ exp (logDecay h)) (neg (expM1 (count (P - 1) ⊗ logDecay h))) false false factor (above .E) factor-val (neg-val (expM1 (count (P - 1) ⊗ logDecay h)) true (above .E) (above .val))
+      (le-trans (mul-le-mul (mul-le-mul-left 2 exp-most) E₁-most) (le-of-eq (regroup W ∙ ap (λ (u : ℕ). 162 * W * u) (sym U-W))))
+    where
+      regroup : (w : ℕ) → 2 * (54 * w) * (48 * w) ≡ 162 * w * (32 * w)
+      regroup w = omega arith
+
+  -- its quotient by the divisor: from 2 ^ -77 to 2 ^ 20
+  close : mag (logDecay h) ≤ 8 * W → (0 < E₂) × (E₂ ≤ 1536 * dividend) × (dividend ≤ 688128 * E₂)
+  unfolding E₂ dividend E₁ factor
+  close c =
+      let x = log-exp in
+      let k : mag (exp (logDecay h)) ≡ x .P = sym (mul-one (mag (exp (logDecay h)))) ∙ ap (λ (n : ℕ). mag (exp (logDecay h)) * 2 ^ n) (sym (x .none c)) ∙ x .is in
+      let n = near-error (2 * mag (exp (logDecay h)) * above .E) U U-pos in
+      let b = below .near-zero (omega arith) in
+      let s = span-within in
+      let e : (m ≤ 16 * above .E) × (above .E ≤ 12288 * m) = elim (le-or-lt span (16 * W)) [
+        | inl q ↦ (let z = above .near-zero q in (omega (arith, z, s), omega (arith, z, s)))
+        | inr q ↦ (let z = above .far q in (omega (arith, z, s), omega (arith, z, s)))
+      ] in
+      let p = log-val h fit ok .1 in
+      let q₁ = least (mag (exp (logDecay h))) (above .E) (near (2 * mag (exp (logDecay h)) * above .E) U) W U U-W W-pos (le-trans (x .least) (le-of-eq (sym k))) (omega (arith, e)) (n .halved) in
+      let q₂ = most' (mag (exp (logDecay h))) (above .E) (near (2 * mag (exp (logDecay h)) * above .E) U) W U U-W W-pos exp-most (n .doubled) in
+      (omega (arith, b, p), omega (arith, b, e, q₁), omega (arith, b, e, q₂))
+    where
+      least : (b E q w u : ℕ) → u ≡ 32 * w → 0 < w → 10 * w ≤ b → 0 < E → 2 * (2 * b * E) ≤ 4 * (q * u) + u → E ≤ 16 * q
+      least b E q w u i p lo s f =
+          let g : 10 * w * E ≤ b * E = mul-le-mul-right E lo in
+          let c : 40 * E * w ≤ (128 * q + 32) * w = subst (λ (u : ℕ). 2 * (2 * b * E) ≤ 4 * (q * u) + u → 40 * E * w ≤ (128 * q + 32) * w) (sym i) (λ f. omega arith) f in
+          let d : 40 * E ≤ 128 * q + 32 = le-of-mul-le-mul-right {k = w} c p in
+          omega arith
+
+      most' : (b E q w u : ℕ) → u ≡ 32 * w → 0 < w → b ≤ 54 * w → q * u ≤ 2 * (2 * b * E) → q ≤ 7 * E
+      most' b E q w u i p hi f =
+          let g : b * E ≤ 54 * w * E = mul-le-mul-right E hi in
+          let c : 32 * q * w ≤ 216 * E * w = subst (λ (u : ℕ). q * u ≤ 2 * (2 * b * E) → 32 * q * w ≤ 216 * E * w) (sym i) (λ f. omega arith) f in
+          let d : 32 * q ≤ 216 * E = le-of-mul-le-mul-right {k = w} c p in
+          omega arith
+
+  apart : 8 * W < mag (logDecay h) → (5 * W ≤ E₂) × (E₂ ≤ 32 * W) × (2 ^ 997 ≤ dividend)
+  unfolding E₂ dividend E₁ factor
+  apart c =
+      let b = below .far (omega arith) in
+      let s = span-within in
+      let r = log-exp .range log-bound' in
+      let e : 1 * W ≤ 2 * above .E = elim (le-or-lt span (16 * W)) [ inl q ↦ (let z = above .near-zero q .0 in omega (arith, s)) | inr q ↦ (let z = above .far q .0 in omega arith) ] in (
+        b .0,
+        b .1,
+        near-least (2 * mag (exp (logDecay h)) * above .E) U (2 ^ 997) U-pos (held-pow 997)
+            (le-trans powers (le-trans (mul-le-mul (r .least (first-pos (mag (exp (logDecay h))) (2 ^ (log-exp .K)) (subst (λ (n : ℕ). 0 < n) (sym (log-exp .is)) (lt-of-lt-of-le (mul-pos (lit< {m = 0} {n = 10} tt) W-pos) (log-exp .least))))) e) (le-of-eq (regroup (mag (exp (logDecay h))) (above .E))))),
+      )
+    where
+      log-bound' : mag (logDecay h) ≤ 48 * (32 * W)
+      log-bound' = le-trans log-bound (omega arith)
+
+      powers : 2 ^ 997 * U ≤ 2 ^ 1002 * (1 * W)
+      powers = unfold U W in lit≤ tt
+
+      regroup : (b E : ℕ) → b * (2 * E) ≡ 2 * b * E
+      regroup b E = omega arith
+
+  quotient-bounds : (0 < E₂) × (2 ^ 997 * E₂ ≤ dividend * U) × (dividend * U ≤ 2 ^ 1094 * E₂)
+  quotient-bounds = elim (le-or-lt (mag (logDecay h)) (8 * W)) [
+    | inl c ↦
+        let q = close c in (
+          q .0,
+          le-trans (mul-le-mul-left (2 ^ 997) (q .1)) (le-trans (le-of-eq (sym (mul-assoc (2 ^ 997) 1536 dividend))) (le-trans (mul-le-mul-right dividend small₁) (le-of-eq (mul-comm U dividend)))),
+          le-trans (mul-le-mul-right U (q .2)) (le-trans (le-of-eq (mul-right-comm 688128 E₂ U)) (mul-le-mul-right E₂ large₁)),
+        )
+    | inr c ↦
+        let q = apart c in (
+          lt-of-lt-of-le (mul-pos (lit< {m = 0} {n = 5} tt) W-pos) (q .0),
+          le-trans (mul-le-mul (q .2) (q .1)) (le-of-eq (ap (λ (u : ℕ). dividend * u) (sym U-W))),
+          le-trans (mul-le-mul-right U (le-trans (dividend-val .1) (let b = q .0 in bigger E₂ W b))) (le-trans (le-of-eq (mul-right-comm 688128 E₂ U)) (mul-le-mul-right E₂ large₁)),
+        )
+  ]
+    where
+      small₁ : 2 ^ 997 * 1536 ≤ U
+      small₁ = unfold U in lit≤ tt
+
+      large₁ : 688128 * U ≤ 2 ^ 1094
+      large₁ = unfold U in lit≤ tt
+
+      bigger : (E w : ℕ) → 5 * w ≤ E → 162 * w ≤ 688128 * E
+      bigger E w b = omega arith
+
+  pub denominator-range : Range 945 (2 ^ 997) (2 ^ 1094) (denominator P (logDecay h)) × (sign (denominator P (logDecay h)) ≡ false) × (0 < mag (denominator P (logDecay h)))
+  unfolding denominator E₂
+  denominator-range =
+      let x = two ⊗ exp (logDecay h) ⊗ neg (expM1 (count (P - 1) ⊗ logDecay h)) in
+      let y = neg (expM1 (two ⊗ logDecay h)) in
+      let q = quotient-bounds in
+      let least = near-least (dividend * U) E₂ (2 ^ 997) (q .0) (held-pow 997) (q .1) in
+      let most = near-most (dividend * U) E₂ (2 ^ 1094) (q .0) (held-pow 1094) (q .2) in
+      let v : Val (x ⊘ y) false (near (dividend * U) E₂) = subst (λ (z : Float). Val z false (near (dividend * U) E₂)) (sym (div-rounded x y false false dividend E₂ (dividend-val .0) (neg-val (expM1 (two ⊗ logDecay h)) true (below .E) (below .val)) (q .0)))
+      (rounded-val false (dividend * U) E₂ (q .0) (lt-of-le-of-lt most (pow-under-Top 1094 (lit≤ tt)))) in
+      let i = val-mag (x ⊘ y) false (near (dividend * U) E₂) v in
+      (range-size 945 (2 ^ 1094) (x ⊘ y) (div-fits binary64 x y) (val-finite (x ⊘ y) false (near (dividend * U) E₂) v) (inr (rw (i .1) least)) (rw (i .1) most), i .0, rw (i .1) (lt-of-lt-of-le (pow-pos 997) least))

@@ -1,0 +1,2 @@
+-- Demand 3 and document 01, "Scaling ranges".
+pub mod Law
