@@ -11,7 +11,7 @@ use Rattle.leaves.specs.Numbers.{_⊕_, _⊖_, _⊗_, min0}
 use Rattle.leaves.specs.Loops.{nth}
 use Rattle.matrix.specs.Matrix.{Matrix, at}
 use Rattle.estimators.specs.declared.rows.Row.{Row}
-use Rattle.estimators.specs.declared.rows.Row.the-variants.{Deviation, Shortfall, Weighted, Scaled}
+use Rattle.estimators.specs.declared.rows.Row.the-variants.{Plain, Times, Deviation, Shortfall, Weighted, Scaled}
 use Rattle.estimators.specs.declared.tables.Term.{Term}
 use Rattle.estimators.specs.declared.tables.Term.the-variants.{Product, Square, Cube}
 
@@ -21,6 +21,8 @@ inUnit n units i x = cond (leb (n + n) (length units)) (x ⊗ nth units i ⊗ nt
 
 -- a number, by its column's center and its period's weight
 unfoldable pub formed : Row → Float → Float → Float → Float
+formed Plain x c w = x
+formed Times x c w = w ⊗ x
 formed Deviation x c w = x ⊖ c
 formed Shortfall x c w = min0 (x ⊖ c)
 formed Weighted x c w = (x ⊖ c) ⊗ w

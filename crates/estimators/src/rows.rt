@@ -8,8 +8,11 @@ ghost use Rattle.matrix.specs.Limits.{maxSide};
 ghost use Rattle.matrix.specs.Matrix.{at};
 ghost use Rattle.estimators.specs.Rows.{inUnit, formed, rowsOf};
 
-// Less its column's center: as it is, its part below 0, times its period's weight, or times a power of two as two factors.
+// The return itself, or its period's weight times it; or the return less its column's center: as it is, its part below 0, times its period's
+// weight, or times a power of two as two factors.
 pub(crate) enum Row {
+    Plain,
+    Times,
     Deviation,
     Shortfall,
     Weighted,
@@ -20,6 +23,8 @@ fn entry(row: Row, x: f64, c: f64, w: f64) -> f64
     ensures { λ r. ⌜ r ≡ formed row x c w ⌝ }
 {
     match row {
+        Row::Plain => x,
+        Row::Times => w * x,
         Row::Deviation => x - c,
         Row::Shortfall => leaves::numbers::min0(x - c),
         Row::Weighted => (x - c) * w,
