@@ -10,5 +10,6 @@ pub mod Entries
 pub mod LedoitWolf
 pub mod OfGiven
 pub mod Exponents
+pub mod Factors
 pub mod Gathered
 pub mod Constant

@@ -11,6 +11,7 @@ mod james_stein;
 mod ledoit_wolf;
 mod moments;
 mod opening;
+mod powers;
 mod rows;
 mod tables;
 mod targets;
