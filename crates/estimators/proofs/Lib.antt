@@ -11,5 +11,6 @@ pub mod LedoitWolf
 pub mod OfGiven
 pub mod Exponents
 pub mod Factors
+pub mod Samples
 pub mod Gathered
 pub mod Constant
