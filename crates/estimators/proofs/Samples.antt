@@ -1,22 +1,25 @@
 -- Laws of the sample moments: they are the code's sums over its counts, of the returns in their units, and alike returns have alike moments.
 -- Assumes nothing.
-use mathlib.Core.Path.{_≡_, sym, ap, _∙_}
+use mathlib.Core.Path.{_≡_, sym, ap, _∙_, subst}
 use mathlib.Core.Bool.{Bool, not}
-use mathlib.Core.List.{List, [], _∷_}
+use mathlib.Core.List.{List, [], _∷_, _++_}
 use mathlib.Core.Option.{none}
-use Prim.Native.Nat.{ℕ, _+_, _-_, _*_, _≤_, _<_}
+use Prim.Native.Nat.{ℕ, _+_, _-_, _*_, _<_}
 use native.Mathlib.Omega.{arith}
 use borrow.Author.Tests.{le-leb, lt-leb}
 use lib.IntN.{ℤ, pos}
-use lib.ListN.{length, getD}
+use lib.ListN.{length, getD, take}
+use lib.Seq.{take-append-seam}
 use lib.Ieee.{Float}
 use Rattle.leaves.specs.Numbers.{_⊖_, _⊗_, _⊘_, count, isFinite}
 use Rattle.leaves.specs.Loops.{sumTo, amaxTo, tab, nth}
-use Rattle.leaves.proofs.Loops.{tab-ext, sum-ext, amax-ext}
+use Rattle.leaves.proofs.Loops.{length-tab, tab-ext, sum-ext, amax-ext}
 use Rattle.matrix.specs.Matrix.{Matrix, at, rows, firstEntry, allFinite}
-use Rattle.matrix.proofs.Stored.{rows-ext}
+use Rattle.matrix.proofs.Stored.{length-rows, rows-ext}
 use Rattle.matrix.proofs.Alike.{finite-alike}
 use Rattle.estimators.specs.Sample.{mean, deviation, gram, covariance, largest, scaled}
+use Rattle.estimators.specs.Moments.{moments}
+use Rattle.estimators.specs.Held.{momentsOf}
 use Rattle.estimators.specs.Rows.{inUnit, formed, rowsOf}
 use Rattle.estimators.specs.Powers.{inUnits, Units}
 use Rattle.estimators.specs.declared.rows.Row.the-variants.{Plain, Deviation}
@@ -86,6 +89,19 @@ unit-scaled n es units x e u t i h = rw (le-leb (n + n) (length units) (omega ar
 pub largest-of : (n T : ℕ) (centers weights : List Float) (x : Matrix) → tab n (λ i. amaxTo T (λ t. rowsOf Plain n [] centers weights x t i)) ≡ tab n (largest T x)
 unfolding rowsOf formed largest
 largest-of n T centers weights x = largest-same n T (inUnits n [] x) x (unit-none n x)
+
+-- ---- the moments, as the first numbers of two arrays
+
+firsts : (n : ℕ) (xs rest : List Float) → length xs ≡ n → take n (xs ++ rest) ≡ xs
+firsts n xs rest e = subst (λ (m : ℕ). take m (xs ++ rest) ≡ xs) e (take-append-seam xs rest)
+
+pub moments-held : (n T : ℕ) (y : Matrix) (μ rest Σ others : List Float) (k : Float) → μ ≡ tab n (mean T y) → Σ ≡ rows n n (covariance T y) → k ≡ count T
+    → momentsOf (take n (μ ++ rest)) (take (n * n) (Σ ++ others)) k ≡ moments T n y
+unfolding moments
+moments-held n T y μ rest Σ others k e e′ e″ =
+    let m = firsts n μ rest (ap length e ∙ length-tab (mean T y) n) ∙ e in
+    let s = firsts (n * n) Σ others (ap length e′ ∙ length-rows (covariance T y) n n) ∙ e′ in
+    λ i. momentsOf (m i) (s i) (e″ i)
 
 -- ---- the checks of the returns
 

@@ -1,6 +1,5 @@
 -- `estimators::sample::covariance` meets its contract: there are no units.
 use mathlib.Core.Path.{sym, _∙_}
-use native.Mathlib.Omega.{arith}
 use lib.Seq.{length-take-le}
 use Rattle.matrix.specs.Matrix.{at}
 use Rattle.estimators.proofs.Samples.{covariance-same, unit-none}
