@@ -21,5 +21,7 @@ pub mod Adjusted
 pub mod Ratio
 pub mod Common
 pub mod Tied
+pub mod Columns
+pub mod Pull
 pub mod BayesStein
 pub mod Theorem
