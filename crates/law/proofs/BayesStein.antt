@@ -12,13 +12,13 @@ use Rattle.leaves.specs.Numbers.{_⊗_, 1e-10}
 use Rattle.leaves.specs.Loops.{fill, nth}
 use Rattle.leaves.specs.Root.{sqrt}
 use Rattle.leaves.specs.Shift.{shift}
-use Rattle.leaves.proofs.Whole.{over, same}
+use Rattle.leaves.proofs.Whole.{over}
 use Rattle.matrix.specs.Limits.{maxSweeps}
 use Rattle.matrix.specs.Matrix.{at, allFinite}
 use Rattle.estimators.specs.Refusals.{Check, passes, when}
-use Rattle.estimators.specs.Sample.{mean, constantAsset}
+use Rattle.estimators.specs.Sample.{constantAsset}
 use Rattle.estimators.specs.Moments.{Moments}
-use Rattle.estimators.specs.BayesStein.{singular, bayesStein, pulled}
+use Rattle.estimators.specs.BayesStein.{singular, pulled}
 use Rattle.estimators.specs.Order.{sweepLimit, bayesSteinOrder}
 use Rattle.estimators.specs.Calls.{Answered, answered, settle, bayesSteinMean}
 use Rattle.estimators.specs.declared.Field.the-variants.{SweepLimitField}

@@ -17,7 +17,7 @@ use Rattle.leaves.specs.Root.{sqrt}
 use Rattle.leaves.specs.Scaling.{pow2, binaryExponent, pow2Scaled}
 use Rattle.leaves.specs.Shift.{shift}
 use Rattle.leaves.proofs.Loops.{first-ext}
-use Rattle.leaves.proofs.Whole.{over, under, plus, same, over-neg, under-neg}
+use Rattle.leaves.proofs.Whole.{over, under, plus, over-neg, under-neg}
 use Rattle.leaves.proofs.SqrtLaws.{sqrt-shift}
 use Rattle.leaves.proofs.SqrtNearest.{moved-sqrt}
 use Rattle.leaves.proofs.Rounding.{near-least, held-pow}

@@ -1,4 +1,4 @@
--- The proof of the power-of-two law.
+-- The proof of the power-of-two law, and other laws of the five calls.
 pub mod Chain
 pub mod Sample
 pub mod Scaled
@@ -25,3 +25,10 @@ pub mod Columns
 pub mod Pull
 pub mod BayesStein
 pub mod Theorem
+-- laws of each call, over all inputs
+pub mod Passing
+pub mod Calls
+pub mod Outcome
+pub mod Symmetric
+pub mod Limits
+pub mod Counts

@@ -33,7 +33,6 @@ use Rattle.matrix.specs.Jacobi.{Decomposition, decompose, unturned, scaledBack,
 use Rattle.matrix.proofs.Alike.{decomposedBy, decompose-is}
 use Rattle.matrix.proofs.Turn.{Limit}
 use Rattle.matrix.proofs.Vectors.{Small, vectors-small}
-use Rattle.estimators.specs.Sample.{mean}
 use Rattle.estimators.specs.Moments.{Moments, moments}
 use Rattle.estimators.specs.BayesStein.{singular, commonExponent, gathered, project, form, bayesStein, pulled}
 use borrow.Author.Tests.{le-ltb, ne-eqb}
