@@ -14,10 +14,10 @@ use lib.Ieee.{Float, nan, le, eq, ofBits}
 use Rattle.leaves.specs.Numbers.{_⊗_, _⊘_, zero⁺, one, 1e-10}
 use Rattle.leaves.specs.Loops.{tab, nth}
 use Rattle.leaves.specs.Root.{sqrt}
-use Rattle.leaves.specs.Scaling.{pow2, binaryExponent, pow2Scaled}
+use Rattle.leaves.specs.Scaling.{binaryExponent, pow2Scaled}
 use Rattle.leaves.specs.Shift.{shift}
 use Rattle.leaves.proofs.Loops.{first-ext}
-use Rattle.leaves.proofs.Whole.{over, under, plus, over-neg, under-neg}
+use Rattle.leaves.proofs.Whole.{over, under, plus}
 use Rattle.leaves.proofs.SqrtLaws.{sqrt-shift}
 use Rattle.leaves.proofs.SqrtNearest.{moved-sqrt}
 use Rattle.leaves.proofs.Rounding.{near-least, held-pow}
@@ -40,7 +40,7 @@ use Rattle.law.proofs.Scaled.{Scaling, scaling, scaled-least, exponent-
 use Rattle.law.proofs.Correlation.{sign-variance, sign-largest, above-zero}
 use Rattle.law.proofs.Shrinkage.{one-moved}
 use Rattle.law.proofs.Moments.{moments-same}
-use Rattle.law.proofs.Tied.{one-step}
+use Rattle.law.proofs.Share.{sign-scaled}
 use Rattle.law.proofs.Ratio.{product-is, quotient-is}
 
 -- ---- the parts of the call
@@ -67,10 +67,6 @@ pull limit n m e = bayesStein n (m .periods) (nth (m .mean)) (Σ n m) e (taken l
 
 pub exps-at : (P n : ℕ) (x : Matrix) (i : ℕ) → i < n → exps P n x i ≡ binaryExponent (largest P x i)
 exps-at P n x i l = nth-tab n (λ i. binaryExponent (largest P x i)) i (pos 0) l
-
-pub pow2-plus : (j : ℤ) → sign (pow2 j) ≡ false
-unfolding sign
-pow2-plus j = refl
 
 -- ---- each column over its power of two
 module _ {k n P : ℕ} {x y : Matrix} (small : k ≤ 80) (r : Returns k n P 982 1034 1114 x y) where
@@ -145,10 +141,7 @@ module _ {k n P : ℕ} {x y : Matrix} (small : k ≤ 80) (r : Returns k n P 982 
     size-range = rw (exps-at P n x i a) (column i a .moved (largest-moved r i a) (le-refl (mag A)) .range)
 
     size-plus : sign (sizeOf P n x i) ≡ false
-    size-plus =
-        let j = negℤ (binaryExponent A) in
-        let q = column i a .small in
-        rw (exps-at P n x i a) (ap sign (one-step A j (omega (arith, over-neg (binaryExponent A), q)) (omega (arith, under-neg (binaryExponent A), q))) ∙ sign-mul A (pow2 j) (sign-largest P x i ∙ sym (pow2-plus j)))
+    size-plus = sign-scaled A (negℤ (exps P n x i)) (sign-largest P x i)
 
     tolerance-range : Range 856 (2 ^ 908) (2 ^ 1042) (1e-10 ⊗ sizeOf P n x i)
     tolerance-range = moved-mul tenth-moved (still 942 1075 size-range) 856 908 1042 (lit≤ tt) (lit≤ tt) (lit≤ tt) (lit≤ tt) .range

@@ -21,6 +21,7 @@ pub mod Adjusted
 pub mod Ratio
 pub mod Common
 pub mod Tied
+pub mod Share
 pub mod Columns
 pub mod Pull
 pub mod BayesStein
@@ -32,3 +33,4 @@ pub mod Outcome
 pub mod Symmetric
 pub mod Limits
 pub mod Counts
+pub mod Intensities

@@ -3,15 +3,15 @@
 use mathlib.Core.Path.{_≡_, refl, sym, ap, ap₂, _∙_, subst}
 use mathlib.Core.Logic.{_⊎_, inl, inr}
 use Prim.Native.Nat.{ℕ, zero, suc, _+_, _-_, _*_, _^_, _≤_, _<_, zero-le}
-use native.Mathlib.Nat.{zero-mul, le-refl, le-trans, le-of-eq, lt-of-lt-of-le, lt-of-le-of-lt, lt-irrefl, zero-add, mul-comm, mul-le-mul, mul-le-mul-right, mul-pos, eq-zero-or-pos, le-of-mul-le-mul-right}
+use native.Mathlib.Nat.{zero-mul, le-refl, le-trans, le-of-eq, lt-irrefl, zero-add, mul-le-mul, mul-le-mul-right, eq-zero-or-pos, le-of-mul-le-mul-right}
 use native.Mathlib.Omega.{arith}
-use mathlib.Core.Bool.{Bool, true, false, cond}
+use mathlib.Core.Bool.{Bool, true, false}
 use mathlib.Core.List.{List}
-use lib.Dec.{T, lit≤, lit<}
+use lib.Dec.{T, lit≤}
 use lib.IntN.{ℤ, pos, negℤ, _+ℤ_, _-ℤ_}
 use lib.Pow.{pow-add, pow-pos, pow-mono}
-use lib.Ieee.{Float, nan, inf, fin, binary64, fits, le, lt, eq, add, mul, div, size, unlike}
-use lib.Ieee.Fits.{add-fits, mul-fits, div-fits, ofInt-fits}
+use lib.Ieee.{Float, nan, inf, fin, binary64, fits, le, lt, eq, add, mul, size}
+use lib.Ieee.Fits.{mul-fits, div-fits}
 use Rattle.leaves.specs.Numbers.{_⊕_, _⊖_, _⊗_, _⊘_, zero⁺, one, two, 1e-10, count, isFinite, max0}
 use Rattle.leaves.specs.Loops.{sumTo, nth}
 use Rattle.leaves.specs.Root.{sqrt}
@@ -20,12 +20,12 @@ use Rattle.leaves.specs.Shift.{shift}
 use Rattle.leaves.proofs.Loops.{tab-ext}
 use Rattle.leaves.proofs.Whole.{over, under, plus, minus, same, one-side, over-neg, under-neg}
 use Rattle.leaves.proofs.Shift.{shift-nan, isFinite-shift}
-use Rattle.leaves.proofs.Rounding.{near, near-most, held-pow}
-use Rattle.leaves.proofs.Units.{U, U-pos, U-is, Val, sign, mag, val-mag, mag-val, eq-zero, rounded-val, pow-under-Top, lt-val}
-use Rattle.leaves.proofs.Arithmetic.{mul-finite, div-rounded}
+use Rattle.leaves.proofs.Rounding.{near-most, held-pow}
+use Rattle.leaves.proofs.Units.{U, U-pos, U-is, sign, mag, val-mag, mag-val, eq-zero}
+use Rattle.leaves.proofs.Arithmetic.{mul-finite}
 use Rattle.leaves.proofs.Range.{Range, range-value, range-size}
 use Rattle.leaves.proofs.Operations.{Moved, still, moved-weaken, moved-add, moved-sub, moved-mul}
-use Rattle.leaves.proofs.Signs.{sign-mul, sign-div, sign-add, sign-count, sign-not-below}
+use Rattle.leaves.proofs.Signs.{sign-mul, sign-count}
 use Rattle.leaves.proofs.PowersOfTwo.{range-move, scaled-moves, shift-null, exponent-range, fits-move, scaled-copy}
 use Rattle.matrix.specs.Limits.{maxSweeps}
 use Rattle.matrix.specs.Matrix.{Matrix, at, amax, allFinite}
@@ -35,21 +35,22 @@ use Rattle.matrix.proofs.Turn.{Limit}
 use Rattle.matrix.proofs.Vectors.{Small, vectors-small}
 use Rattle.estimators.specs.Moments.{Moments, moments}
 use Rattle.estimators.specs.BayesStein.{singular, commonExponent, gathered, project, form, bayesStein, pulled}
-use borrow.Author.Tests.{le-ltb, ne-eqb}
-use Rattle.leaves.proofs.Zero.{no, not-above}
+use borrow.Author.Tests.{ne-eqb}
+use Rattle.leaves.proofs.Zero.{not-above}
 use Rattle.leaves.proofs.Laws.{room→fits}
 use Rattle.law.specs.Law.{AtLeast}
 use Rattle.law.proofs.Numbers.{nth-tab}
-use Rattle.law.proofs.Sizes.{plus-val, pow2-val, at-least, two-is, two-val}
-use Rattle.law.proofs.Sample.{Returns, count-moved}
+use Rattle.law.proofs.Sizes.{pow2-val, at-least}
+use Rattle.law.proofs.Sample.{Returns}
 use Rattle.law.proofs.Scaled.{scaled-range, lead}
 use Rattle.law.proofs.Shrinkage.{one-moved}
-use Rattle.law.proofs.Weighted.{sum-fits, plus-least}
+use Rattle.law.proofs.Weighted.{sum-fits}
 use Rattle.law.proofs.JamesStein.{unit-range, add-nan, nan-scaled, scaled-fits}
+use Rattle.law.proofs.Share.{sign-scaled, max0-plus, intensityOf, share-unit}
 use Rattle.law.proofs.Common.{LeZ, common-in, common-above, common-lower}
 use Rattle.law.proofs.Tied.{one-step, inf-scaled, tied}
 use Rattle.law.proofs.Ratio.{product-is, sum-finite, sum-most, ratio-most}
-use Rattle.law.proofs.Columns.{C, exponent-small, exps, found, grows, inverse-exponent, inverse-some, pow2-plus, pull, share-exponent, share-range, sizeOf, taken, Σ, μ-range}
+use Rattle.law.proofs.Columns.{C, exponent-small, exps, found, grows, inverse-exponent, inverse-some, pull, share-exponent, share-range, sizeOf, taken, Σ, μ-range}
 
 -- ---- the exponents of the two vectors
 abbrev Small' : ℕ → ℕ → ℤ → Type 0
@@ -132,54 +133,6 @@ pow2-fits : (j : ℤ) → over j ≤ 108 → under j ≤ 240 → T (fits binary6
 unfolding size
 pow2-fits j a b = room→fits false 0 j (record { odd = refl; digits = lit≤ tt; low = le-trans b (lit≤ tt); high = omega arith })
 
--- ---- the intensity: NaN, or from 0 to 1
--- x / (x + y), for a number x above 0 and any y without a minus sign
-share-unit : {g L B : ℕ} (x y : Float) → Range g L B x → sign x ≡ false → 0 < mag x → T (fits binary64 y) → sign y ≡ false → lt one (x ⊘ (x ⊕ y)) ≡ false
-share-unit x y r sx px ty sy = go (x ⊕ y) refl
-  where
-    zero-case : (s : Bool) → lt one (fin s zero (pos 0)) ≡ false
-    zero-case true = unfold lt in refl
-    zero-case false = unfold lt in refl
-
-    over-nan : (x : Float) → T (isFinite x) → x ⊘ nan ≡ nan
-    over-nan nan f = unfold isFinite in absurd f
-    over-nan (inf s) f = unfold isFinite in absurd f
-    over-nan (fin s k e) f = unfold div in refl
-
-    over-inf : (x : Float) (s : Bool) → T (isFinite x) → lt one (x ⊘ inf s) ≡ false
-    over-inf nan s f = unfold isFinite in absurd f
-    over-inf (inf r) s f = unfold isFinite in absurd f
-    over-inf (fin r k e) s f = let q : fin r k e ⊘ inf s ≡ fin (unlike r s) zero (pos 0) = unfold div in refl in ap (lt one) q ∙ zero-case (unlike r s)
-
-    go : (z : Float) → x ⊕ y ≡ z → lt one (x ⊘ (x ⊕ y)) ≡ false
-    go nan e = let q : lt one nan ≡ false = unfold lt in refl in ap (λ (z : Float). lt one (x ⊘ z)) e ∙ ap (lt one) (over-nan x (r .finite)) ∙ q
-    go (inf s) e = ap (λ (z : Float). lt one (x ⊘ z)) e ∙ over-inf x s (r .finite)
-    go (fin s k d) e =
-        let F : T (isFinite (x ⊕ y)) = subst (λ (z : Float). T (isFinite z)) (sym e) (unfold isFinite in tt) in
-        let q = plus-least x y (r .fit) ty sx sy F .0 in
-        let p : 0 < mag (x ⊕ y) = lt-of-lt-of-le px q in
-        let v = plus-val r sx in
-        let w : Val (x ⊕ y) false (mag (x ⊕ y)) = subst (λ (s : Bool). Val (x ⊕ y) s (mag (x ⊕ y))) (sign-add x y sx sy) (mag-val (x ⊕ y) (add-fits binary64 x y) F) in
-        let n = mag x * U in
-        let most : near n (mag (x ⊕ y)) ≤ 2 ^ 1074 = near-most n (mag (x ⊕ y)) (2 ^ 1074) p (held-pow 1074) (le-trans (mul-le-mul-right U q) (le-of-eq (mul-comm (mag (x ⊕ y)) U ∙ ap (λ (u : ℕ). u * mag (x ⊕ y)) U-is))) in
-        let z : Val (x ⊘ (x ⊕ y)) false (near n (mag (x ⊕ y))) = subst (λ (z : Float). Val z false (near n (mag (x ⊕ y)))) (sym (div-rounded x (x ⊕ y) false false (mag x) (mag (x ⊕ y)) v w p)) (rounded-val false n (mag (x ⊕ y)) p (lt-of-le-of-lt most (pow-under-Top 1074 (lit≤ tt)))) in
-        lt-val one (x ⊘ (x ⊕ y)) false false (2 ^ 1074) (near n (mag (x ⊕ y))) (unfold U in (refl, refl)) z ∙ le-ltb (2 ^ 1074) (near n (mag (x ⊕ y))) most
-
-max0-plus : (z : Float) → sign (max0 z) ≡ false
-unfolding max0
-max0-plus z = go (lt zero⁺ z) refl
-  where
-    plus-of : (z : Float) → lt zero⁺ z ≡ true → sign z ≡ false
-    plus-of nan e = unfold lt in absurd (subst T (sym e) tt)
-    plus-of (inf true) e = unfold lt in absurd (subst T (sym e) tt)
-    plus-of (inf false) e = unfold sign in refl
-    plus-of (fin true k d) e = no e (not-above k d)
-    plus-of (fin false k d) e = unfold sign in refl
-
-    go : (b : Bool) → lt zero⁺ z ≡ b → sign (cond b z zero⁺) ≡ false
-    go true e = plus-of z e
-    go false e = unfold sign in refl
-
 -- ---- what a call that does not refuse has seen
 pub record Passed (limit n : ℕ) (m : Moments) (s : ℕ → Float) : Type 0 where
   pub limited : limit ≤ maxSweeps
@@ -213,13 +166,21 @@ distance n d P x y b =
     let q = project n d (λ i. nth y i ⊖ ratio n d x y ⊗ nth x i) in
     P ⊗ pow2Scaled (max0 (form n d q q)) (b +ℤ b)
 
-abbrev intensityOf : ℕ → Float → Float
-intensityOf n z = (count n ⊕ two) ⊘ (count n ⊕ two ⊕ z)
-
 pull-is : (limit n : ℕ) (m : Moments) (e : ℕ → ℤ) → let d = taken limit n m in
     (pull limit n m e .intensity ≡ intensityOf n (distance n d (m .periods) (ones n m e) (means n m) (bOf n m))) × (pull limit n m e .target ≡ pow2Scaled (ratio n d (ones n m e) (means n m)) (bOf n m -ℤ aOf n m e))
 unfolding bayesStein
 pull-is limit n m e = (refl, refl)
+
+-- the intensity, not below 0 and not above 1
+distance-plus : (n : ℕ) (d : Decomposition) (P : Float) (x y : List Float) (b : ℤ) → sign P ≡ false → sign (distance n d P x y b) ≡ false
+distance-plus n d P x y b h =
+    let q = project n d (λ i. nth y i ⊖ ratio n d x y ⊗ nth x i) in
+    sign-mul P (pow2Scaled (max0 (form n d q q)) (b +ℤ b)) (h ∙ sym (sign-scaled (max0 (form n d q q)) (b +ℤ b) (max0-plus (form n d q q))))
+
+pub pull-unit : (limit n : ℕ) (m : Moments) (e : ℕ → ℤ) → n ≤ 32 → sign (m .periods) ≡ false → (lt (pull limit n m e .intensity) zero⁺ ≡ false) × (lt one (pull limit n m e .intensity) ≡ false)
+pull-unit limit n m e few h =
+    let d = taken limit n m in
+    rw (pull-is limit n m e .0) (share-unit n (distance n d (m .periods) (ones n m e) (means n m) (bOf n m)) few (mul-fits binary64 (m .periods) _) (distance-plus n d (m .periods) (ones n m e) (means n m) (bOf n m) h))
 
 -- the ratio of a decomposition that passes the test, for vectors below 2 in size
 ratio-small : (limit n : ℕ) (a : Matrix) → 0 < n → n ≤ 32 → limit ≤ maxSweeps → singular n (decompose limit n a) ≡ false → (x y : List Float)
@@ -363,40 +324,9 @@ module _ {k n P : ℕ} {x y : Matrix} (small : k ≤ 80) (r : Returns k n P 982 
   intensity-same = pull-is limit n m' f .0 ∙ ap (λ (o : List Float). intensityOf n (distance n d (m' .periods) o (means n m') (bOf n m'))) ones-same ∙ sym (pull-is limit n m' e .0)
 
   intensity-range : AtLeast 400 (pull limit n (found P n x) (exps P n x) .intensity) → (pull limit n (found P n x) (exps P n x) .intensity ≡ nan) ⊎ Range 622 (2 ^ 674) (2 ^ 1074) (pull limit n (found P n x) (exps P n x) .intensity)
-  intensity-range a = rw (pull-is limit n m' e .0) (unit-range 400 (lit≤ tt) (intensityOf n D) (div-fits binary64 X (X ⊕ D)) (subst (AtLeast 400) (pull-is limit n m' e .0) a)
-      (sign-not-below (intensityOf n D) (sign-div X (X ⊕ D) (X-plus ∙ sym (sign-add X D X-plus D-plus)))) (share-unit X D (X-moved .range) X-plus X-above (mul-fits binary64 (m' .periods) F₂) D-plus))
-    where
-      X : Float
-      X = count n ⊕ two
-
-      D : Float
-      D = distance n (taken limit n (found P n x)) (found P n x .periods) (ones n (found P n x) (exps P n x)) (means n (found P n x)) (bOf n (found P n x))
-
-      F₂ : Float
-      F₂ = let q = project n d (λ i. nth (means n m') i ⊖ R ⊗ nth (ones n m' e) i) in pow2Scaled (max0 (form n d q q)) (bOf n m' +ℤ bOf n m')
-
-      D-plus : sign D ≡ false
-      D-plus =
-          let q = project n d (λ i. nth (means n m') i ⊖ R ⊗ nth (ones n m' e) i) in
-          let z = max0 (form n d q q) in
-          let b = bOf n m' in
-          let j = b +ℤ b in
-          let c = b-small in
-          let s : sign (pow2Scaled z j) ≡ false = ap sign (one-step z j (omega (arith, plus b b, one-side j)) (omega (arith, plus b b, one-side j))) ∙ sign-mul z (pow2 j) (max0-plus (form n d q q) ∙ sym (pow2-plus j)) in
-          let t : sign (m' .periods) ≡ false = unfold moments in sign-count P in
-          sign-mul (m' .periods) (pow2Scaled z j) (t ∙ sym s)
-
-      X-plus : sign (count n ⊕ two) ≡ false
-      X-plus = sign-add (count n) two (sign-count n) (unfold sign in refl)
-
-      X-moved : Moved 0 1074 1074 1080 (count n ⊕ two) (count n ⊕ two)
-      X-moved =
-          let t : Moved 0 1074 1074 1079 two two = subst (λ (z : Float). Moved 0 1074 1074 1079 z z) two-is (moved-weaken 1074 1074 1079 (lit≤ tt) (lit≤ tt) (lit≤ tt) (count-moved 1 2 (lit≤ tt) (lit≤ tt))) in
-          moved-add (count-moved 5 n (lit≤ tt) (r .few)) t (lit≤ tt)
-
-      X-above : 0 < mag (count n ⊕ two)
-      X-above = lt-of-lt-of-le (subst (λ (a : ℕ). 0 < a) (sym (val-mag two false (2 * U) two-val .1)) (mul-pos (lit< {m = 0} {n = 2} tt) U-pos))
-          (plus-least (count n) two (ofInt-fits binary64 (pos n)) (unfold fits in tt) (sign-count n) (unfold sign in refl) (X-moved .range .finite) .1)
+  intensity-range a =
+      let u = pull-unit limit n m' e (r .few) (unfold moments in sign-count P) in
+      unit-range 400 (lit≤ tt) α (rw (pull-is limit n m' e .0) (div-fits binary64 (count n ⊕ two) _)) a (u .0) (u .1)
 
   -- ---- the means
   -- with a target that is finite, and with one that is not
