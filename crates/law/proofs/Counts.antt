@@ -1,5 +1,5 @@
--- Document 01, "Jacobi" and "How tight" c, of the counts that a call reports: sweeps ≤ limit and rotations ≤ sweeps × n(n - 1)/2. A matrix that passes the first test is taken as it is: at a limit
--- above 0 it is found with 0 sweeps, so that no given matrix is refused 13 before the first test. Assumes nothing.
+-- Document 01, "Jacobi" and "How tight" c, of the counts that a call reports: sweeps ≤ limit and rotations ≤ sweeps × n(n - 1)/2. A finite matrix that passes the first test is taken as it is: at a
+-- limit above 0 it is found, with 0 sweeps. Assumes nothing.
 use mathlib.Core.Path.{_≡_, refl, ap}
 use Prim.Native.Nat.{ℕ, zero, suc, _-_, _*_, _/_, _≤_, _<_, zero-le}
 use mathlib.Core.Bool.{Bool, true, false}

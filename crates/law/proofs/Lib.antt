@@ -34,3 +34,6 @@ pub mod Symmetric
 pub mod Limits
 pub mod Counts
 pub mod Intensities
+pub mod Zeros
+pub mod Diagonal
+pub mod NotDecomposed
