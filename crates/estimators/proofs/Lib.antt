@@ -6,6 +6,7 @@ pub mod Mirror
 pub mod Halves
 pub mod Firsts
 pub mod Entries
+pub mod Largest
 pub mod LedoitWolf
 pub mod OfGiven
 pub mod Exponents
