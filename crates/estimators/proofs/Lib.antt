@@ -8,6 +8,7 @@ pub mod Firsts
 pub mod Entries
 pub mod Largest
 pub mod LedoitWolf
+pub mod Centered
 pub mod OfGiven
 pub mod Exponents
 pub mod Gathered
