@@ -1,41 +1,35 @@
 -- The intensity of Ledoit and Wolf, from the centered returns that the code forms over two factors of a power of two: δ looks at T periods of n
 -- assets alone, and there they are the definition's. Assumes nothing.
-use mathlib.Core.Path.{_≡_, refl, sym, ap, _∙_}
+use mathlib.Core.Path.{_≡_, sym, ap, _∙_}
 use mathlib.Core.List.{List, []}
-use Prim.Native.Nat.{ℕ, _+_, _*_, _<_}
-use native.Mathlib.Omega.{arith}
-use mathlib.Core.Bool.{Bool, true, false}
+use Prim.Native.Nat.{ℕ, _<_}
+use mathlib.Core.Bool.{true, false}
 use lib.IntN.{ℤ, negℤ}
 use lib.ListN.{length}
-use lib.Ieee.{Float, binary64, lt, fits}
+use lib.Ieee.{Float, binary64, lt}
 use lib.Ieee.Fits.{sub-fits}
-use borrow.Author.Tests.{lt-leb}
 use Rattle.leaves.specs.Numbers.{_⊖_, _⊗_, _⊘_, count, zero⁺, clamp01}
-use Rattle.leaves.specs.Loops.{sumTo, amaxTo, tab, nth}
+use Rattle.leaves.specs.Loops.{amaxTo, tab, nth}
 use Rattle.leaves.specs.Scaling.{binaryExponent, pow2Scaled}
 use Rattle.leaves.proofs.Loops.{sum-ext, amax-ext, length-tab}
 use Rattle.matrix.specs.Matrix.{Matrix, at, rows, amax, trace, total, sumOver, every}
 use Rattle.matrix.proofs.Stored.{rows-at, rows-ext}
 use Rattle.estimators.specs.Sample.{mean, deviation, gram, scaled}
 use Rattle.estimators.specs.LedoitWolf.{apart, deviationOf, averageCorrelation, variation, covariation, targetVariation, error, distance, intensityOf, ledoitWolf}
-use Rattle.estimators.specs.Rows.{inUnit, formed, rowsOf, Symmetric}
+use Rattle.estimators.specs.Rows.{inUnit, formed, rowsOf, secondMoments, Symmetric}
 use Rattle.estimators.specs.declared.Target.{Target}
 use Rattle.estimators.specs.declared.Target.the-variants.{ConstantVariance, ConstantCorrelation}
-use Rattle.estimators.specs.declared.rows.Row.{Row}
 use Rattle.estimators.specs.declared.rows.Row.the-variants.{Deviation, Scaled}
 use Rattle.estimators.proofs.Stored.{tab-nth}
 use Rattle.estimators.proofs.Entries.{sum-over-ext, stored}
 use Rattle.estimators.proofs.Halves.{product-comm}
+use Rattle.estimators.proofs.Samples.{unit-none}
 use Rattle.estimators.proofs.Largest.{amax-columns}
 
 -- ---- of numbers that are alike in T periods of n assets
 
--- the second moments s
-abbrev pub moments : ℕ → ℕ → Matrix → List Float
-moments T n z = rows n n (λ i j. gram T z i j ⊘ count T)
-
 module _ (T n : ℕ) (z z′ : Matrix) (alike : (t i : ℕ) → t < T → i < n → z t i ≡ z′ t i) where
-  moments-ext : moments T n z ≡ moments T n z′
+  moments-ext : secondMoments T n z ≡ secondMoments T n z′
   unfolding gram
   moments-ext = rows-ext n n _ _ (λ i j hi hj. ap (λ (g : Float). g ⊘ count T) (sum-ext T _ _ (λ t ht k. alike t i ht hi k ⊗ alike t j ht hj k)))
 
@@ -71,20 +65,20 @@ module _ (T n : ℕ) (z z′ : Matrix) (alike : (t i : ℕ) → t < T → i < n 
 
 -- ---- δ, from any such numbers
 pub from-centered : (F : Target) (T n : ℕ) (x z : Matrix) (e : ℤ) {d : Float} → e ≡ binaryExponent (amax T n (deviation T x)) → ((t i : ℕ) → t < T → i < n → z t i ≡ pow2Scaled (deviation T x t i) (negℤ e))
-    → d ≡ intensityOf F T n z (at (moments T n z) n) → d ≡ ledoitWolf F T n x
+    → d ≡ intensityOf F T n z (at (secondMoments T n z) n) → d ≡ ledoitWolf F T n x
 unfolding ledoitWolf
 from-centered F T n x z e ee ez ed =
     let y : ℤ → Matrix = λ e. at (rows T n (scaled (λ i. e) (deviation T x))) n in
     let alike : (t i : ℕ) → t < T → i < n → z t i ≡ y e t i = λ t i ht hi. ez t i ht hi ∙ unfold scaled in sym (rows-at (scaled (λ i. e) (deviation T x)) T n t i ht hi) in
-    ed ∙ intensity-ext T n z (y e) alike (at (moments T n z) n) F ∙ ap (λ (s : List Float). intensityOf F T n (y e) (at s n)) (moments-ext T n z (y e) alike)
-    ∙ ap (λ (e : ℤ). intensityOf F T n (y e) (at (moments T n (y e)) n)) ee
+    ed ∙ intensity-ext T n z (y e) alike (at (secondMoments T n z) n) F ∙ ap (λ (s : List Float). intensityOf F T n (y e) (at s n)) (moments-ext T n z (y e) alike)
+    ∙ ap (λ (e : ℤ). intensityOf F T n (y e) (at (secondMoments T n (y e)) n)) ee
 
 -- products commute
 gram-symmetric : (T : ℕ) (z : Matrix) (i j : ℕ) → gram T z i j ≡ gram T z j i
 unfolding gram
 gram-symmetric T z i j = sum-ext T _ _ (λ t h. product-comm (z t i) (z t j))
 
-pub moments-symmetric : (T n : ℕ) (z : Matrix) {s : List Float} → s ≡ moments T n z → Symmetric n s
+pub moments-symmetric : (T n : ℕ) (z : Matrix) {s : List Float} → s ≡ secondMoments T n z → Symmetric n s
 moments-symmetric T n z e i j hi hj =
     stored n (λ i j. gram T z i j ⊘ count T) e i j hi hj ∙ ap (λ (g : Float). g ⊘ count T) (gram-symmetric T z i j)
     ∙ sym (stored n (λ i j. gram T z i j ⊘ count T) e j i hj hi)
@@ -94,8 +88,8 @@ moments-symmetric T n z e i j hi hj =
 module _ (T n : ℕ) (x : Matrix) {centers : List Float} (ec : centers ≡ tab n (mean T x)) where
   -- a return less its column's mean
   pub deviation-formed : (t i : ℕ) → i < n → rowsOf Deviation n [] centers [] x t i ≡ deviation T x t i
-  unfolding rowsOf inUnit formed deviation
-  deviation-formed t i h = rw (lt-leb (n + n) 0 (omega arith)) (ap (λ (c : Float). x t i ⊖ c) (ap (λ (l : List Float). nth l i) ec ∙ tab-nth (mean T x) n i h))
+  unfolding rowsOf formed deviation
+  deviation-formed t i h = λ k. unit-none n x t i h k ⊖ (ap (λ (l : List Float). nth l i) ec ∙ tab-nth (mean T x) n i h) k
 
   pub scaled-formed : (near far : Float) (k : ℤ) → ((y : Float) → y ⊗ near ⊗ far ≡ pow2Scaled y k) → (t i : ℕ) → i < n → rowsOf (Scaled near far) n [] centers [] x t i ≡ pow2Scaled (deviation T x t i) k
   unfolding rowsOf formed

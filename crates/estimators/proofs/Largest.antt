@@ -2,10 +2,10 @@
 -- height is its size in units, with an infinity above all others and NaN at 0; of sizes that are not NaN the height tells them apart and orders them.
 -- Assumes nothing.
 use mathlib.Core.Path.{_≡_, refl, sym, ap, _∙_, subst}
-use mathlib.Core.Bool.{Bool, true, false, not, cond}
+use mathlib.Core.Bool.{Bool, true, false, cond}
 use mathlib.Core.Logic.{inl, inr}
 use Prim.Native.Nat.{ℕ, zero, suc, _+_, _*_, _/_, _%_, _≤_, _<_, zero-le}
-use native.Mathlib.Nat.{le-refl, le-trans, le-antisymm, le-of-eq, le-of-lt, le-of-suc-le-suc, lt-irrefl, lt-trans, lt-suc-self, eq-or-lt-of-le, not-suc-le-zero, mod-lt, div-lt-iff-lt-mul}
+use native.Mathlib.Nat.{le-refl, le-trans, le-antisymm, le-of-eq, le-of-lt, le-of-suc-le-suc, lt-irrefl, eq-or-lt-of-le, not-suc-le-zero, mod-lt, div-lt-iff-lt-mul}
 use lib.Dec.{T, ltb}
 use lib.IntN.{ℤ, pos}
 use lib.Ieee.{Float, nan, inf, fin, binary64, lt, fits, isNan}
