@@ -8,7 +8,9 @@ pub mod Halves
 pub mod Firsts
 pub mod Opened
 pub mod Entries
+pub mod Largest
 pub mod LedoitWolf
+pub mod Centered
 pub mod OfGiven
 pub mod Exponents
 pub mod Factors
