@@ -15,6 +15,7 @@ mod tables;
 mod targets;
 mod validate;
 mod vectors;
+mod weighted;
 
 // The most periods of a return matrix: the definitions' `maxPeriods`.
 pub const MAX_PERIODS: usize = 4096;
