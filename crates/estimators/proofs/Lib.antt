@@ -2,6 +2,7 @@
 pub mod Stored
 pub mod Formed
 pub mod Sums
+pub mod Passes
 pub mod Mirror
 pub mod Halves
 pub mod Firsts

@@ -2,6 +2,7 @@
 mod adjusted;
 mod bayes_stein;
 mod checks;
+mod columns;
 mod forms;
 mod gather;
 mod given;
