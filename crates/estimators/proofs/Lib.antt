@@ -10,5 +10,7 @@ pub mod Entries
 pub mod LedoitWolf
 pub mod OfGiven
 pub mod Exponents
+pub mod Factors
+pub mod Samples
 pub mod Gathered
 pub mod Constant

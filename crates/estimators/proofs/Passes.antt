@@ -1,12 +1,12 @@
 -- Laws of what a loop over the periods makes of the columns: each period changes every column's number. Assumes nothing.
-use mathlib.Core.Path.{_≡_, refl, sym, ap, _∙_}
+use mathlib.Core.Path.{_≡_, sym, ap, _∙_}
 use mathlib.Core.List.{List}
-use Prim.Native.Nat.{ℕ, _+_, _<_}
+use Prim.Native.Nat.{ℕ, _+_}
 use lib.Ieee.{Float}
 use Rattle.leaves.specs.Numbers.{zero⁺}
 use Rattle.leaves.specs.Loops.{loop, tab, nth}
 use Rattle.leaves.proofs.Loops.{tab-ext, loop-more}
-use Rattle.estimators.proofs.Stored.{tab-nth, tab-then}
+use Rattle.estimators.proofs.Stored.{tab-then}
 
 -- a period, whose row y is stored as d: g changes column i's number by its number of the row
 pub period-passed : (g : Float → Float → Float) (m n : ℕ) (d out : List Float) (y : ℕ → Float) → m ≡ n → d ≡ tab n y → tab m (λ k. g (nth out k) (nth d k)) ≡ tab n (λ i. g (nth out i) (y i))
