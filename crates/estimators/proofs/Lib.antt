@@ -14,3 +14,5 @@ pub mod Factors
 pub mod Samples
 pub mod Gathered
 pub mod Constant
+pub mod Grams
+pub mod InUnits

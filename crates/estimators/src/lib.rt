@@ -1,5 +1,6 @@
 // The records of document 01 that cross a call.
 mod adjusted;
+mod base;
 mod bayes_stein;
 mod checks;
 mod columns;
@@ -14,6 +15,8 @@ mod opening;
 mod powers;
 mod rows;
 mod sample;
+mod scales;
+mod semi;
 mod tables;
 mod targets;
 mod validate;
