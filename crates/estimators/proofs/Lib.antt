@@ -17,3 +17,5 @@ pub mod Factors
 pub mod Samples
 pub mod Gathered
 pub mod Constant
+pub mod Grams
+pub mod InUnits
