@@ -7,6 +7,9 @@ pub mod Mirror
 pub mod Halves
 pub mod Firsts
 pub mod Opened
+pub mod Estimated
+pub mod LedoitWolfCall
+pub mod Shapes
 pub mod Entries
 pub mod Largest
 pub mod LedoitWolf
