@@ -11,3 +11,4 @@ pub mod OfGiven
 pub mod Exponents
 pub mod Gathered
 pub mod Constant
+pub mod Room
