@@ -5,6 +5,7 @@ pub mod Sums
 pub mod Mirror
 pub mod Halves
 pub mod Firsts
+pub mod Opened
 pub mod Entries
 pub mod LedoitWolf
 pub mod OfGiven
