@@ -2,6 +2,7 @@
 pub mod Stored
 pub mod Formed
 pub mod Sums
+pub mod Passes
 pub mod Mirror
 pub mod Halves
 pub mod Firsts
@@ -10,6 +11,7 @@ pub mod Entries
 pub mod LedoitWolf
 pub mod OfGiven
 pub mod Exponents
+pub mod Factors
 pub mod Gathered
 pub mod Constant
 pub mod Room
