@@ -12,6 +12,7 @@ pub mod LedoitWolf
 pub mod OfGiven
 pub mod Exponents
 pub mod Factors
+pub mod Samples
 pub mod Gathered
 pub mod Constant
 pub mod Room

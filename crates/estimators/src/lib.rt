@@ -13,6 +13,7 @@ mod moments;
 mod opening;
 mod powers;
 mod rows;
+mod sample;
 mod tables;
 mod targets;
 mod validate;
