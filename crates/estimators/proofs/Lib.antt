@@ -16,3 +16,5 @@ pub mod Samples
 pub mod Gathered
 pub mod Constant
 pub mod Room
+pub mod MomentsExt
+pub mod SteinCalls

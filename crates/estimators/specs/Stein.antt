@@ -3,18 +3,18 @@ use Prim.Native.Nat.{ℕ}
 use mathlib.Core.Bool.{not}
 use mathlib.Core.Path.{_≡_}
 use mathlib.Core.List.{List, [], _∷_, _++_}
-use lib.IntN.{ℤ, pos, _+ℤ_, _-ℤ_}
+use lib.IntN.{ℤ, pos, negℤ, _+ℤ_, _-ℤ_}
 use lib.ListN.{getD}
 use lib.Ieee.{Float}
 use Rattle.leaves.specs.Numbers.{_⊕_, _⊖_, _⊗_, _⊘_, count, two, max0}
 use Rattle.leaves.specs.Loops.{tab, nth}
-use Rattle.leaves.specs.Scaling.{pow2Scaled}
+use Rattle.leaves.specs.Scaling.{binaryExponent, pow2Scaled}
 use Rattle.matrix.specs.Matrix.{Matrix, at, rows, allFinite}
 use Rattle.matrix.specs.Jacobi.{Decomposition, decompose}
 use Rattle.estimators.specs.Refusals.{Check, when, whenSome, first}
-use Rattle.estimators.specs.Sample.{constantAsset}
+use Rattle.estimators.specs.Sample.{largest, scaled, constantAsset}
 use Rattle.estimators.specs.LedoitWolf.{deviationOf}
-use Rattle.estimators.specs.Moments.{Moments}
+use Rattle.estimators.specs.Moments.{Moments, moments}
 use Rattle.estimators.specs.JamesStein.{grandMean, unevenness, decomposeUneven, jamesSteinIntensity, towards}
 use Rattle.estimators.specs.BayesStein.{correlation, singular, project, form, Pull, bayesStein, pulled}
 use Rattle.estimators.specs.Calls.{Answered, answered, settle}
@@ -71,3 +71,10 @@ bayesSteinOf n limit m e size slice =
     let d = decompose limit n C in
     let w = bayesStein n (m .periods) μ Σ e d in
     settle (first (byCorrelations n size Σ C ++ byDecomposition n d)) slice (answered (Shrunk (w .intensity) (w .target) (d .sweeps) (d .rotations)) (tab n (λ i. pulled w (μ i) (e i))))
+
+-- the same of the returns x: each asset's over a power of two near its largest
+abbrev pub bayesSteinFrom : ℕ → ℕ → ℕ → Matrix → List Float → Answered
+bayesSteinFrom n T limit x slice =
+    let exponents = tab n (λ i. binaryExponent (largest T x i)) in
+    let e : ℕ → ℤ = λ i. getD exponents i (pos 0) in
+    bayesSteinOf n limit (moments T n (scaled e x)) e (λ i. pow2Scaled (largest T x i) (negℤ (e i))) slice

@@ -3,6 +3,7 @@ mod adjusted;
 mod bayes_stein;
 mod checks;
 mod columns;
+mod expected_returns;
 mod forms;
 mod gather;
 mod given;
