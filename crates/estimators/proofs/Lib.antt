@@ -22,3 +22,6 @@ pub mod Gathered
 pub mod Constant
 pub mod Grams
 pub mod InUnits
+pub mod Room
+pub mod MomentsExt
+pub mod SteinCalls

@@ -12,8 +12,8 @@ use Rattle.estimators.specs.Refusals.{Check, passes, refuses, first}
 use Rattle.estimators.specs.Weighted.{logDecay, weights, weightedMean}
 use Rattle.estimators.specs.Order.{opening, badHalfLife, weightedOrder}
 use Rattle.estimators.specs.Opening.{byShape, byReturns, Shaped}
-use Rattle.estimators.specs.Calls.{answered, settle, exponentiallyWeightedMean, adjustedCovariance}
-use Rattle.estimators.specs.Order.{ofGiven, ofSettings, adjustedOrder}
+use Rattle.estimators.specs.Calls.{answered, settle, exponentiallyWeightedMean, jamesSteinMean, bayesSteinMean, adjustedCovariance}
+use Rattle.estimators.specs.Order.{ofGiven, ofSettings, adjustedOrder, jamesSteinOrder, bayesSteinOrder}
 use Rattle.estimators.specs.Adjusted.{base, intensity, adjusted}
 use Rattle.matrix.specs.Matrix.{rows}
 use Rattle.estimators.specs.Estimated.{averagedOf, decompositionBy, ofGivenBy}
@@ -54,6 +54,25 @@ module _ (r : List Float) (n T : ℕ) (slice : List Float) where
       unfolding exponentiallyWeightedMean weightedOrder settle
       weighted-good e el′ eo′ =
           ap (answered Mean) (eo′ ∙ ap (λ (l : Float). tab n (weightedMean T (weights T l) (at r n))) el′) ∙ shaped r n T n slice last Mean numbers shape long (sym e ∙ checked)
+
+  module _ (limit : ℕ) where
+    pub james-refused : {c : Refusal} → refuses c ≡ first (byShape (length r) n T n (length slice)) → answered (Refused c) slice ≡ jamesSteinMean r n T limit slice
+    unfolding jamesSteinMean jamesSteinOrder
+    james-refused e = shape-refuses r n T n slice _ _ _ (sym e)
+
+    pub james-fits : {b : Answer} {p : List Float} → Shaped (length r) n T → n ≤ length slice → answered b p ≡ jamesSteinMean r n T limit (take n slice)
+        → answered b (p ++ drop n slice) ≡ jamesSteinMean r n T limit slice
+    unfolding jamesSteinMean jamesSteinOrder
+    james-fits shape fits e = shape-fits r n T n slice _ _ _ shape fits e
+
+    pub bayes-refused : {c : Refusal} → refuses c ≡ first (byShape (length r) n T n (length slice)) → answered (Refused c) slice ≡ bayesSteinMean r n T limit slice
+    unfolding bayesSteinMean bayesSteinOrder
+    bayes-refused e = shape-refuses r n T n slice _ _ _ (sym e)
+
+    pub bayes-fits : {b : Answer} {p : List Float} → Shaped (length r) n T → n ≤ length slice → answered b p ≡ bayesSteinMean r n T limit (take n slice)
+        → answered b (p ++ drop n slice) ≡ bayesSteinMean r n T limit slice
+    unfolding bayesSteinMean bayesSteinOrder
+    bayes-fits shape fits e = shape-fits r n T n slice _ _ _ shape fits e
 
   module _ (s : Settings) (given : List Float) (side : ℕ) where
     abbrev δ : Float

@@ -68,3 +68,37 @@ pub fn exponentially_weighted_mean(
     }
     expected_returns::exponentially_weighted_mean(returns, n, periods, half_life, &mut answer[..n])
 }
+
+// Each asset's mean, moved towards their average: n numbers.
+pub fn james_stein_mean(
+    returns: &[f64],
+    n: usize,
+    periods: usize,
+    limit: usize,
+    answer: &mut [f64],
+) -> Answer
+    ensures { λ r. ⌜ answered r (now (answer .exit)) ≡ Calls.jamesSteinMean (now (returns .entry)) n periods limit (now (answer .entry)) ⌝ }
+{
+    let shape = check_shape(returns.len(), n, periods, Filled::Vector, answer.len());
+    if let Check::Refuses(refusal) = shape {
+        return Answer::Refused(refusal);
+    }
+    expected_returns::james_stein_mean(returns, n, periods, limit, &mut answer[..n])
+}
+
+// Each asset's mean, moved towards the mean of the portfolio of least variance: n numbers.
+pub fn bayes_stein_mean(
+    returns: &[f64],
+    n: usize,
+    periods: usize,
+    limit: usize,
+    answer: &mut [f64],
+) -> Answer
+    ensures { λ r. ⌜ answered r (now (answer .exit)) ≡ Calls.bayesSteinMean (now (returns .entry)) n periods limit (now (answer .entry)) ⌝ }
+{
+    let shape = check_shape(returns.len(), n, periods, Filled::Vector, answer.len());
+    if let Check::Refuses(refusal) = shape {
+        return Answer::Refused(refusal);
+    }
+    expected_returns::bayes_stein_mean(returns, n, periods, limit, &mut answer[..n])
+}
