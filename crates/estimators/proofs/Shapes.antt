@@ -1,12 +1,11 @@
 -- The calls that fill a slice: where the shape is refused, and what a call answers in a longer slice than its answer needs, by what it answers in
 -- one of just that length. Assumes nothing.
 use mathlib.Core.Path.{_≡_, sym, ap, _∙_}
-use mathlib.Core.Bool.{not}
 use mathlib.Core.List.{List, [], _∷_, _++_}
 use Prim.Native.Nat.{ℕ, _*_, _≤_}
 use lib.ListN.{length, take, drop}
 use lib.Ieee.{Float}
-use Rattle.leaves.specs.Loops.{tab, nth}
+use Rattle.leaves.specs.Loops.{tab}
 use Rattle.matrix.specs.Matrix.{at}
 use Rattle.estimators.specs.Refusals.{Check, passes, refuses, first}
 use Rattle.estimators.specs.Weighted.{logDecay, weights, weightedMean}
@@ -14,13 +13,10 @@ use Rattle.estimators.specs.Order.{opening, badHalfLife, weightedOrder}
 use Rattle.estimators.specs.Opening.{byShape, byReturns, Shaped}
 use Rattle.estimators.specs.Calls.{answered, settle, exponentiallyWeightedMean, jamesSteinMean, bayesSteinMean, adjustedCovariance}
 use Rattle.estimators.specs.Order.{ofGiven, ofSettings, adjustedOrder, jamesSteinOrder, bayesSteinOrder}
-use Rattle.estimators.specs.Adjusted.{base, intensity, adjusted}
-use Rattle.matrix.specs.Matrix.{rows}
-use Rattle.estimators.specs.Estimated.{averagedOf, decompositionBy, ofGivenBy}
 use Rattle.estimators.specs.declared.Settings.{Settings}
 use Rattle.estimators.specs.declared.Refusal.{Refusal}
 use Rattle.estimators.specs.declared.Answer.{Answer}
-use Rattle.estimators.specs.declared.Answer.the-variants.{Refused, Mean, Covariance}
+use Rattle.estimators.specs.declared.Answer.the-variants.{Refused, Mean}
 use Rattle.estimators.proofs.Firsts.{first-front}
 use Rattle.estimators.proofs.Opened.{shape-refuses, shape-fits, shaped}
 
@@ -75,26 +71,11 @@ module _ (r : List Float) (n T : ℕ) (slice : List Float) where
     bayes-fits shape fits e = shape-fits r n T n slice _ _ _ shape fits e
 
   module _ (s : Settings) (given : List Float) (side : ℕ) where
-    abbrev δ : Float
-    δ = intensity (s .shrinkage) T n (at r n)
-
-    abbrev b : List Float
-    b = rows n n (base (s .estimate) T (at r n) (at (averagedOf given side) side))
-
-    abbrev a : List Float
-    a = rows n n (adjusted s δ n (at b n))
-
-    abbrev rest : List Check
-    rest = ofGivenBy s given side ++ ofSettings s δ T n side (at r n) (at b n) (at a n)
-
-    abbrev answer : Answer
-    answer = Covariance δ (decompositionBy s given side .sweeps) (decompositionBy s given side .rotations)
-
     pub adjusted-refused : {c : Refusal} → refuses c ≡ first (byShape (length r) n T (n * n) (length slice)) → answered (Refused c) slice ≡ adjustedCovariance r n T s given side slice
     unfolding adjustedCovariance adjustedOrder opening ofSettings ofGiven
-    adjusted-refused e = shape-refuses r n T (n * n) slice rest answer (nth a) (sym e)
+    adjusted-refused e = shape-refuses r n T (n * n) slice _ _ _ (sym e)
 
     pub adjusted-fits : {b : Answer} {p : List Float} → Shaped (length r) n T → n * n ≤ length slice → answered b p ≡ adjustedCovariance r n T s given side (take (n * n) slice)
         → answered b (p ++ drop (n * n) slice) ≡ adjustedCovariance r n T s given side slice
     unfolding adjustedCovariance adjustedOrder opening ofSettings ofGiven
-    adjusted-fits shape fits e = shape-fits r n T (n * n) slice rest answer (nth a) shape fits e
+    adjusted-fits shape fits e = shape-fits r n T (n * n) slice _ _ _ shape fits e
