@@ -6,9 +6,7 @@ ghost use lib.IntN.{pos};
 ghost use lib.Ieee.{binary64, ofInt};
 ghost use Rattle.leaves.specs.Root as Root;
 ghost use Rattle.leaves.specs.Scaling as Scaling;
-use crate::parts::HALVES;
-use crate::parts::ROOTS;
-use crate::parts::SQUARES;
+use crate::parts;
 use crate::scaling::binary_exponent;
 use crate::scaling::pow2_scaled;
 
@@ -18,17 +16,18 @@ use crate::scaling::pow2_scaled;
 fn near_root(x: f64) -> f64 {
     if x > 0.0 {
         let bits = f64::to_bits(x);
-        let i = (bits / 0x4000_0000_0000 % 128) as usize;
+        let i = bits / 0x4000_0000_0000 % 128;
         let z = f64::from_bits(bits % 0x20_0000_0000_0000 + 0x4180_0000_0000_0000);
         let power = bits / 0x20_0000_0000_0000 % 1024 + 0x1f3;
         let scale = f64::from_bits(power * 0x10_0000_0000_0000);
-        let y = HALVES[i];
-        let d = z - SQUARES[i];
+        let r = f64::from_bits(parts::root(i));
+        let y = f64::from_bits(parts::half_reciprocal(i));
+        let d = z - f64::from_bits(parts::square(i));
         let v = d * (y * y);
         let u = v * v;
         let low = (1.0 - v) + u * (2.0 - 5.0 * v);
         let high = (14.0 - 42.0 * v) + 132.0 * u;
-        return ROOTS[i] * scale + d * (y * scale) * (low + (u * u) * high);
+        return r * scale + d * (y * scale) * (low + (u * u) * high);
     }
     x
 }

@@ -1,4 +1,4 @@
--- `leaves::root::near_root` promises nothing: its numbers are read from patterns that are no NaN's, and its table within its length.
+-- `leaves::root::near_root` promises nothing; each pattern that it reads is a number's.
 use native.Mathlib.Omega.{arith}
 use lib.Ieee.{ofBits}
 use borrow.Author.Needs.{needs}
@@ -25,23 +25,23 @@ mul-scale c = search needs
 float-from-bits-scale : tie.Need-float-from-bits-scale
 float-from-bits-scale c = pattern-number _ (omega arith)
 
-mul-y : tie.Need-mul-y
-mul-y c = search needs
+root-requires : tie.Need-root-requires
+root-requires c κs = search needs
 
-array-read-y : tie.Need-array-read-y
-array-read-y c = search needs
+float-from-bits-r : tie.Need-float-from-bits-r
+float-from-bits-r c = pattern-number _ (c .root .ensures)
 
-mul-d : tie.Need-mul-d
-mul-d c = search needs
+half-reciprocal-requires : tie.Need-half-reciprocal-requires
+half-reciprocal-requires c κs = search needs
 
-array-read-d : tie.Need-array-read-d
-array-read-d c = search needs
+float-from-bits-y : tie.Need-float-from-bits-y
+float-from-bits-y c = pattern-number _ (c .half-reciprocal .ensures)
 
-mul-result : tie.Need-mul-result
-mul-result c = search needs
+square-requires : tie.Need-square-requires
+square-requires c κs = search needs
 
-array-read-result : tie.Need-array-read-result
-array-read-result c = search needs
+float-from-bits-d : tie.Need-float-from-bits-d
+float-from-bits-d c = pattern-number _ (c .square .ensures)
 
 returns : tie.Need-returns
 returns c = search needs
@@ -59,11 +59,11 @@ near-root-spec =
     add-power
     mul-scale
     float-from-bits-scale
-    mul-y
-    array-read-y
-    mul-d
-    array-read-d
-    mul-result
-    array-read-result
+    root-requires
+    float-from-bits-r
+    half-reciprocal-requires
+    float-from-bits-y
+    square-requires
+    float-from-bits-d
     returns
     returns-2)
