@@ -13,11 +13,13 @@ use crate::scaling::pow2_scaled;
 // About sqrt(x), for a normal x above 0: nearly always the nearest float. Nothing is promised.
 // With x = z * 4^k and the root r of a near square, z = r^2 + d, the root of x is 2^k times
 // r + d / (2 r) * (1 - v + 2 v^2 - 5 v^3 ..), where v = d / (2 r)^2 and the numbers are Catalan's.
+// Near 1 every other root lies next to the middle of two floats: there r is 1, and d and d / 2 are exact.
 fn near_root(x: f64) -> f64 {
     if x > 0.0 {
         let bits = f64::to_bits(x);
-        let i = bits / 0x4000_0000_0000 % 128;
-        let z = f64::from_bits(bits % 0x20_0000_0000_0000 + 0x4180_0000_0000_0000);
+        let digits = bits % 0x20_0000_0000_0000;
+        let i = (digits + 0x2000_0000_0000) / 0x4000_0000_0000;
+        let z = f64::from_bits(digits + 0x4180_0000_0000_0000);
         let power = bits / 0x20_0000_0000_0000 % 1024 + 0x1f3;
         let scale = f64::from_bits(power * 0x10_0000_0000_0000);
         let r = f64::from_bits(parts::root(i));

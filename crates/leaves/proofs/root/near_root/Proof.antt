@@ -10,6 +10,9 @@ float-to-bits-bits : tie.Need-float-to-bits-bits
 unfolding ofBits
 float-to-bits-bits c = above-number (c .before .args .x) (c .if1 .taken)
 
+add-i : tie.Need-add-i
+add-i c = search needs
+
 add-z : tie.Need-add-z
 add-z c = search needs
 
@@ -54,6 +57,7 @@ near-root-spec =
     tie.close
     (tie.spec
     float-to-bits-bits
+    add-i
     add-z
     float-from-bits-z
     add-power
