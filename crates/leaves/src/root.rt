@@ -28,7 +28,7 @@ fn near_root(x: f64) -> f64 {
         let v = d * (y * y);
         let u = v * v;
         let low = (1.0 - v) + u * (2.0 - 5.0 * v);
-        let high = (14.0 - 42.0 * v) + 132.0 * u;
+        let high = 132.0 * u - (42.0 * v - 14.0);
         return r * scale + d * (y * scale) * (low + (u * u) * high);
     }
     x
