@@ -2,23 +2,22 @@
 -- that part p from its neighbours, in units of 4; so 8 p is twice that root, rounded to 53 digits (`nearest-is`). Assumes nothing.
 use mathlib.Core.Path.{_≡_, refl, sym, ap, _∙_, subst}
 use mathlib.Core.Logic.{⊎-elim}
-use Prim.Native.Nat.{ℕ, _+_, _*_, _-_, _^_, _≤_, _<_}
-use native.Mathlib.Nat.{le-antisymm, le-of-lt, lt-irrefl, lt-of-lt-of-le, lt-of-le-of-lt, mul-pos, mul-le-mul-right}
+use Prim.Native.Nat.{ℕ, _+_, _*_, _-_, _%_, _≤_, _<_}
+use native.Mathlib.Nat.{le-antisymm, lt-irrefl}
 use native.Mathlib.Omega.{arith}
-use mathlib.Core.Bool.{Bool, Bool·beq, true, false, cond, _||_}
-use lib.Dec.{T, eqb, lit<}
+use mathlib.Core.Bool.{Bool, Bool·beq, true, false, not, cond, _||_}
+use lib.Dec.{T, eqb}
 use lib.IntN.{pos}
-use borrow.Author.Tests.{eqb-true}
+use borrow.Author.Tests.{eqb-true, ltb-true, le-ltb}
 use mir.Facts.{and-yes, or-yes, eqb-yes}
-use lib.Ieee.{Float, nan, inf, fin, binary64, fits, eq, round, ofInt, units}
-use lib.Ieee.Exact.{units-val}
-use lib.Ieee.Fits.{round-fits}
-use Rattle.leaves.specs.Numbers.{isFinite}
+use lib.Ieee.{Float, nan, inf, fin, binary64, fits, lt, eq, round, ofInt, units, isNan, nanBits}
+use lib.Ieee.Bits.{nanBits-above}
+use Rattle.leaves.specs.Numbers.{zero⁺, isFinite}
 use Rattle.leaves.specs.Root.{root, sticky}
 use Rattle.leaves.proofs.Whole.{le-or-lt}
-use Rattle.leaves.proofs.Zero.{no}
+use Rattle.leaves.proofs.Zero.{no, not-above}
 use Rattle.leaves.proofs.Roots.{Whole, root-below, root-over, root-under, square-plus}
-use Rattle.leaves.proofs.Units.{U, Val, sign, mag, mag-val, eq-val, val-unique}
+use Rattle.leaves.proofs.Units.{Val, sign, mag, mag-val, zero-val, lt-val, eq-val, val-unique}
 use Rattle.leaves.proofs.Sqrts.{sticky-in}
 use Rattle.leaves.proofs.SqrtLaws.{eighth, eighth-error, round-56}
 
@@ -84,9 +83,27 @@ module _ (n p rest : ℕ) (small : n < 18014398509481984) (large : 4503599627370
       let i = sticky-in N (omega (arith, large)) (omega (arith, small)) in
       eights p digits ∙ ap (λ (q : ℕ). units binary64 false q 1077) (sym (eighth-is (sticky N) (near .0) (near .1))) ∙ sym (round-56 (sticky N) (i .0) (i .1))
 
--- ---- a float that equals 8 p is 8 p
-pub same-float : (p : ℕ) → (4503599627370496 ≤ p) × (p < 9007199254740992) → (y : Float) → T (fits binary64 y) → eq (ofInt binary64 (pos (8 * p))) y ≡ true → y ≡ ofInt binary64 (pos (8 * p))
-unfolding ofInt U
-same-float p digits y f h =
-    equal-is (round binary64 false (8 * p) 1) y (p * 2 ^ 1077) (round-fits binary64 false (8 * p) 1) f (mul-pos (lt-of-lt-of-le (lit< tt) (digits .0)) (lit< tt))
-    (rw (eights p digits) (units-val binary64 false p 1077 (lt-of-le-of-lt (mul-le-mul-right (2 ^ 1077) (le-of-lt (digits .1))) (lit< tt)))) h
+-- ---- a float above 0 that equals another is the same
+pub equal-above : (x y : Float) → T (fits binary64 x) → T (fits binary64 y) → lt zero⁺ x ≡ true → eq x y ≡ true → y ≡ x
+unfolding lt eq isFinite sign
+equal-above nan y p q l h = no l refl
+equal-above (inf true) y p q l h = no l refl
+equal-above (inf false) nan p q l h = no h refl
+equal-above (inf false) (inf true) p q l h = no h refl
+equal-above (inf false) (inf false) p q l h = refl
+equal-above (inf false) (fin t n d) p q l h = no h refl
+equal-above (fin true m e) y p q l h = no l (not-above m e)
+equal-above (fin false m e) y p q l h =
+    let x = fin false m e in
+    let v : Val x false (mag x) = mag-val x p tt in
+    equal-is x y (mag x) p q (ltb-true 0 (mag x) (sym (lt-val zero⁺ x false false 0 (mag x) (zero-val false (pos 0)) v) ∙ l)) v h
+
+pub above-number : (x : Float) → lt zero⁺ x ≡ true → T (not (isNan x))
+unfolding lt isNan
+above-number nan h = no h refl
+above-number (inf s) h = tt
+above-number (fin s m e) h = tt
+
+-- ---- a pattern whose exponent's field is not the largest is a number's
+pub pattern-number : (n : ℕ) → n < 9218868437227405312 → T (not (nanBits binary64 n))
+pattern-number n h = rw (nanBits-above binary64 n, le-ltb (2047 * 4503599627370496) (n % 9223372036854775808) (omega arith)) tt

@@ -5,38 +5,33 @@ ghost use Prim.Native.Nat.{_+_, _≤_, _<_, _*_, _^_};
 ghost use lib.IntN.{pos};
 ghost use lib.Ieee.{binary64, ofInt};
 ghost use Rattle.leaves.specs.Root as Root;
+ghost use Rattle.leaves.specs.Scaling as Scaling;
+use crate::parts;
 use crate::scaling::binary_exponent;
 use crate::scaling::pow2_scaled;
 
-// About 1 / sqrt(z), for z from 1 to 4: a polynomial, and Newton's iteration twice.
-fn near_reciprocal(z: f64) -> f64 {
-    let w = z * z;
-    let h = 0.5 * z;
-    let y = (1.905758 - 1.514922 * z)
-        + w * ((0.825426 - 0.255779 * z) + w * (0.041406 - 0.002718 * z));
-    let y1 = y * (1.5 - h * y * y);
-    y1 * (1.5 - h * y1 * y1)
-}
-
-// About 2^55 * sqrt(z), for z from 1 to 4: nearly always the nearest float. What is left of z is
-// taken with the root in two parts, so that the products are exact. Nothing is promised.
-fn near_root(z: f64) -> f64 {
-    let y = near_reciprocal(z);
-    let s = z * y;
-    let high = (s + 134217728.0) - 134217728.0;
-    let low = s - high;
-    let rest = ((z - high * high) - 2.0 * (high * low)) - low * low;
-    (s + rest * (0.5 * y)) * 36028797018963968.0
-}
-
-// The whole part of an x from 0 to 2^64.
-fn whole_part(x: f64) -> u64 {
-    if -1.0 < x {
-        if x < 18446744073709551616.0 {
-            return std::num::truncating_f64_to_u64(x);
-        }
+// About sqrt(x), for a normal x above 0: nearly always the nearest float. Nothing is promised.
+// With x = z * 4^k and the root r of a near square, z = r^2 + d, the root of x is 2^k times
+// r + d / (2 r) * (1 - v + 2 v^2 - 5 v^3 ..), where v = d / (2 r)^2 and the numbers are Catalan's.
+// Near 1 every other root lies next to the middle of two floats: there r is 1, and d and d / 2 are exact.
+fn near_root(x: f64) -> f64 {
+    if x > 0.0 {
+        let bits = f64::to_bits(x);
+        let digits = bits % 0x20_0000_0000_0000;
+        let i = (digits + 0x2000_0000_0000) / 0x4000_0000_0000;
+        let z = f64::from_bits(digits + 0x4180_0000_0000_0000);
+        let power = bits / 0x20_0000_0000_0000 % 1024 + 0x1f3;
+        let scale = f64::from_bits(power * 0x10_0000_0000_0000);
+        let r = f64::from_bits(parts::root(i));
+        let y = f64::from_bits(parts::half_reciprocal(i));
+        let d = z - f64::from_bits(parts::square(i));
+        let v = d * (y * y);
+        let u = v * v;
+        let low = (1.0 - v) + u * (2.0 - 5.0 * v);
+        let high = 132.0 * u - (42.0 * v - 14.0);
+        return r * scale + d * (y * scale) * (low + (u * u) * high);
     }
-    0
+    x
 }
 
 // What n * 2^56 has over a square, if it is known.
@@ -99,20 +94,21 @@ fn is_nearest(n: u64, p: u64) -> bool
     false
 }
 
-// 2 * sqrt(n * 2^56), rounded, for x = n: as it is guessed, if that is the nearest float, else digit
+// 2 * sqrt(n * 2^56), rounded, times 2^k: as it is guessed, if that is the nearest float, else digit
 // by digit.
-fn rounded_root(x: f64, n: u64) -> f64
+fn rounded_root(guess: f64, n: u64, k: i32) -> f64
     requires { ⌜ (2 ^ 52 ≤ n) × (n < 2 ^ 54) ⌝ }
-    ensures { λ r. ⌜ r ≡ ofInt binary64 (pos (Root.sticky (n * 2 ^ 56))) ⌝ }
+    ensures { λ r. ⌜ r ≡ Scaling.pow2Scaled (ofInt binary64 (pos (Root.sticky (n * 2 ^ 56)))) k ⌝ }
 {
-    let d = near_root(x * 2.220446049250313e-16);
-    let p = whole_part(d * 0.125) % 0x20_0000_0000_0000;
-    if std::num::nearest_u64_to_f64(8 * p) == d {
+    if guess > 0.0 {
+        let p = f64::to_bits(guess) % 0x10_0000_0000_0000 + 0x10_0000_0000_0000;
         if is_nearest(n, p) {
-            return d;
+            if guess == pow2_scaled(std::num::nearest_u64_to_f64(8 * p), k) {
+                return guess;
+            }
         }
     }
-    std::num::nearest_u64_to_f64(root_digits(n))
+    pow2_scaled(std::num::nearest_u64_to_f64(root_digits(n)), k)
 }
 
 // Twice the whole part of the root of n * 2^56, and 1 more where that is no square. Each turn brings
@@ -154,7 +150,7 @@ pub fn sqrt(x: f64) -> f64
             let h = binary_exponent(x) >> 1;
             let y = pow2_scaled(x, 52 - h - h);
             let n = std::num::truncating_f64_to_u64(y);
-            return pow2_scaled(rounded_root(y, n), h - 55);
+            return rounded_root(near_root(x), n, h - 55);
         }
     }
     x

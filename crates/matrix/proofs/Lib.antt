@@ -13,5 +13,9 @@ pub mod Squares
 pub mod Angle
 pub mod Turn
 pub mod Rows
+pub mod Cells
 pub mod Vectors
 pub mod Identity
+-- one rotation, and V stored column by column
+pub mod Rotated
+pub mod Flip

@@ -29,55 +29,11 @@ use Rattle.matrix.proofs.Counts.{pairs, pairs-most, sweeps-keep}
 use Rattle.matrix.proofs.Sweeps.{begun, decompose-reached, sweeps-bound}
 use Rattle.matrix.proofs.Angle.{one-val, U-big, Angle, angle}
 use Rattle.matrix.proofs.Turn.{Limit, Tame}
+use Rattle.matrix.proofs.Cells.{length-one, this-row, other-row}
 use Rattle.matrix.proofs.Rows.{sum, sum-alone, Good, mostTurns, turnedRow, good-same, good-small, good-still, good-turned}
 
--- ---- a list with two numbers replaced
-two-set : (l : List Float) (a b k : ℕ) (x y : Float) → a < length l → b < length l → a ≢ b → getD (set (set l a x) b y) k nan ≡ cond (eqb k a) x (cond (eqb k b) y (getD l k nan))
-two-set l a b k x y ha hb d = go (eqb k a) (eqb k b) (eqb-true k a) (eqb-false k a) (eqb-true k b) (eqb-false k b)
-  where
-    go : (u v : Bool) → (u ≡ true → k ≡ a) → (u ≡ false → k ≢ a) → (v ≡ true → k ≡ b) → (v ≡ false → k ≢ b) → getD (set (set l a x) b y) k nan ≡ cond u x (cond v y (getD l k nan))
-    go true v ea na eb nb = getD-set-other (set l a x) b k y nan (λ e. d (sym (ea refl) ∙ e)) ∙ ap (λ (k : ℕ). getD (set l a x) k nan) (ea refl) ∙ getD-set-same l a x nan ha
-    go false true ea na eb nb = ap (λ (k : ℕ). getD (set (set l a x) b y) k nan) (eb refl) ∙ getD-set-same (set l a x) b y nan (rw length-set hb)
-    go false false ea na eb nb = getD-set-other (set l a x) b k y nan (nb refl) ∙ getD-set-other l a k x nan (na refl)
-
--- ---- columns p and q turned: what stands in row k and column j
+-- ---- columns p and q turned
 module _ (c s : Float) (n p q : ℕ) (pq : p < q) (qn : q < n) where
-  pn : p < n
-  pn = lt-trans pq qn
-
-  -- two cells are one only if their rows and columns are
-  same-row : (i k j m : ℕ) → j < n → m < n → k * n + j ≡ i * n + m → k ≡ i
-  same-row i k j m hj hm e = sym (cell-row k n j hj) ∙ ap (λ (a : ℕ). a / n) e ∙ cell-row i n m hm
-
-  in-row : (i j m : ℕ) → eqb (i * n + j) (i * n + m) ≡ eqb j m
-  in-row i j m = go (eqb j m) (eqb-true j m) (eqb-false j m)
-    where
-      go : (b : Bool) → (b ≡ true → j ≡ m) → (b ≡ false → j ≢ m) → eqb (i * n + j) (i * n + m) ≡ b
-      go true t f = eq-eqb (i * n + j) (i * n + m) (ap (λ (j : ℕ). i * n + j) (t refl))
-      go false t f = ne-eqb (i * n + j) (i * n + m) (λ e. f refl (omega arith))
-
-  -- row i turned
-  module _ (i : ℕ) (v : List Float) (l : length v ≡ n * n) (hi : i < n) where
-    abbrev one-row : List Float
-    one-row = turn c s (i * n + p) (i * n + q) v
-
-    in-list : (j : ℕ) → j < n → i * n + j < length v
-    in-list j h = rw l (cell i n j n hi h)
-
-    length-one : length one-row ≡ n * n
-    unfolding turn
-    length-one = simp length-set l
-
-    looked : (k : ℕ) → getD one-row k nan ≡ cond (eqb k (i * n + p)) (c ⊗ at v n i p ⊖ s ⊗ at v n i q) (cond (eqb k (i * n + q)) (s ⊗ at v n i p ⊕ c ⊗ at v n i q) (getD v k nan))
-    unfolding turn
-    looked k = two-set v (i * n + p) (i * n + q) k (c ⊗ at v n i p ⊖ s ⊗ at v n i q) (s ⊗ at v n i p ⊕ c ⊗ at v n i q) (in-list p pn) (in-list q qn) (λ e. ne-of-lt pq (omega arith))
-
-    this-row : (j : ℕ) → at one-row n i j ≡ turnedRow c s p q (at v n i) j
-    this-row j = looked (i * n + j) ∙ rw (in-row i j p, in-row i j q)
-
-    other-row : (k j : ℕ) → j < n → k ≢ i → at one-row n k j ≡ at v n k j
-    other-row k j hj d = looked (k * n + j) ∙ rw (ne-eqb (k * n + j) (i * n + p) (λ e. d (same-row i k j p hj pn e)), ne-eqb (k * n + j) (i * n + q) (λ e. d (same-row i k j q hj qn e)))
-
   -- the rows below m turned
   module _ (r : ℕ) (h : r ≤ mostTurns) (a : Angle c s) where
     record Half (m : ℕ) (v : List Float) : Type 0 where
@@ -87,18 +43,18 @@ module _ (c s : Float) (n p q : ℕ) (pq : p < q) (qn : q < n) where
 
     half-more : (m : ℕ) (v : List Float) → m < n → Half m v → Half (suc m) (turn c s (m * n + p) (m * n + q) v)
     half-more m v hm H = record {
-      len = length-one m v (H .len) hm;
+      len = length-one c s n p q pq qn m v (H .len) hm;
       done = λ k hk l. go k hk (eq-or-lt-of-le (le-of-suc-le-suc l));
       left = λ k hk l. kept r k (λ e. ne-of-lt l (sym e)) (H .left k hk (le-trans (le-suc m) l));
     }
       where
         kept : (r′ k : ℕ) → k ≢ m → Good n (at v n k) r′ → Good n (at (turn c s (m * n + p) (m * n + q) v) n k) r′
-        kept r′ k d g = good-same n r′ (at v n k) (at (turn c s (m * n + p) (m * n + q) v) n k) (λ j hj. sym (other-row m v (H .len) hm k j hj d)) g
+        kept r′ k d g = good-same n r′ (at v n k) (at (turn c s (m * n + p) (m * n + q) v) n k) (λ j hj. sym (other-row c s n p q pq qn m v (H .len) hm k j hj d)) g
 
         go : (k : ℕ) → k < n → (k ≡ m) ⊎ (k < m) → Good n (at (turn c s (m * n + p) (m * n + q) v) n k) (suc r)
         go k hk (inr l) = kept (suc r) k (ne-of-lt l) (H .done k hk l)
         go k hk (inl e) = subst (λ (k : ℕ). Good n (at (turn c s (m * n + p) (m * n + q) v) n k) (suc r)) (sym e)
-            (good-same n (suc r) (turnedRow c s p q (at v n m)) (at (turn c s (m * n + p) (m * n + q) v) n m) (λ j hj. sym (this-row m v (H .len) hm j)) (good-turned n r p q c s (at v n m) pq qn a h (H .left m hm (le-refl m))))
+            (good-same n (suc r) (turnedRow c s p q (at v n m)) (at (turn c s (m * n + p) (m * n + q) v) n m) (λ j hj. sym (this-row c s n p q pq qn m v (H .len) hm j)) (good-turned n r p q c s (at v n m) pq qn a h (H .left m hm (le-refl m))))
 
     halves : (m : ℕ) (v : List Float) → m ≤ n → Half 0 v → Half m (loop m (λ k. turn c s (k * n + p) (k * n + q)) v)
     unfolding loop

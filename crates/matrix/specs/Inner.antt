@@ -6,7 +6,7 @@ use lib.ListN.{set}
 use lib.Ieee.{Float}
 use Rattle.leaves.specs.Numbers.{_⊕_, zero⁺}
 use Rattle.leaves.specs.Loops.{loop}
-use Rattle.matrix.specs.Matrix.{Matrix}
+use Rattle.matrix.specs.Matrix.{Matrix, at, rows, transpose}
 use Rattle.matrix.specs.Rotation.{State, turnColumns, turnRows}
 use Rattle.matrix.specs.Jacobi.{Swept, Decomposition}
 
@@ -22,6 +22,10 @@ sweptTo done k st = record { done = done; sweeps = k; reached = st }
 
 abbrev pub decomposed : Bool → List Float → List Float → ℕ → ℕ → Decomposition
 decomposed found values vectors k r = record { found = found; values = values; vectors = vectors; sweeps = k; rotations = r }
+
+-- the square matrix that is stored column by column, stored row by row
+abbrev pub byColumns : ℕ → List Float → List Float
+byColumns n w = rows n n (transpose (at w n))
 
 -- row i of `sumOver`, and its term j
 abbrev pub addKept : (ℕ → ℕ → Bool) → Matrix → ℕ → ℕ → Float → Float

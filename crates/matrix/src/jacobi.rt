@@ -12,16 +12,16 @@ ghost use Rattle.matrix.specs.Matrix as Matrix;
 ghost use Rattle.matrix.specs.Matrix.{at, allFinite};
 ghost use Rattle.matrix.specs.Rotation as Rotation;
 ghost use Rattle.matrix.specs.Jacobi as Jacobi;
-ghost use Rattle.matrix.specs.Inner.{state, counted, sweptTo, decomposed};
+ghost use Rattle.matrix.specs.Inner.{state, counted, sweptTo, decomposed, byColumns};
+use crate::by_columns::rotate;
 use crate::entries::amax;
 use crate::entries::get;
 use crate::places::all_finite;
-use crate::rotation::rotate;
 use crate::sums::off_diagonal;
 use crate::sums::squares;
 use crate::tables;
 
-// ---- sweeps
+// ---- sweeps, with V stored column by column in v
 
 fn count(turned: bool, rotations: usize) -> usize
     requires { ⌜ rotations < maxSide ⌝ }
@@ -33,7 +33,7 @@ fn count(turned: bool, rotations: usize) -> usize
 // Row p of a sweep. The number of rotations made.
 fn sweep_row(a: &mut [f64], v: &mut [f64], n: usize, p: usize) -> usize
     requires { ⌜ (p < n) × (n ≤ maxSide) × (length (now a) ≡ n * n) × (length (now v) ≡ n * n) ⌝ }
-    ensures { λ r. ⌜ ((k : ℕ) → state (now (a .exit)) (now (v .exit)) (k + r) ≡ loop (n - suc p) (λ (j : ℕ). Rotation.rotate n p (suc p + j)) (state (now (a .entry)) (now (v .entry)) k)) ⌝ }
+    ensures { λ r. ⌜ ((k : ℕ) → state (now (a .exit)) (byColumns n (now (v .exit))) (k + r) ≡ loop (n - suc p) (λ (j : ℕ). Rotation.rotate n p (suc p + j)) (state (now (a .entry)) (byColumns n (now (v .entry))) k)) ⌝ }
 {
     let from = p + 1;
     let rest = n - from;
@@ -48,9 +48,9 @@ fn sweep_row(a: &mut [f64], v: &mut [f64], n: usize, p: usize) -> usize
 }
 
 // Every p and q > p, row by row. The number of rotations made.
-pub fn sweep(a: &mut [f64], v: &mut [f64], n: usize) -> usize
+fn sweep(a: &mut [f64], v: &mut [f64], n: usize) -> usize
     requires { ⌜ (n ≤ maxSide) × (length (now a) ≡ n * n) × (length (now v) ≡ n * n) ⌝ }
-    ensures { λ r. ⌜ ((k : ℕ) → state (now (a .exit)) (now (v .exit)) (k + r) ≡ Jacobi.sweep n (state (now (a .entry)) (now (v .entry)) k)) ⌝ }
+    ensures { λ r. ⌜ ((k : ℕ) → state (now (a .exit)) (byColumns n (now (v .exit))) (k + r) ≡ Jacobi.sweep n (state (now (a .entry)) (byColumns n (now (v .entry))) k)) ⌝ }
 {
     let mut rotations = 0;
     let mut p = 0;
@@ -68,9 +68,9 @@ pub struct Outcome {
 }
 
 // Sweeps until the numbers off the diagonal are small, at most `limit` times.
-pub fn sweeping(a: &mut [f64], v: &mut [f64], n: usize, limit: usize, tolerance: f64) -> Outcome
+fn sweeping(a: &mut [f64], v: &mut [f64], n: usize, limit: usize, tolerance: f64) -> Outcome
     requires { ⌜ (n ≤ maxSide) × (limit ≤ maxSweeps) × (length (now a) ≡ n * n) × (length (now v) ≡ n * n) ⌝ }
-    ensures { λ r. ⌜ sweptTo (r .found) (r .sweeps) (state (now (a .exit)) (now (v .exit)) (r .rotations)) ≡ Jacobi.sweeping limit n tolerance (state (now (a .entry)) (now (v .entry)) 0) ⌝ }
+    ensures { λ r. ⌜ sweptTo (r .found) (r .sweeps) (state (now (a .exit)) (byColumns n (now (v .exit))) (r .rotations)) ≡ Jacobi.sweeping limit n tolerance (state (now (a .entry)) (byColumns n (now (v .entry))) 0) ⌝ }
 {
     let mut rotations = 0;
     let mut k = 0;
@@ -138,6 +138,7 @@ fn turned(
     let tolerance = 2.220446049250313e-16 * leaves::root::sqrt(squares(work, n));
     let w = sweeping(work, vectors, n, limit, tolerance);
     tables::put_diagonal(work, n, scale, values);
+    tables::flip(vectors, n, work);
     w
 }
 

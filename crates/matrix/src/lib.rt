@@ -1,4 +1,5 @@
 // Matrices, row by row, and the decomposition of a symmetric one by Jacobi rotations.
+mod by_columns;
 pub mod entries;
 pub mod jacobi;
 pub mod places;

@@ -31,7 +31,7 @@ fn turn_columns(a: &mut [f64], n: usize, p: usize, q: usize, c: f64, s: f64)
     }
 }
 
-fn turn_rows(a: &mut [f64], n: usize, p: usize, q: usize, c: f64, s: f64)
+pub(crate) fn turn_rows(a: &mut [f64], n: usize, p: usize, q: usize, c: f64, s: f64)
     requires { ⌜ (p < n) × (q < n) × (length (now a) ≡ n * n) ⌝ }
     ensures { λ _. ⌜ now (a .exit) ≡ Rotation.turnRows n p q c s (now (a .entry)) ⌝ }
 {
@@ -45,7 +45,7 @@ fn turn_rows(a: &mut [f64], n: usize, p: usize, q: usize, c: f64, s: f64)
 }
 
 // Columns and rows p and q turned, and 0 where they meet.
-fn turn_both(a: &mut [f64], n: usize, p: usize, q: usize, c: f64, s: f64)
+pub(crate) fn turn_both(a: &mut [f64], n: usize, p: usize, q: usize, c: f64, s: f64)
     requires { ⌜ (p < n) × (q < n) × (length (now a) ≡ n * n) ⌝ }
     ensures { λ _. ⌜ now (a .exit) ≡ turnedBoth n p q c s (now (a .entry)) ⌝ }
 {
@@ -67,7 +67,7 @@ fn tangent(tau: f64) -> f64
 }
 
 // The tangent of the rotation at p and q.
-fn tangent_at(a: &[f64], n: usize, p: usize, q: usize) -> f64
+pub(crate) fn tangent_at(a: &[f64], n: usize, p: usize, q: usize) -> f64
     requires { ⌜ (p < n) × (q < n) × (length (now a) ≡ n * n) ⌝ }
     ensures { λ r. ⌜ r ≡ Rotation.tangent (Rotation.cotangent (at (now (a .entry)) n p p) (at (now (a .entry)) n p q) (at (now (a .entry)) n q q)) ⌝ }
 {

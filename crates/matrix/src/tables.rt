@@ -5,6 +5,7 @@ ghost use lib.ListN.{length};
 ghost use Rattle.leaves.specs.Numbers.{_⊗_, _⊘_, zero⁺};
 ghost use Rattle.leaves.specs.Loops.{tab};
 ghost use Rattle.matrix.specs.Matrix.{at, rows, identity, averaged};
+ghost use Rattle.matrix.specs.Inner.{byColumns};
 use crate::entries::get;
 
 // The average with the transpose.
@@ -74,4 +75,37 @@ pub(crate) fn put_zeros(out: &mut [f64], n: usize)
         out[i] = 0.0;
         i += 1;
     }
+}
+
+fn put_transpose(a: &[f64], n: usize, out: &mut [f64])
+    requires { ⌜ (length (now a) ≡ n * n) × (length (now out) ≡ n * n) ⌝ }
+    ensures { λ _. ⌜ now (out .exit) ≡ byColumns n (now (a .entry)) ⌝ }
+{
+    let size = n * n;
+    let mut k = 0;
+    while k < size {
+        out[k] = get(a, n, k % n, k / n);
+        k += 1;
+    }
+}
+
+fn copy(a: &[f64], n: usize, out: &mut [f64])
+    requires { ⌜ (length (now a) ≡ n * n) × (length (now out) ≡ n * n) ⌝ }
+    ensures { λ _. ⌜ now (out .exit) ≡ now (a .entry) ⌝ }
+{
+    let size = n * n;
+    let mut k = 0;
+    while k < size {
+        out[k] = a[k];
+        k += 1;
+    }
+}
+
+// The transpose in place of the matrix, with `work` to reckon in.
+pub(crate) fn flip(a: &mut [f64], n: usize, work: &mut [f64])
+    requires { ⌜ (length (now a) ≡ n * n) × (length (now work) ≡ n * n) ⌝ }
+    ensures { λ _. ⌜ now (a .exit) ≡ byColumns n (now (a .entry)) ⌝ }
+{
+    put_transpose(a, n, work);
+    copy(work, n, a);
 }

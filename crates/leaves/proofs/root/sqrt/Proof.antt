@@ -176,30 +176,31 @@ truncating-f64-to-u64-requires c κs =
     let b = c .before .binary-exponent in
     step-y (here (c .before .before)) (b .result) (b .ok) (b .ensures) (y .result) (y .ensures)
 
-rounded-root-requires : tie.Need-rounded-root-requires
-rounded-root-requires c κs =
-    let n = c .truncating-f64-to-u64 in
-    let y = c .before .pow2-scaled in
-    let b = c .before .before .binary-exponent in
-    step-n (here (c .before .before .before)) (b .result) (b .ok) (b .ensures) (y .result) (y .ensures) (n .result) (n .ensures)
+near-root-requires : tie.Need-near-root-requires
+near-root-requires c κs = search needs
 
-sub-pow2-scaled-3 : tie.Need-sub-pow2-scaled-3
-sub-pow2-scaled-3 c =
+sub-rounded-root : tie.Need-sub-rounded-root
+sub-rounded-root c =
     let d = c .before .before .before in
     let b = d .binary-exponent in
     step-3 (here (d .before)) (b .result) (b .ok) (b .ensures)
 
-pow2-scaled-requires-2 : tie.Need-pow2-scaled-requires-2
-pow2-scaled-requires-2 c κs = search needs
+rounded-root-requires : tie.Need-rounded-root-requires
+rounded-root-requires c κs =
+    let d = c .before in
+    let n = d .truncating-f64-to-u64 in
+    let y = d .before .pow2-scaled in
+    let b = d .before .before .binary-exponent in
+    step-n (here (d .before .before .before)) (b .result) (b .ok) (b .ensures) (y .result) (y .ensures) (n .result) (n .ensures)
 
 returns-2 : tie.Need-returns-2
 returns-2 c =
-    let w = c .before .rounded-root in
-    let n = c .before .before .truncating-f64-to-u64 in
-    let d = c .before .before .before in
-    let y = d .pow2-scaled in
-    let b = d .before .binary-exponent in
-    step-r (here (d .before .before)) (b .result) (b .ok) (b .ensures) (y .result) (y .ensures) (n .result) (n .ensures) (w .result) (w .ensures) (c .pow2-scaled2 .result) (c .pow2-scaled2 .ensures)
+    let r = c .rounded-root in
+    let d = c .before .before in
+    let n = d .truncating-f64-to-u64 in
+    let y = d .before .pow2-scaled in
+    let b = d .before .before .binary-exponent in
+    step-r (here (d .before .before .before)) (b .result) (b .ok) (b .ensures) (y .result) (y .ensures) (n .result) (n .ensures) (ofInt binary64 (pos (sticky (n .result * 72057594037927936)))) refl (r .result) (r .ensures)
 
 returns-3 : tie.Need-returns-3
 unfolding ofBits div
@@ -212,4 +213,4 @@ returns-4 c = other (c .before .before .args .x) (c .before .if1 .left) (c .if2 
 pub sqrt-spec : {M : Type 1} → statement M
 sqrt-spec =
     tie.close
-    (tie.spec returns binary-exponent-requires sub-pow2-scaled sub-pow2-scaled-2 pow2-scaled-requires truncating-f64-to-u64-requires rounded-root-requires sub-pow2-scaled-3 pow2-scaled-requires-2 returns-2 returns-3 returns-4)
+    (tie.spec returns binary-exponent-requires sub-pow2-scaled sub-pow2-scaled-2 pow2-scaled-requires truncating-f64-to-u64-requires near-root-requires sub-rounded-root rounded-root-requires returns-2 returns-3 returns-4)

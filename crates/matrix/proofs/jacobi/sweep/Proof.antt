@@ -10,7 +10,7 @@ use Rattle.leaves.proofs.Loops.{loop-start, loop-turn, loop-end, row}
 use Rattle.matrix.specs.Limits.{maxSide}
 use Rattle.matrix.specs.Rotation.{rotate}
 use Rattle.matrix.specs.Jacobi.{sweep}
-use Rattle.matrix.specs.Inner.{state}
+use Rattle.matrix.specs.Inner.{state, byColumns}
 use Rattle.matrix.proofs.Counts.{places, places-most, row-count, rows-count}
 use Rattle.matrix.proofs.jacobi.sweep.Statement.{statement}
 use Rattle.matrix.proofs.jacobi.sweep.Tie as tie
@@ -20,7 +20,7 @@ room : (n p r r′ : ℕ) → p < n → n ≤ maxSide → r ≤ 0 + places n p �
 room n p r r′ h l e e′ = omega (arith, places-most n p, row p n n h, mul-le-mul l l)
 
 abbrev Inv-loop : tie.InvT-loop
-Inv-loop a₀ v₀ n rotations₀ p₀ a v rotations p = (p ≤ n) × (length a ≡ length a₀) × (length v ≡ length v₀) × ((k : ℕ) → state a v (k + rotations) ≡ loop p (λ p. loop (n - suc p) (λ k. rotate n p (suc p + k))) (state a₀ v₀ k))
+Inv-loop a₀ v₀ n rotations₀ p₀ a v rotations p = (p ≤ n) × (length a ≡ length a₀) × (length v ≡ length v₀) × ((k : ℕ) → state a (byColumns n v) (k + rotations) ≡ loop p (λ p. loop (n - suc p) (λ k. rotate n p (suc p + k))) (state a₀ (byColumns n v₀) k))
 
 abbrev μ-loop : tie.MeasureT-loop
 μ-loop a₀ v₀ n rotations₀ p₀ a v rotations p = n - p

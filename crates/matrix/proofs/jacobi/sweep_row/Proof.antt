@@ -11,7 +11,7 @@ use lib.Ieee.{Float}
 use Rattle.leaves.specs.Loops.{loop}
 use Rattle.leaves.proofs.Loops.{loop-start, loop-turn, loop-end}
 use Rattle.matrix.specs.Rotation.{rotate}
-use Rattle.matrix.specs.Inner.{state, counted}
+use Rattle.matrix.specs.Inner.{state, counted, byColumns}
 use Rattle.matrix.proofs.Counts.{row-count}
 use Rattle.matrix.proofs.jacobi.sweep_row.Statement.{statement}
 use Rattle.matrix.proofs.jacobi.sweep_row.Tie as tie
@@ -28,7 +28,7 @@ next n p j k r t a v {a′} {v′} e h =
     ap (state a′ v′) (ap (λ (r : ℕ). k + r) e ∙ count-after t k r) ∙ h (k + r) ∙ ap (λ (j : ℕ). rotate n p j (state a v (k + r))) q
 
 abbrev Inv-loop : tie.InvT-loop
-Inv-loop a₀ v₀ n p from rest rotations₀ j₀ a v rotations j = (j ≤ rest) × (length a ≡ length a₀) × (length v ≡ length v₀) × ((k : ℕ) → state a v (k + rotations) ≡ loop j (λ j. rotate n p (suc p + j)) (state a₀ v₀ k))
+Inv-loop a₀ v₀ n p from rest rotations₀ j₀ a v rotations j = (j ≤ rest) × (length a ≡ length a₀) × (length v ≡ length v₀) × ((k : ℕ) → state a (byColumns n v) (k + rotations) ≡ loop j (λ j. rotate n p (suc p + j)) (state a₀ (byColumns n v₀) k))
 
 abbrev μ-loop : tie.MeasureT-loop
 μ-loop a₀ v₀ n p from rest rotations₀ j₀ a v rotations j = rest - j

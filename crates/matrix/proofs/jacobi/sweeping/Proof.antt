@@ -16,7 +16,7 @@ use Rattle.matrix.specs.Limits.{maxSide, maxSweeps}
 use Rattle.matrix.specs.Matrix.{at}
 use Rattle.matrix.specs.Rotation.{State}
 use Rattle.matrix.specs.Jacobi.{offDiagonal, sweep, afterSweeps, Test, fails, converged, goesOn, test, stops, isConverged, sweeping}
-use Rattle.matrix.specs.Inner.{state, sweptTo}
+use Rattle.matrix.specs.Inner.{state, sweptTo, byColumns}
 use Rattle.matrix.proofs.First.{first-none, first-more, first-at}
 use Rattle.matrix.proofs.Counts.{pairs, pairs-most, sweep-count, sweeps-count}
 use Rattle.matrix.proofs.Sweeps.{stopping, sweptBy, sweeping-is}
@@ -71,7 +71,7 @@ room : (n k r r′ : ℕ) → n ≤ maxSide → k ≤ maxSweeps → r ≤ 0 + k 
 room n k r r′ h l e e′ = omega (arith, pairs-most n h, mul-le-mul l (pairs-most n h))
 
 abbrev Inv-loop : tie.InvT-loop
-Inv-loop a₀ v₀ n limit tolerance rotations₀ k₀ a v rotations k = (k ≤ limit) × (length a ≡ length a₀) × (length v ≡ length v₀) × (state a v rotations ≡ afterSweeps k n (state a₀ v₀ 0)) × (firstTo k (stopping n tolerance (state a₀ v₀ 0)) ≡ none)
+Inv-loop a₀ v₀ n limit tolerance rotations₀ k₀ a v rotations k = (k ≤ limit) × (length a ≡ length a₀) × (length v ≡ length v₀) × (state a (byColumns n v) rotations ≡ afterSweeps k n (state a₀ (byColumns n v₀) 0)) × (firstTo k (stopping n tolerance (state a₀ (byColumns n v₀) 0)) ≡ none)
 
 abbrev μ-loop : tie.MeasureT-loop
 μ-loop a₀ v₀ n limit tolerance rotations₀ k₀ a v rotations k = limit - k

@@ -11,19 +11,21 @@ use Rattle.leaves.specs.Loops.{tab}
 use Rattle.leaves.specs.Root.{sqrt}
 use Rattle.matrix.specs.Matrix.{Matrix, at, rows, identity, amax, squares, allFinite}
 use Rattle.matrix.specs.Jacobi.{start, sweeping, swept, scaledBack}
-use Rattle.matrix.specs.Inner.{state, sweptTo, decomposed}
+use Rattle.matrix.specs.Inner.{state, sweptTo, decomposed, byColumns}
 use Rattle.matrix.proofs.Identity.{quotients-finite}
+use Rattle.matrix.proofs.Flip.{flip-identity}
 use Rattle.matrix.proofs.jacobi.turned.Statement.{statement}
 use Rattle.matrix.proofs.jacobi.turned.Tie as tie
 
-finished : (n limit : ℕ) (scale : Float) (a : Matrix) {w₁ v₁ w₂ v₂ values : List Float} {q r : Float} {found : Bool} {k rotations : ℕ} → v₁ ≡ rows n n identity → w₁ ≡ start n scale a
-    → q ≡ squares n (at w₁ n) → r ≡ sqrt q → sweptTo found k (state w₂ v₂ rotations) ≡ sweeping limit n (ε ⊗ r) (state w₁ v₁ 0) → values ≡ tab n (λ i. at w₂ n i i ⊗ scale)
-    → decomposed found values v₂ k rotations ≡ scaledBack n scale (swept limit n (start n scale a))
+finished : (n limit : ℕ) (scale : Float) (a : Matrix) {w₁ v₁ w₂ u v₃ values : List Float} {q r : Float} {found : Bool} {k rotations : ℕ} → v₁ ≡ rows n n identity → w₁ ≡ start n scale a
+    → q ≡ squares n (at w₁ n) → r ≡ sqrt q → sweptTo found k (state w₂ u rotations) ≡ sweeping limit n (ε ⊗ r) (state w₁ (byColumns n v₁) 0)
+    → values ≡ tab n (λ i. at w₂ n i i ⊗ scale) → v₃ ≡ u → decomposed found values v₃ k rotations ≡ scaledBack n scale (swept limit n (start n scale a))
 unfolding swept scaledBack
-finished n limit scale a {w₁} {v₁} {w₂} {v₂} {values} {q} {r} {found} {k} {rotations} ev ew eq er es el =
+finished n limit scale a {w₁} {v₁} {w₂} {u} {v₃} {values} {q} {r} {found} {k} {rotations} ev ew eq er es el ef =
     let root : r ≡ sqrt (squares n (at (start n scale a) n)) = er ∙ ap sqrt (eq ∙ ap (λ (w : List Float). squares n (at w n)) ew) in
-    let d : sweptTo found k (state w₂ v₂ rotations) ≡ swept limit n (start n scale a) = es ∙ (λ i. sweeping limit n (ε ⊗ root i) (state (ew i) (ev i) 0)) in
-    (λ i. decomposed found (el i) v₂ k rotations) ∙ ap (scaledBack n scale) d
+    let begun : byColumns n v₁ ≡ rows n n identity = ap (byColumns n) ev ∙ flip-identity n in
+    let d : sweptTo found k (state w₂ u rotations) ≡ swept limit n (start n scale a) = es ∙ (λ i. sweeping limit n (ε ⊗ root i) (state (ew i) (begun i) 0)) in
+    (λ i. decomposed found (el i) (ef i) k rotations) ∙ ap (scaledBack n scale) d
 
 quotients : (n : ℕ) (scale : Float) (a : Matrix) → ((i j : ℕ) → i < n → j < n → T (fits binary64 (a i j))) → allFinite n n a ≡ true → scale ≡ amax n n a → eq scale zero⁺ ≡ false
     → (i j : ℕ) → i < n → j < n → T (isFinite (a i j ⊘ scale))
@@ -47,6 +49,9 @@ sweeping-requires c κs = search needs
 put-diagonal-requires : tie.Need-put-diagonal-requires
 put-diagonal-requires c κs = search needs
 
+flip-requires : tie.Need-flip-requires
+flip-requires c κs = search needs
+
 same-length : tie.Need-same-length
 same-length c = search needs
 
@@ -58,7 +63,12 @@ same-length-3 c = search needs
 
 returns : tie.Need-returns
 unfolding ofBits
-returns c = let a = c .before .before .before .before .before .before .before .before .before .before .before .before .before .before .before .before .before .before .before .before .before .before .before .before .before .before .before .args in finished (a .n) (a .limit) (a .scale) (at (a .a .now) (a .n)) (c .before .before .before .before .before .before .before .before .before .before .before .before .before .before .before .before .before .put-identity .ensures) (c .before .before .before .before .before .before .before .before .before .before .before .before .before .before .before .before .before .before .before .before .before .start .ensures) (c .before .before .before .before .before .before .before .before .before .before .before .before .before .squares .ensures) (c .before .before .before .before .before .before .before .before .before .before .before .before .sqrt .ensures) (c .before .before .before .before .before .before .before .before .before .sweeping .ensures) (c .before .before .put-diagonal .ensures)
+returns c =
+    let s = c .before .before .before .before .before .before .before .before .before .before .before .before .before .before .before .before in
+    let i = s .before .before .before .before .before .before .before .before in
+    let a = i .before .before .before .before .before .before .before .before .before .before .args in
+    finished (a .n) (a .limit) (a .scale) (at (a .a .now) (a .n)) (i .put-identity .ensures) (i .before .before .before .before .start .ensures) (s .before .before .before .before .squares .ensures) (s .before .before .before .sqrt .ensures) (s .sweeping .ensures)
+    (c .before .before .before .before .before .before .before .before .before .put-diagonal .ensures) (c .before .before .before .before .flip .ensures)
 
 pub turned-spec : {M : Type 1} → statement M
-turned-spec = tie.close (tie.spec start-requires put-identity-requires squares-requires sqrt-requires sweeping-requires put-diagonal-requires same-length same-length-2 same-length-3 returns)
+turned-spec = tie.close (tie.spec start-requires put-identity-requires squares-requires sqrt-requires sweeping-requires put-diagonal-requires flip-requires same-length same-length-2 same-length-3 returns)

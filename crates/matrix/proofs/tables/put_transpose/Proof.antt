@@ -1,0 +1,54 @@
+-- `matrix::tables::put_transpose` meets its contract. The invariant: every entry passed is the transpose's.
+use Prim.Native.Nat.{_-_, _*_, _/_, _%_}
+use native.Mathlib.Omega.{arith}
+use borrow.Author.Needs.{needs}
+use Rattle.leaves.proofs.Loops.{side, row-below, col-below, Filled, filled-none, filled-more}
+use Rattle.matrix.specs.Matrix.{at, transpose}
+use Rattle.matrix.proofs.Stored.{filled-rows}
+use Rattle.matrix.proofs.tables.put_transpose.Statement.{statement}
+use Rattle.matrix.proofs.tables.put_transpose.Tie as tie
+
+abbrev Inv-loop : tie.InvT-loop
+Inv-loop a n out₀ size k₀ out k = Filled (λ k. transpose (at a n) (k / n) (k % n)) k (n * n) out₀ out
+
+abbrev μ-loop : tie.MeasureT-loop
+μ-loop a n out₀ size k₀ out k = n * n - k
+
+mul-size : tie.Need-mul-size Inv-loop μ-loop
+mul-size c = search needs
+
+loop-holds : tie.Need-loop-holds Inv-loop μ-loop
+loop-holds c = filled-none _ _ _
+
+rem-get : tie.Need-rem-get Inv-loop μ-loop
+rem-get c = side _ _ (c .loop-test .taken)
+
+div-get : tie.Need-div-get Inv-loop μ-loop
+div-get c = side _ _ (c .loop-test .taken)
+
+get-requires : tie.Need-get-requires Inv-loop μ-loop
+get-requires c κs = (col-below _ _ (c .loop-test .taken), row-below _ _ (c .loop-test .taken), c .before .before .before .before .pre .0)
+
+mul-out : tie.Need-mul-out Inv-loop μ-loop
+mul-out c = search needs
+
+slice-write-out : tie.Need-slice-write-out Inv-loop μ-loop
+slice-write-out c = search needs
+
+add-k : tie.Need-add-k Inv-loop μ-loop
+add-k c = search needs
+
+loop-less : tie.Need-loop-less Inv-loop μ-loop
+loop-less c = search needs
+
+loop-again : tie.Need-loop-again Inv-loop μ-loop
+loop-again c = filled-more (c .before .before .loop .inv) (c .before .loop-test .taken) (omega arith) (c .get .ensures)
+
+same-length : tie.Need-same-length Inv-loop μ-loop
+same-length c = c .before .loop .inv .len
+
+returns : tie.Need-returns Inv-loop μ-loop
+returns c = let a = c .before .before .before .before .args in filled-rows (transpose (at (a .a .now) (a .n))) (a .n) (c .before .loop .inv) (c .loop-test .left) (c .before .before .before .before .pre .1)
+
+pub put-transpose-spec : {M : Type 1} → statement M
+put-transpose-spec = tie.close (tie.spec Inv-loop μ-loop mul-size loop-holds rem-get div-get get-requires mul-out slice-write-out add-k loop-less loop-again same-length returns)
