@@ -2,6 +2,7 @@
 mod adjusted;
 mod bayes_stein;
 mod checks;
+mod columns;
 mod forms;
 mod gather;
 mod given;
@@ -10,7 +11,9 @@ mod james_stein;
 mod ledoit_wolf;
 mod moments;
 mod opening;
+mod powers;
 mod rows;
+mod sample;
 mod tables;
 mod targets;
 mod validate;
