@@ -1,8 +1,12 @@
 // The records of document 01 that cross a call.
 mod adjusted;
+mod base;
 mod bayes_stein;
+pub mod calls;
 mod checks;
 mod columns;
+mod covariance;
+mod expected_returns;
 mod forms;
 mod gather;
 mod given;
@@ -14,10 +18,13 @@ mod opening;
 mod powers;
 mod rows;
 mod sample;
+mod scales;
+mod semi;
 mod tables;
 mod targets;
 mod validate;
 mod vectors;
+mod weighted;
 
 // The most periods of a return matrix: the definitions' `maxPeriods`.
 pub const MAX_PERIODS: usize = 4096;
