@@ -1,64 +1,119 @@
 // Times the engine and the copy on the same inputs, in turns and in one process, by the processor's
-// time, so that a busy machine matters little. Prints the median times for one input, and the
-// median ratio of the turns.
+// time, so that a busy machine matters little: the median times for one input, and the median ratio
+// of the turns. Below stands what numpy and scikit-learn take on the same returns, in one thread,
+// where a python3 has them.
 
+mod peers;
+mod stopwatch;
+
+use engine::calls::answer_into;
 use engine::jacobi::decompose;
 use generator::given::product;
 use generator::random::Random;
+use generator::returns::realistic;
+use reference::covariance::{Estimate, Settings, Target};
 use reference::eigen::SymmetricEigen;
+use reference::input::{Call, Input};
 use reference::matrix::Matrix;
 use reference::MAX_SWEEPS;
 use std::hint::black_box;
+use stopwatch::{median, micros};
 
-const TURNS: usize = 41;
+/// Assets, periods, how many inputs, how many turns.
+const SHAPES: [(usize, usize, usize, usize); 3] =
+    [(8, 128, 100, 41), (32, 512, 4, 31), (32, 4096, 1, 21)];
 
 fn main() {
     println!(
-        "{:22} {:>10} {:>10} {:>6}",
+        "{:40} {:>10} {:>10} {:>6}",
         "call", "engine µs", "copy µs", "ratio"
     );
     let random = Random::new(4);
+    for (assets, periods, count, turns) in SHAPES {
+        let returns: Vec<Vec<f64>> = (0..count)
+            .map(|_| realistic(&random, assets, periods))
+            .collect();
+        let given = product(&random, assets, 2 * assets);
+        for (name, call) in calls(&given, assets) {
+            let name = format!("{name}, {assets} × {periods}");
+            timed(&name, turns, &returns, assets, &call);
+        }
+        peers::note(&returns[0], assets, periods);
+    }
     for (side, count) in [(8, 200), (16, 40), (32, 8)] {
         decomposition(&random, side, count);
     }
+    peers::print();
+}
+
+/// Every call, the covariance with each estimate and shrinkage.
+fn calls(given: &[f64], side: usize) -> Vec<(&'static str, Call)> {
+    let covariance = |settings: Settings| Call::AdjustedCovariance {
+        settings,
+        given: given.to_vec(),
+        side,
+    };
+    let of = |estimate| covariance(Settings::of(estimate));
+    let shrunk = |target| covariance(Settings::of(Estimate::Sample).ledoit_wolf(target));
+    let limit = MAX_SWEEPS;
+    vec![
+        ("sample covariance", of(Estimate::Sample)),
+        ("weighted covariance", of(Estimate::Weighted(60.0))),
+        ("semicovariance", of(Estimate::Semi)),
+        ("semicovariance below 0", of(Estimate::SemiBelow(0.0))),
+        ("given covariance", of(Estimate::Given)),
+        ("shrunk to variance", shrunk(Target::ConstantVariance)),
+        ("shrunk to correlation", shrunk(Target::ConstantCorrelation)),
+        (
+            "Ledoit-Wolf, variance",
+            Call::LedoitWolf(Target::ConstantVariance),
+        ),
+        (
+            "Ledoit-Wolf, correlation",
+            Call::LedoitWolf(Target::ConstantCorrelation),
+        ),
+        (
+            "weighted mean",
+            Call::ExponentiallyWeightedMean { half_life: 60.0 },
+        ),
+        ("James-Stein mean", Call::JamesSteinMean { limit }),
+        ("Bayes-Stein mean", Call::BayesSteinMean { limit }),
+    ]
+}
+
+fn timed(name: &str, turns: usize, returns: &[Vec<f64>], assets: usize, call: &Call) {
+    let inputs: Vec<Input> = returns
+        .iter()
+        .map(|returns| Input::new(returns, assets, call.clone()))
+        .collect();
+    let mut answer = inputs[0].answer.clone();
+    let engine = || {
+        for input in &inputs {
+            let flat = answer_into(input, &mut answer);
+            assert_eq!(flat.number, 0);
+            black_box(&answer);
+        }
+    };
+    let copy = || {
+        for input in &inputs {
+            let _ = black_box(input.answered());
+        }
+    };
+    line(name, turns, inputs.len(), engine, copy);
 }
 
 /// One line of the table: `engine` and `copy` each treat all of the inputs.
-fn line(name: &str, inputs: usize, mut engine: impl FnMut(), mut copy: impl FnMut()) {
-    let turns: Vec<(f64, f64)> = (0..TURNS)
+fn line(name: &str, turns: usize, inputs: usize, mut engine: impl FnMut(), mut copy: impl FnMut()) {
+    let turns: Vec<(f64, f64)> = (0..turns)
         .map(|_| (micros(&mut engine), micros(&mut copy)))
         .collect();
     let one = |total: f64| total / inputs as f64;
     println!(
-        "{name:22} {:>10.1} {:>10.1} {:>6.2}",
+        "{name:40} {:>10.1} {:>10.1} {:>6.2}",
         one(median(turns.iter().map(|turn| turn.0))),
         one(median(turns.iter().map(|turn| turn.1))),
         median(turns.iter().map(|turn| turn.0 / turn.1))
     );
-}
-
-fn micros(work: &mut impl FnMut()) -> f64 {
-    let start = processor_micros();
-    work();
-    processor_micros() - start
-}
-
-/// The time that this thread has run.
-fn processor_micros() -> f64 {
-    unsafe extern "C" {
-        fn clock_gettime(clock: i32, seconds_and_nanos: *mut [i64; 2]) -> i32;
-    }
-    const THREAD_CPUTIME: i32 = 3;
-    let mut time = [0; 2];
-    let failed = unsafe { clock_gettime(THREAD_CPUTIME, &mut time) };
-    assert_eq!(failed, 0);
-    time[0] as f64 * 1e6 + time[1] as f64 / 1e3
-}
-
-fn median(numbers: impl Iterator<Item = f64>) -> f64 {
-    let mut sorted: Vec<f64> = numbers.collect();
-    sorted.sort_by(f64::total_cmp);
-    sorted[sorted.len() / 2]
 }
 
 fn decomposition(random: &Random, side: usize, count: usize) {
@@ -79,5 +134,5 @@ fn decomposition(random: &Random, side: usize, count: usize) {
             black_box(SymmetricEigen::new(&a, MAX_SWEEPS));
         }
     };
-    line(&format!("decomposition, {side}"), count, engine, copy);
+    line(&format!("decomposition, {side}"), 41, count, engine, copy);
 }

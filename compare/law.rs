@@ -1,8 +1,8 @@
 // Runs the power-of-two law on drawn pairs, the second input 2^k times the first: the same refusal
 // at the same place, or the same intensity and counts, with covariances exactly 2^2k times the
 // other's, means and target exactly 2^k times. Pairs that document 01's 'Scaling ranges' does not
-// grant are left out and counted. Prints one table, and ends with 1 if a pair breaks the law.
-// Argument: how many pairs.
+// grant are left out and counted. Prints a table for the copy and one for the engine, and ends with
+// 1 if a pair breaks the law. Argument: how many pairs.
 
 mod tally;
 
@@ -26,19 +26,27 @@ fn main() {
         Some(word) => word.parse().expect("a whole number"),
         None => 40_000,
     };
-    let copy = |input: &Input| {
-        let (report, slice) = input.answered();
-        (Flat::of(&report), slice)
-    };
-    let random = Random::new(6);
-    let mut tally = Tally::new(&["left out", "broken"]);
-    for _ in 0..pairs {
-        judge(&draw_pair(&random), copy, &mut tally);
+    let mut broken = 0;
+    let ways: [(&str, fn(&Input) -> Answer); 2] =
+        [("copy", copy), ("engine", engine::calls::answered)];
+    for (name, answered) in ways {
+        let random = Random::new(6);
+        let mut tally = Tally::new(&["left out", "broken"]);
+        for _ in 0..pairs {
+            judge(&draw_pair(&random), answered, &mut tally);
+        }
+        println!("the {name}");
+        tally.print();
+        broken += tally.total(BROKEN);
     }
-    tally.print();
-    if tally.total(BROKEN) > 0 {
+    if broken > 0 {
         std::process::exit(1);
     }
+}
+
+fn copy(input: &Input) -> Answer {
+    let (report, slice) = input.answered();
+    (Flat::of(&report), slice)
 }
 
 /// What a call reports, and the whole answer slice after it.

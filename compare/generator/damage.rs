@@ -10,11 +10,13 @@ use reference::{MAX_SWEEPS, MOST_ASSETS, MOST_PERIODS};
 
 const NOT_FINITE: [f64; 3] = [f64::NAN, f64::INFINITY, f64::NEG_INFINITY];
 const BAD_LIMITS: [usize; 4] = [MAX_SWEEPS + 1, 200, 1 << 32, usize::MAX];
-const BAD_HALF_LIVES: [f64; 7] = [
+/// The log of 9.7e-4 is below -708, that of 9e-4 below -745, where exp is 0.
+const BAD_HALF_LIVES: [f64; 8] = [
     0.0,
     -0.0,
     -1.0,
     9e-4,
+    9.7e-4,
     f64::NAN,
     f64::INFINITY,
     f64::NEG_INFINITY,

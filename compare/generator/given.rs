@@ -13,7 +13,8 @@ pub fn draw_given(random: &Random, side: usize) -> Vec<f64> {
         7 => scale(&mut given, random.between(-1100, 1020)),
         8 => keep_diagonal(&mut given, side),
         9 => perturb(random, &mut given, 1e-13),
-        10 => perturb(random, &mut given, 1e-12),
+        // Up to the edge of what counts as symmetric, and beyond it.
+        10 => perturb(random, &mut given, random.pick(&[1e-12, 3e-12])),
         11 => {
             // One eigenvalue moved below zero, by rounding or by more.
             let part = random.pick(&[1e-16, 1e-15, 1e-14, 1e-3]);

@@ -13,7 +13,11 @@ pub fn draw_returns(random: &Random, n: usize, t: usize) -> Vec<f64> {
         12 | 13 => whole(random, n, t),
         14 => equal_means(random, n, t),
         15 => entries(n, t, || random.sized(-40, 40)),
-        16 => entries(n, t, || random.sized(-1074, -1000)),
+        16 => {
+            // Near and below the least normal number, where scaling back rounds.
+            let high = random.pick(&[-1000, -1023, -1030, -1060]);
+            entries(n, t, || random.sized(-1074, high))
+        }
         17 => {
             let high = random.pick(&[490, 500, 511, 1023]);
             entries(n, t, || random.sized(-20, high))

@@ -1,0 +1,130 @@
+// Compares the five calls of the copy with the engine's, bit for bit, NaN equal to NaN: accepted or
+// refused, what comes with it, and the whole answer slice, of which the numbers past the answer, and
+// all of them after a refusal, keep their very bits. Prints a table for each range of shapes. Ends
+// with 1 where the two differ or a refusal never occurred.
+// Arguments: how many inputs of each range.
+
+mod tally;
+
+use engine::calls::{adjusted_covariance, answered, ledoit_wolf};
+use generator::random::Random;
+use generator::{draw, Shapes};
+use reference::covariance::{Estimate, Settings};
+use reference::flat::{Flat, FlatSettings};
+use reference::input::Input;
+use reference::leaves::bits;
+use std::ops::RangeInclusive;
+use tally::{Tally, ACCEPTED, OWN};
+
+const DIFFERENT: usize = OWN;
+
+/// The name of a range, its assets and periods, and how many inputs are drawn of it.
+type Range = (
+    &'static str,
+    RangeInclusive<usize>,
+    RangeInclusive<usize>,
+    usize,
+);
+
+const RANGES: [Range; 3] = [
+    ("up to 8 × 128", 1..=8, 2..=128, 50_000),
+    ("up to 32 × 512", 1..=32, 2..=512, 2_000),
+    ("32 × 4,096", 32..=32, 4096..=4096, 100),
+];
+
+fn main() {
+    let random = Random::new(5);
+    let mut wrong = 0;
+    let mut refusals = [0; OWN];
+    for (at, (name, assets, periods, otherwise)) in RANGES.into_iter().enumerate() {
+        let inputs = match std::env::args().nth(at + 1) {
+            Some(word) => word.parse().expect("a whole number"),
+            None => otherwise,
+        };
+        let shapes = Shapes { assets, periods };
+        let mut tally = Tally::new(&["differences"]);
+        for _ in 0..inputs {
+            compare(&draw(&random, &shapes), &mut tally);
+        }
+        println!("{name}");
+        tally.print();
+        println!();
+        wrong += tally.total(DIFFERENT);
+        (0..OWN).for_each(|number| refusals[number] += tally.total(number));
+    }
+    for number in (ACCEPTED..OWN).filter(|&number| refusals[number] == 0) {
+        println!("no input was answered {number}");
+        wrong += 1;
+    }
+    wrong += unknown_kinds(&random);
+    if wrong > 0 {
+        std::process::exit(1);
+    }
+}
+
+fn compare(input: &Input, tally: &mut Tally) {
+    let (report, slice) = input.answered();
+    let (ours, theirs) = ((Flat::of(&report), slice), answered(input));
+    let number = ours.0.number as usize;
+    tally.add(&input.call, number);
+    let filled = if number == ACCEPTED {
+        input.call.fills(input.n)
+    } else {
+        0
+    };
+    if ours.0 != theirs.0 || all_bits(&ours.1, filled) != all_bits(&theirs.1, filled) {
+        tally.add(&input.call, DIFFERENT);
+        if tally.total(DIFFERENT) <= 3 {
+            let words = format!("{input:?}: copy {ours:?}, engine {theirs:?}");
+            println!("    {}", words.chars().take(2000).collect::<String>());
+        }
+    }
+}
+
+/// The bits of all numbers, with one pattern for every NaN among the first ones.
+fn all_bits(numbers: &[f64], first: usize) -> Vec<u64> {
+    let (filled, kept) = numbers.split_at(first);
+    let filled = filled.iter().map(|&x| bits(x));
+    filled.chain(kept.iter().map(|x| x.to_bits())).collect()
+}
+
+/// Numbers that stand for no kind: the engine says 16, whatever else is wrong, and writes no answer.
+fn unknown_kinds(random: &Random) -> usize {
+    let unknown = Flat {
+        number: 16,
+        numbers: [0.0; 2],
+        wholes: [0; 2],
+    };
+    let kinds = |least: u32| [least, least + 1, 1 << 16, u32::MAX].map(|kind| (least, kind));
+    let shape = |what: usize| match what {
+        0 => (2, 2),
+        1 => (0, 2),
+        _ => (usize::MAX, usize::MAX),
+    };
+    let (mut calls, mut wrong) = (0, 0);
+    let mut expect = |told: Flat, kept: bool| {
+        calls += 1;
+        wrong += usize::from(told != unknown || !kept);
+    };
+    let returns = [1.0, 2.0, 3.0, 6.0];
+    for what in 0..3 {
+        for (_, kind) in kinds(2) {
+            expect(ledoit_wolf(&returns, shape(what), kind), true);
+        }
+        for (least, kind) in [5, 4, 2].into_iter().flat_map(kinds) {
+            let mut settings = FlatSettings::of(&Settings::of(Estimate::Sample));
+            match least {
+                5 => settings.estimate.0 = kind,
+                4 => settings.shrinkage.0 = kind,
+                _ => settings.regularization.0 = kind,
+            }
+            settings.limit = random.below(200);
+            let held = [random.bits(), 1, 2, 3, 4].map(f64::from_bits);
+            let mut answer = held;
+            let told = adjusted_covariance(&returns, shape(what), &settings, (&[], 0), &mut answer);
+            expect(told, held.map(f64::to_bits) == answer.map(f64::to_bits));
+        }
+    }
+    println!("numbers of no kind: {calls}, taken all the same: {wrong}");
+    wrong
+}

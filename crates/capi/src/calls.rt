@@ -1,0 +1,106 @@
+// The five calls with C linkage (include/engine.h): settings in numbers, the answer as a report and the slice.
+ghost use mathlib.Core.Path.{_≡_};
+ghost use Rattle.estimators.specs.Calls as Estimators;
+ghost use Rattle.capi.specs.Report as Flat;
+ghost use Rattle.capi.specs.Calls as Calls;
+use crate::report::hand_out;
+use crate::report::report_of;
+use crate::report::reported;
+use crate::settings::known;
+use crate::settings::settings_of;
+use crate::settings::target_of;
+use estimators::calls;
+
+#[no_mangle]
+pub extern "C" fn engine_adjusted_covariance(
+    returns: &[f64],
+    assets: usize,
+    periods: usize,
+    estimate: u32,
+    x: f64,
+    shrinkage: u32,
+    y: f64,
+    regularization: u32,
+    z: f64,
+    limit: usize,
+    given: &[f64],
+    side: usize,
+    answer: &mut [f64],
+    numbers: &mut [f64; 2],
+    wholes: &mut [usize; 2],
+) -> u32
+    ensures { λ r. ⌜ Calls.left (Flat.handed r (now (numbers .exit)) (now (wholes .exit))) (now (answer .exit)) ≡ Calls.engineAdjustedCovariance (now (returns .entry)) assets periods estimate x shrinkage y regularization z limit (now (given .entry)) side (now (answer .entry)) ⌝ }
+{
+    if !known(estimate, shrinkage, regularization) {
+        return hand_out(reported(16, 0.0, 0.0, 0, 0), numbers, wholes);
+    }
+    let settings = settings_of(estimate, x, shrinkage, y, regularization, z, limit);
+    let told = calls::adjusted_covariance(returns, assets, periods, settings, given, side, answer);
+    hand_out(report_of(told), numbers, wholes)
+}
+
+#[no_mangle]
+pub extern "C" fn engine_ledoit_wolf(
+    returns: &[f64],
+    assets: usize,
+    periods: usize,
+    target: u32,
+    numbers: &mut [f64; 2],
+    wholes: &mut [usize; 2],
+) -> u32
+    ensures { λ r. ⌜ Flat.handed r (now (numbers .exit)) (now (wholes .exit)) ≡ Calls.engineLedoitWolf (now (returns .entry)) assets periods target ⌝ }
+{
+    if target >= 2 {
+        return hand_out(reported(16, 0.0, 0.0, 0, 0), numbers, wholes);
+    }
+    let told = calls::ledoit_wolf(returns, assets, periods, target_of(target));
+    hand_out(report_of(told), numbers, wholes)
+}
+
+#[no_mangle]
+pub extern "C" fn engine_weighted_mean(
+    returns: &[f64],
+    assets: usize,
+    periods: usize,
+    half_life: f64,
+    answer: &mut [f64],
+    numbers: &mut [f64; 2],
+    wholes: &mut [usize; 2],
+) -> u32
+    ensures { λ r. ⌜ Calls.left (Flat.handed r (now (numbers .exit)) (now (wholes .exit))) (now (answer .exit)) ≡ Calls.told (Estimators.exponentiallyWeightedMean (now (returns .entry)) assets periods «half_life» (now (answer .entry))) ⌝ }
+{
+    let told = calls::exponentially_weighted_mean(returns, assets, periods, half_life, answer);
+    hand_out(report_of(told), numbers, wholes)
+}
+
+#[no_mangle]
+pub extern "C" fn engine_james_stein_mean(
+    returns: &[f64],
+    assets: usize,
+    periods: usize,
+    limit: usize,
+    answer: &mut [f64],
+    numbers: &mut [f64; 2],
+    wholes: &mut [usize; 2],
+) -> u32
+    ensures { λ r. ⌜ Calls.left (Flat.handed r (now (numbers .exit)) (now (wholes .exit))) (now (answer .exit)) ≡ Calls.told (Estimators.jamesSteinMean (now (returns .entry)) assets periods limit (now (answer .entry))) ⌝ }
+{
+    let told = calls::james_stein_mean(returns, assets, periods, limit, answer);
+    hand_out(report_of(told), numbers, wholes)
+}
+
+#[no_mangle]
+pub extern "C" fn engine_bayes_stein_mean(
+    returns: &[f64],
+    assets: usize,
+    periods: usize,
+    limit: usize,
+    answer: &mut [f64],
+    numbers: &mut [f64; 2],
+    wholes: &mut [usize; 2],
+) -> u32
+    ensures { λ r. ⌜ Calls.left (Flat.handed r (now (numbers .exit)) (now (wholes .exit))) (now (answer .exit)) ≡ Calls.told (Estimators.bayesSteinMean (now (returns .entry)) assets periods limit (now (answer .entry))) ⌝ }
+{
+    let told = calls::bayes_stein_mean(returns, assets, periods, limit, answer);
+    hand_out(report_of(told), numbers, wholes)
+}
