@@ -16,7 +16,7 @@ use Rattle.leaves.proofs.Laws.{fits→room, size-pos}
 use Rattle.estimators.specs.Held.{maxExponent}
 
 -- the size, by the two parts of a whole number
-size-is : (z : ℤ) → natAbs z ≡ over z + under z
+pub size-is : (z : ℤ) → natAbs z ≡ over z + under z
 unfolding over under
 size-is (pos k) = omega arith
 size-is (negsuc k) = omega arith

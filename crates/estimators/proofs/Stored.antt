@@ -20,11 +20,14 @@ use Rattle.matrix.proofs.Stored.{entry-at, rows-at, rows-ext}
 
 -- ---- number by number
 
-pub tab-nth : (f : ℕ → Float) (n k : ℕ) → k < n → nth (tab n f) k ≡ f k
+pub tab-getD : {A : Type 0} (f : ℕ → A) (n k : ℕ) (d : A) → k < n → getD (tab n f) k d ≡ f k
 unfolding tab
-tab-nth f zero k h = absurd (not-suc-le-zero h)
-tab-nth f (suc n) zero h = refl
-tab-nth f (suc n) (suc k) h = tab-nth (λ k. f (suc k)) n k (le-of-suc-le-suc h)
+tab-getD f zero k d h = absurd (not-suc-le-zero h)
+tab-getD f (suc n) zero d h = refl
+tab-getD f (suc n) (suc k) d h = tab-getD (λ k. f (suc k)) n k d (le-of-suc-le-suc h)
+
+pub tab-nth : (f : ℕ → Float) (n k : ℕ) → k < n → nth (tab n f) k ≡ f k
+tab-nth f n k h = tab-getD f n k nan h
 
 pub tab-is : (l : List Float) (n : ℕ) (f : ℕ → Float) → length l ≡ n → ((k : ℕ) → k < n → nth l k ≡ f k) → l ≡ tab n f
 tab-is l n f e h =

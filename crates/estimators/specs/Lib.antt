@@ -2,6 +2,7 @@
 pub mod Refusals
 pub mod Sample
 pub mod Rows
+pub mod Powers
 pub mod Weighted
 pub mod Semi
 pub mod Given

@@ -1,5 +1,6 @@
 -- Document 01, "Causes", the beginning of the paragraph "Order", in two parts: what shapes and lengths decide, and what the returns decide. Definitions only.
-use Prim.Native.Nat.{ℕ, _*_}
+use mathlib.Core.Path.{_≡_}
+use Prim.Native.Nat.{ℕ, _*_, _<_, _≤_}
 use mathlib.Core.Bool.{not, _||_}
 use mathlib.Core.List.{List, [], _∷_}
 use lib.Dec.{eqb, ltb}
@@ -26,6 +27,10 @@ byShape length n T needed room =
     when (ltb T 2) (TooFewPeriods T) ∷
     when (not (eqb length (T * n)) || ltb room needed) WrongLength ∷
     []
+
+-- what they let pass, but for the answer's room
+abbrev pub Shaped : ℕ → ℕ → ℕ → Type 0
+Shaped length n T = (0 < n) × (n ≤ maxSide) × (2 ≤ T) × (T ≤ maxPeriods) × (length ≡ T * n)
 
 -- 5, sample 6
 abbrev pub byReturns : ℕ → ℕ → Matrix → List Check

@@ -1,18 +1,29 @@
-// The shrinkage intensity of Ledoit and Wolf, from the second moments s of the centered returns and the tables of π and θ, all n × n
-// (covariance.rs, `ledoit_wolf`).
+// The shrinkage intensity of Ledoit and Wolf: from the second moments s of the centered returns and the tables of π and θ, all n × n, and
+// from the returns (covariance.rs, `ledoit_wolf`).
 ghost use mathlib.Core.Path.{_≡_};
 ghost use mathlib.Core.Bool.{cond};
 ghost use Prim.Native.Nat.{ℕ, _*_, _≤_, _<_};
+ghost use lib.IntN.{natAbs};
 ghost use lib.ListN.{length};
 ghost use lib.Ieee.{lt};
 ghost use Rattle.leaves.specs.Numbers.{_⊖_, _⊗_, _⊘_, count, zero⁺, clamp01};
 ghost use Rattle.leaves.specs.Loops.{tab, nth};
+ghost use Rattle.leaves.specs.Scaling.{binaryExponent};
 ghost use Rattle.matrix.specs.Limits.{maxSide};
-ghost use Rattle.matrix.specs.Matrix.{Matrix, at, rows, trace, sumOver, squares};
+ghost use Rattle.matrix.specs.Matrix.{Matrix, at, rows, trace, amax, sumOver, squares};
 ghost use Rattle.matrix.specs.Inner.{sumRow};
+ghost use Rattle.estimators.specs.Held.{maxExponent};
+ghost use Rattle.estimators.specs.Sample as Sample;
 ghost use Rattle.estimators.specs.LedoitWolf as LedoitWolf;
-ghost use Rattle.estimators.specs.LedoitWolf.{apart, deviationOf, averageCorrelation, variation, covariation, intensityOf};
+ghost use Rattle.estimators.specs.LedoitWolf.{apart, variation, covariation, intensityOf};
+ghost use Rattle.estimators.specs.Rows.{centered, secondMoments, Symmetric};
 use crate::Target;
+use crate::columns;
+use crate::gram;
+use crate::moments::exponent;
+use crate::powers;
+use crate::rows::Row;
+use crate::sample;
 use crate::targets;
 use crate::vectors;
 
@@ -95,4 +106,98 @@ fn to_correlation(
     let gamma = distance(s, n, work);
     let error = matrix::sums::total(pi, n) - target_variation(r, sd, pi, theta, n);
     intensity(error, periods, gamma)
+}
+
+// s, the second moments of the rows.
+fn put_moments(row: Row, r: &[f64], n: usize, periods: usize, centers: &[f64], out: &mut [f64])
+    requires { ⌜ (length (now r) ≡ periods * n) × (n ≤ maxSide) × (length (now centers) ≡ n) × (length (now out) ≡ n * n) ⌝ }
+    ensures { λ _. ⌜ (now (out .exit) ≡ secondMoments periods n (centered row n (now (centers .entry)) (now (r .entry)))) × Symmetric n (now (out .exit)) ⌝ }
+{
+    let none = [0.0; 0];
+    gram::gram(row, r, n, periods, &none, centers, &none, out);
+    vectors::divide(std::num::nearest_u64_to_f64(periods as u64), out);
+}
+
+// δ of the rows. The tables are to reckon in.
+fn of_rows_in(
+    target: Target,
+    row: Row,
+    r: &[f64],
+    n: usize,
+    periods: usize,
+    centers: &[f64],
+    s: &mut [f64],
+    pi: &mut [f64],
+    theta: &mut [f64],
+    sd: &mut [f64],
+    work: &mut [f64],
+) -> f64
+    requires { ⌜ (0 < n) × (n ≤ maxSide) × (length (now r) ≡ periods * n) × (length (now centers) ≡ n) × (length (now s) ≡ n * n) × (length (now pi) ≡ n * n) × (length (now theta) ≡ n * n) × (length (now sd) ≡ n) × (length (now work) ≡ n * n) ⌝ }
+    ensures { λ d. ⌜ d ≡ intensityOf target periods n (centered row n (now (centers .entry)) (now (r .entry))) (at (secondMoments periods n (centered row n (now (centers .entry)) (now (r .entry)))) n) ⌝ }
+{
+    put_moments(row, r, n, periods, centers, s);
+    gram::variation(row, r, n, periods, centers, s, pi);
+    match target {
+        Target::ConstantVariance => to_variance(s, pi, n, periods, work),
+        Target::ConstantCorrelation => {
+            gram::covariation(row, r, n, periods, centers, s, theta);
+            to_correlation(s, pi, theta, n, periods, sd, work)
+        }
+    }
+}
+
+fn of_rows(target: Target, row: Row, r: &[f64], n: usize, periods: usize, centers: &[f64]) -> f64
+    requires { ⌜ (0 < n) × (n ≤ maxSide) × (length (now r) ≡ periods * n) × (length (now centers) ≡ n) ⌝ }
+    ensures { λ d. ⌜ d ≡ intensityOf target periods n (centered row n (now (centers .entry)) (now (r .entry))) (at (secondMoments periods n (centered row n (now (centers .entry)) (now (r .entry)))) n) ⌝ }
+{
+    let mut s = [0.0; matrix::MAX_SIDE * matrix::MAX_SIDE];
+    let mut pi = [0.0; matrix::MAX_SIDE * matrix::MAX_SIDE];
+    let mut theta = [0.0; matrix::MAX_SIDE * matrix::MAX_SIDE];
+    let mut sd = [0.0; matrix::MAX_SIDE];
+    let mut work = [0.0; matrix::MAX_SIDE * matrix::MAX_SIDE];
+    let size = n * n;
+    of_rows_in(
+        target,
+        row,
+        r,
+        n,
+        periods,
+        centers,
+        &mut s[..size],
+        &mut pi[..size],
+        &mut theta[..size],
+        &mut sd[..n],
+        &mut work[..size],
+    )
+}
+
+// The exponent of the largest distance from the mean. `sizes` is to reckon in.
+fn largest_exponent(r: &[f64], n: usize, periods: usize, means: &[f64], sizes: &mut [f64]) -> i32
+    requires { ⌜ (0 < n) × (n ≤ maxSide) × (length (now r) ≡ periods * n) × (length (now means) ≡ n) × (length (now sizes) ≡ n) ⌝ }
+    ensures { λ e. ⌜ (natAbs e ≤ maxExponent) × (now (means .entry) ≡ tab n (Sample.mean periods (at (now (r .entry)) n)) → e ≡ binaryExponent (amax periods n (Sample.deviation periods (at (now (r .entry)) n)))) ⌝ }
+{
+    let none = [0.0; 0];
+    columns::largest(Row::Deviation, r, n, periods, &none, means, &none, sizes);
+    exponent(leaves::sums::amax(sizes))
+}
+
+// δ of the returns: the second moments, π and θ of the deviations over a power of two near the largest.
+pub(crate) fn ledoit_wolf(target: Target, r: &[f64], n: usize, periods: usize) -> f64
+    requires { ⌜ (length (now r) ≡ periods * n) × (0 < n) × (n ≤ maxSide) × (1 ≤ periods) ⌝ }
+    ensures { λ d. ⌜ d ≡ LedoitWolf.ledoitWolf target periods n (at (now (r .entry)) n) ⌝ }
+{
+    let mut means = [0.0; matrix::MAX_SIDE];
+    let mut sizes = [0.0; matrix::MAX_SIDE];
+    let centers = &mut means[..n];
+    sample::means(r, n, periods, centers);
+    let e = largest_exponent(r, n, periods, centers, &mut sizes[..n]);
+    let power = powers::factors(-e);
+    of_rows(
+        target,
+        Row::Scaled(power.near, power.far),
+        r,
+        n,
+        periods,
+        centers,
+    )
 }

@@ -1,7 +1,9 @@
 // The records of document 01 that cross a call.
 mod adjusted;
+mod base;
 mod bayes_stein;
 mod checks;
+mod columns;
 mod forms;
 mod gather;
 mod given;
@@ -10,11 +12,16 @@ mod james_stein;
 mod ledoit_wolf;
 mod moments;
 mod opening;
+mod powers;
 mod rows;
+mod sample;
+mod scales;
+mod semi;
 mod tables;
 mod targets;
 mod validate;
 mod vectors;
+mod weighted;
 
 // The most periods of a return matrix: the definitions' `maxPeriods`.
 pub const MAX_PERIODS: usize = 4096;

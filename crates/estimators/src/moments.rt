@@ -1,9 +1,19 @@
 // The moments record, and the powers of two that its returns are taken over.
 ghost use mathlib.Core.Path.{_≡_};
-ghost use Prim.Native.Nat.{_≤_};
-ghost use lib.IntN.{natAbs};
+ghost use Prim.Native.Nat.{ℕ, _+_, _*_, _≤_, _<_};
+ghost use lib.IntN.{pos, natAbs};
+ghost use lib.ListN.{length, getD};
+ghost use Rattle.leaves.specs.Loops.{tab};
 ghost use Rattle.leaves.specs.Scaling.{binaryExponent};
-ghost use Rattle.estimators.specs.Held.{maxExponent};
+ghost use Rattle.matrix.specs.Limits.{maxSide};
+ghost use Rattle.matrix.specs.Matrix.{at, rows};
+ghost use Rattle.estimators.specs.Sample as Sample;
+ghost use Rattle.estimators.specs.Moments.{moments};
+ghost use Rattle.estimators.specs.Held.{held, maxExponent};
+ghost use Rattle.estimators.specs.Gather.{Exponents};
+use crate::powers::put_units;
+use crate::sample::covariance_in;
+use crate::sample::means_in;
 
 // Of n assets, the first n numbers of the mean vector and the first n * n of the covariance, row by row.
 pub struct Moments {
@@ -17,4 +27,48 @@ pub(crate) fn exponent(x: f64) -> i32
     ensures { λ r. ⌜ (r ≡ binaryExponent x) × (natAbs r ≤ maxExponent) ⌝ }
 {
     leaves::scaling::binary_exponent(x)
+}
+
+// The means and the covariance, of the returns over their powers of two. `units` is to reckon in.
+fn put_moments(
+    r: &[f64],
+    n: usize,
+    periods: usize,
+    exponents: &[i32],
+    units: &mut [f64],
+    mean: &mut [f64],
+    covariance: &mut [f64],
+)
+    requires { ⌜ (length (now r) ≡ periods * n) × (n ≤ maxSide) × (1 ≤ periods) × (length (now exponents) ≡ n) × Exponents (now exponents) × (length (now units) ≡ n + n) × (length (now mean) ≡ n) × (length (now covariance) ≡ n * n) ⌝ }
+    ensures { λ _. ⌜ (now (mean .exit) ≡ tab n (Sample.mean periods (Sample.scaled (λ (i : ℕ). getD (now (exponents .entry)) i (pos 0)) (at (now (r .entry)) n)))) × (now (covariance .exit) ≡ rows n n (Sample.covariance periods (Sample.scaled (λ (i : ℕ). getD (now (exponents .entry)) i (pos 0)) (at (now (r .entry)) n)))) ⌝ }
+{
+    put_units(exponents, n, units);
+    means_in(r, n, periods, units, mean);
+    covariance_in(r, n, periods, units, mean, covariance);
+}
+
+// The moments of the returns, each asset's over its power of two.
+pub(crate) fn of_returns(r: &[f64], n: usize, periods: usize, exponents: &[i32]) -> Moments
+    requires { ⌜ (0 < n) × (length (now r) ≡ periods * n) × (n ≤ maxSide) × (1 ≤ periods) × (length (now exponents) ≡ n) × Exponents (now exponents) ⌝ }
+    ensures { λ m. ⌜ held n m ≡ moments periods n (Sample.scaled (λ (i : ℕ). getD (now (exponents .entry)) i (pos 0)) (at (now (r .entry)) n)) ⌝ }
+{
+    let mut units = [0.0; 2 * matrix::MAX_SIDE];
+    let mut mean = [0.0; matrix::MAX_SIDE];
+    let mut covariance = [0.0; matrix::MAX_SIDE * matrix::MAX_SIDE];
+    let twice = n + n;
+    let size = n * n;
+    put_moments(
+        r,
+        n,
+        periods,
+        exponents,
+        &mut units[..twice],
+        &mut mean[..n],
+        &mut covariance[..size],
+    );
+    Moments {
+        mean: mean,
+        covariance: covariance,
+        periods: std::num::nearest_u64_to_f64(periods as u64),
+    }
 }

@@ -1,13 +1,18 @@
-// What every call looks at first: the shapes and lengths, 1 to 4.
+// What every call looks at first: the shapes and lengths, 1 to 4, and the returns, 5 and the sample's 6.
 ghost use mathlib.Core.Path.{_≡_};
-ghost use Prim.Native.Nat.{_≤_};
+ghost use Prim.Native.Nat.{_*_, _≤_};
+ghost use lib.ListN.{length};
 ghost use Rattle.matrix.specs.Limits.{maxSide};
+ghost use Rattle.matrix.specs.Matrix.{at, rows};
 ghost use Rattle.estimators.specs.Refusals as Refusals;
+ghost use Rattle.estimators.specs.Sample as Sample;
 ghost use Rattle.estimators.specs.Checks.{checked};
 ghost use Rattle.estimators.specs.Opening as Opening;
 use crate::Refusal;
 use crate::checks::Check;
 use crate::checks::when;
+use crate::sample::covariance;
+use matrix::places::Place;
 
 // What a call's answer fills: an n × n table, n numbers, or nothing.
 pub(crate) enum Filled {
@@ -54,4 +59,20 @@ pub(crate) fn check_shape(
         return Check::Refuses(Refusal::WrongLength);
     }
     when(room < needed(filled, n), Refusal::WrongLength)
+}
+
+// 5, sample 6. The sample covariance is left in `out`.
+pub(crate) fn check_returns(r: &[f64], n: usize, periods: usize, out: &mut [f64]) -> Check
+    requires { ⌜ (length (now r) ≡ periods * n) × (n ≤ maxSide) × (1 ≤ periods) × (length (now out) ≡ n * n) ⌝ }
+    ensures { λ k. ⌜ (now (out .exit) ≡ rows n n (Sample.covariance periods (at (now (r .entry)) n))) × (checked k ≡ Refusals.first (Opening.byReturns periods n (at (now (r .entry)) n))) ⌝ }
+{
+    covariance(r, n, periods, out);
+    let bad = matrix::places::first_not_finite(r, periods, n);
+    if let Place::At(i, j) = bad {
+        return Check::Refuses(Refusal::NotFinite(i, j));
+    }
+    when(
+        !matrix::places::all_finite(out, n, n),
+        Refusal::CovarianceNotFinite,
+    )
 }

@@ -2,7 +2,7 @@
 ghost use mathlib.Core.Path.{_≡_};
 ghost use Prim.Native.Nat.{ℕ, _+_, _≤_};
 ghost use lib.ListN.{length};
-ghost use Rattle.leaves.specs.Numbers.{_⊕_, _⊖_, _⊗_, _⊘_};
+ghost use Rattle.leaves.specs.Numbers.{_⊕_, _⊖_, _⊗_, _⊘_, abs, larger};
 ghost use Rattle.leaves.specs.Loops.{tab, nth};
 ghost use Rattle.estimators.specs.Rows.{distance²};
 
@@ -76,6 +76,18 @@ pub(crate) fn add_times(a: f64, xs: &[f64], out: &mut [f64])
     let mut k = 0;
     while k < out.len() {
         out[k] = out[k] + a * xs[k];
+        k += 1;
+    }
+}
+
+// Each number becomes the size of its number of xs, where that is larger.
+pub(crate) fn raise(xs: &[f64], out: &mut [f64])
+    requires { ⌜ length (now xs) ≡ length (now out) ⌝ }
+    ensures { λ _. ⌜ now (out .exit) ≡ tab (length (now (out .entry))) (λ (k : ℕ). larger (nth (now (out .entry)) k) (abs (nth (now (xs .entry)) k))) ⌝ }
+{
+    let mut k = 0;
+    while k < out.len() {
+        out[k] = leaves::numbers::larger(out[k], leaves::numbers::abs(xs[k]));
         k += 1;
     }
 }

@@ -1,4 +1,4 @@
 -- The definitions at numbers.
-mod Evaluated
+pub mod Evaluated
 pub mod Cases
 pub mod Vectors

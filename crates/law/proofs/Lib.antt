@@ -1,4 +1,4 @@
--- The proof of the power-of-two law.
+-- The proof of the power-of-two law, and other laws of the five calls.
 pub mod Chain
 pub mod Sample
 pub mod Scaled
@@ -21,5 +21,19 @@ pub mod Adjusted
 pub mod Ratio
 pub mod Common
 pub mod Tied
+pub mod Share
+pub mod Columns
+pub mod Pull
 pub mod BayesStein
 pub mod Theorem
+-- laws of each call, over all inputs
+pub mod Passing
+pub mod Calls
+pub mod Outcome
+pub mod Symmetric
+pub mod Limits
+pub mod Counts
+pub mod Intensities
+pub mod Zeros
+pub mod Diagonal
+pub mod NotDecomposed

@@ -137,7 +137,7 @@ times-back j k f (fin s m e) (fin t n d) h = f (units s m e) (units t n d) h
 pub times-up : (k : ℕ) (x y : Float) → Times (negsuc k) x y → Times (pos (suc k)) y x
 times-up k x y h = times-back (negsuc k) (pos (suc k)) (λ a b e. sym e) x y h
 
-times-down : (k : ℕ) (x y : Float) → Times (pos (suc k)) x y → Times (negsuc k) y x
+pub times-down : (k : ℕ) (x y : Float) → Times (pos (suc k)) x y → Times (negsuc k) y x
 times-down k x y h = times-back (pos (suc k)) (negsuc k) (λ a b e. sym e) x y h
 
 -- negsuc k twice is negsuc (suc (k + k))

@@ -6,7 +6,7 @@ use native.Mathlib.Omega.{arith}
 use mathlib.Core.Bool.{Bool, true, false}
 use mathlib.Core.List.{List, map}
 use lib.Dec.{T, lit≤}
-use lib.IntN.{ℤ, pos, negsuc, _+ℤ_}
+use lib.IntN.{ℤ, pos, negsuc, natAbs, _+ℤ_}
 use lib.ListN.{length}
 use lib.Ieee.{Float, binary64, fits}
 use Rattle.leaves.specs.Shift.{shift}
@@ -19,7 +19,7 @@ use Rattle.estimators.specs.declared.Regularization.the-variants.{Unregularized
 use Rattle.estimators.specs.declared.Settings.{Settings}
 use Rattle.law.specs.Law as Law
 use Rattle.law.specs.Law.{Times, All, Each, Question, Input, answer, Sized, InRange, QuestionInRange, SettingsInRange, RegularizationInRange, Copy, CopiedEstimate, sample, given, weighted, semi, semiBelow, CopiedRegularization, unregularized, CopiedSettings, CopiedQuestion, covariance, ledoitWolf, james, bayes, Scaled, Alike, PowerOfTwoLaw}
-use Rattle.law.proofs.Numbers.{copy-shift, copies-shift, each-back, times-up, twice, alike-down}
+use Rattle.law.proofs.Numbers.{copy-shift, copies-shift, each-back, times-up, times-down, twice, alike-down}
 use Rattle.law.proofs.Sizes.{all-map, sized-fits}
 use Rattle.law.proofs.Opening.{sized-moved}
 use Rattle.law.proofs.Settings.{sets}
@@ -81,50 +81,57 @@ up k a b s =
     renamed = ap (λ (n : ℕ). named n (b .periods) (b .returns)) (sym (s .assets)) ∙ ap (λ (P : ℕ). named (a .assets) P (b .returns)) (sym (s .periods))
         ∙ ap (named (a .assets) (a .periods)) (copies-shift k (a .returns) (b .returns) (fits-all 40 (a .returns) (s .first .returns)) (fits-all 40 (b .returns) (s .second .returns)) (s .returns))
 
--- ---- a power below 0
+-- ---- a power below 0: the two inputs change places
+module _ (j k : ℤ) (same-size : natAbs j ≤ 80 → natAbs k ≤ 80) (once : (x y : Float) → Copy j x y → Copy k y x) (both : (x y : Float) → Copy (j +ℤ j) x y → Copy (k +ℤ k) y x) where
+  estimate-back : (E E' : Estimate) → CopiedEstimate j E E' → CopiedEstimate k E' E
+  estimate-back E E' sample = sample
+  estimate-back E E' given = given
+  estimate-back E E' weighted = weighted
+  estimate-back E E' semi = semi
+  estimate-back E E' (semiBelow {x = x} {y = y} c) = semiBelow (once x y c)
+
+  regularization-back : (H H' : Regularization) → CopiedRegularization j H H' → CopiedRegularization k H' H
+  regularization-back H H' unregularized = unregularized
+  regularization-back H H' (Law.ridge {x = x} {y = y} c) = Law.ridge (both x y c)
+
+  question-back : (q q' : Question) → CopiedQuestion j q q' → CopiedQuestion k q' q
+  question-back q q' (covariance {s = s} {s' = s'} {g = g} {g' = g'} c) = covariance (record {
+    estimate = estimate-back (s .estimate) (s' .estimate) (c .estimate);
+    shrinkage = sym (c .shrinkage);
+    regularization = regularization-back (s .regularization) (s' .regularization) (c .regularization);
+    limit = sym (c .limit);
+    givenLength = sym (c .givenLength);
+    given = λ e. each-back (Copy (j +ℤ j)) (Copy (k +ℤ k)) both g g' (c .given (given-too k (s' .estimate) (s .estimate) (estimate-back (s .estimate) (s' .estimate) (c .estimate)) e));
+  })
+  question-back q q' ledoitWolf = ledoitWolf
+  question-back q q' Law.CopiedQuestion.weighted = Law.CopiedQuestion.weighted
+  question-back q q' james = james
+  question-back q q' bayes = bayes
+
+  turned : (a b : Input) → Scaled j a b → Scaled k b a
+  turned a b s = record {
+    power = same-size (s .power);
+    returns = each-back (Copy j) (Copy k) once (a .returns) (b .returns) (s .returns);
+    question = question-back (a .question) (b .question) (s .question);
+    assets = sym (s .assets);
+    periods = sym (s .periods);
+    sliceLength = sym (s .sliceLength);
+    first = s .second;
+    second = s .first;
+  }
+
 copy-up : (k : ℕ) (x y : Float) → Copy (negsuc k) x y → Copy (pos (suc k)) y x
 copy-up k x y c = (times-up k x y (c .0), sym (c .1))
 
-copy-twice : (k : ℕ) (x y : Float) → Copy (negsuc k +ℤ negsuc k) x y → Copy (pos (suc k) +ℤ pos (suc k)) y x
-copy-twice k x y c = rw (twice k) (copy-up (suc (k + k)) x y c)
+copy-down : (k : ℕ) (x y : Float) → Copy (pos (suc k)) x y → Copy (negsuc k) y x
+copy-down k x y c = (times-down k x y (c .0), sym (c .1))
 
-estimate-back : (k : ℕ) (E E' : Estimate) → CopiedEstimate (negsuc k) E E' → CopiedEstimate (pos (suc k)) E' E
-estimate-back k E E' sample = sample
-estimate-back k E E' given = given
-estimate-back k E E' weighted = weighted
-estimate-back k E E' semi = semi
-estimate-back k E E' (semiBelow {x = x} {y = y} c) = semiBelow (copy-up k x y c)
+turned-up : (k : ℕ) (a b : Input) → Scaled (negsuc k) a b → Scaled (pos (suc k)) b a
+turned-up k = turned (negsuc k) (pos (suc k)) (λ h. h) (copy-up k) (λ x y c. rw (twice k) (copy-up (suc (k + k)) x y c))
 
-regularization-back : (k : ℕ) (H H' : Regularization) → CopiedRegularization (negsuc k) H H' → CopiedRegularization (pos (suc k)) H' H
-regularization-back k H H' unregularized = unregularized
-regularization-back k H H' (Law.ridge {x = x} {y = y} c) = Law.ridge (copy-twice k x y c)
-
-question-back : (k : ℕ) (q q' : Question) → CopiedQuestion (negsuc k) q q' → CopiedQuestion (pos (suc k)) q' q
-question-back k q q' (covariance {s = s} {s' = s'} {g = g} {g' = g'} c) = covariance (record {
-  estimate = estimate-back k (s .estimate) (s' .estimate) (c .estimate);
-  shrinkage = sym (c .shrinkage);
-  regularization = regularization-back k (s .regularization) (s' .regularization) (c .regularization);
-  limit = sym (c .limit);
-  givenLength = sym (c .givenLength);
-  given = λ e. each-back (Copy (negsuc k +ℤ negsuc k)) (Copy (pos (suc k) +ℤ pos (suc k))) (copy-twice k) g g' (c .given (given-too (pos (suc k)) (s' .estimate) (s .estimate) (estimate-back k (s .estimate) (s' .estimate) (c .estimate)) e));
-})
-question-back k q q' ledoitWolf = ledoitWolf
-question-back k q q' Law.CopiedQuestion.weighted = Law.CopiedQuestion.weighted
-question-back k q q' james = james
-question-back k q q' bayes = bayes
-
-turned : (k : ℕ) (a b : Input) → Scaled (negsuc k) a b → Scaled (pos (suc k)) b a
-turned k a b s = record {
-  power = s .power;
-  returns = each-back (Copy (negsuc k)) (Copy (pos (suc k))) (copy-up k) (a .returns) (b .returns) (s .returns);
-  question = question-back k (a .question) (b .question) (s .question);
-  assets = sym (s .assets);
-  periods = sym (s .periods);
-  sliceLength = sym (s .sliceLength);
-  first = s .second;
-  second = s .first;
-}
+pub turned-down : (k : ℕ) (a b : Input) → Scaled (pos (suc k)) a b → Scaled (negsuc k) b a
+turned-down k = turned (pos (suc k)) (negsuc k) (λ h. h) (copy-down k) (λ x y c. copy-down (suc (k + k)) x y (rw (twice k) at c))
 
 pub power-of-two-law : PowerOfTwoLaw
 power-of-two-law (pos k) a b s = up k a b s
-power-of-two-law (negsuc k) a b s = alike-down k (answer b) (answer a) (up (suc k) b a (turned k a b s))
+power-of-two-law (negsuc k) a b s = alike-down k (answer b) (answer a) (up (suc k) b a (turned-up k a b s))

@@ -1,0 +1,85 @@
+-- Laws of the calls' opening, 1 to 6: what holds where shapes and lengths pass, and that a call then looks only at as much of the answer slice as
+-- its answer fills. Assumes nothing.
+use mathlib.Core.Path.{_≡_, refl, sym, ap, _∙_}
+use mathlib.Core.Bool.{Bool, true, false, not, _||_}
+use mathlib.Core.List.{List, [], _∷_, _++_, append-nil}
+use Prim.Native.Nat.{ℕ, _*_, _<_, _≤_}
+use native.Mathlib.Omega.{arith}
+use borrow.Author.Tests.{eq-eqb, ne-eqb, le-ltb, eqb-true, eqb-false, ltb-false, not-false}
+use lib.Dec.{eqb, ltb}
+use lib.ListN.{length, take, drop, take-append-drop, drop-of-length-le}
+use lib.Seq.{length-take-le}
+use lib.Ieee.{Float}
+use Rattle.leaves.specs.Loops.{tab, fill}
+use Rattle.matrix.specs.Limits.{maxSide}
+use Rattle.matrix.specs.Matrix.{at}
+use Rattle.estimators.specs.Refusals.{Check, passes, refuses, when, first}
+use Rattle.estimators.specs.Order.{maxPeriods, opening, notFinite}
+use Rattle.estimators.specs.Opening.{byShape, byReturns, Shaped}
+use Rattle.estimators.specs.Calls.{Answered, answered, settle}
+use Rattle.estimators.specs.declared.Refusal.{Refusal}
+use Rattle.estimators.specs.declared.Answer.{Answer}
+use Rattle.estimators.specs.declared.Answer.the-variants.{Refused}
+use Rattle.estimators.proofs.Firsts.{first-passes, first-front}
+
+-- one of two tests that both fail
+neither : (a b : Bool) → (a || b) ≡ false → (a ≡ false) × (b ≡ false)
+neither false b e = (refl, e)
+neither true b e = let z : _≡_ {A = ℕ} 0 1 = cc in absurd (omega arith)
+
+pub shape-passes : (l n T m room : ℕ) → first (byShape l n T m room) ≡ passes → Shaped l n T × (m ≤ room)
+shape-passes l n T m room e =
+    let a = first-passes (eqb n 0) _ _ e in
+    let b = first-passes (ltb maxSide n || ltb maxPeriods T) _ _ (a .1) in
+    let c = first-passes (ltb T 2) _ _ (b .1) in
+    let d = first-passes (not (eqb l (T * n)) || ltb room m) _ _ (c .1) in
+    let large = neither _ _ (b .0) in
+    let long = neither _ _ (d .0) in
+    let some = eqb-false n 0 (a .0) in
+    ((omega (arith, some), ltb-false _ _ (large .0), ltb-false _ _ (c .0), ltb-false _ _ (large .1), eqb-true _ _ (not-false _ (long .0))), ltb-false _ _ (long .1))
+
+-- where shapes and lengths pass, the returns are looked at next
+pub opened : (r : List Float) (n T m : ℕ) (slice : List Float) (rest : List Check) → Shaped (length r) n T → m ≤ length slice
+    → first (opening r n T m slice ++ rest) ≡ first (byReturns T n (at r n) ++ rest)
+unfolding first opening notFinite
+opened r n T m slice rest (some, small, two, few, long) fits =
+    rw (opening, ne-eqb n 0 (λ e. omega (arith, some, e)), le-ltb maxSide n small, le-ltb maxPeriods T few, le-ltb T 2 two, eq-eqb (length r) (T * n) long, le-ltb (length slice) m fits)
+
+-- ---- the answer of m numbers, in a slice of just as many, and in a longer one
+
+pub fill-all : (m : ℕ) (f : ℕ → Float) (s : List Float) → length s ≤ m → fill m f s ≡ tab m f
+unfolding fill
+fill-all m f s h = ap (λ (r : List Float). tab m f ++ r) (drop-of-length-le s {i = m} h) ∙ append-nil (tab m f)
+
+settle-part : (k : Check) (a b : Answer) (m : ℕ) (f : ℕ → Float) (slice p : List Float) → m ≤ length slice
+    → answered b p ≡ settle k (take m slice) (answered a (fill m f (take m slice))) → answered b (p ++ drop m slice) ≡ settle k slice (answered a (fill m f slice))
+unfolding settle fill
+settle-part passes a b m f slice p fits e =
+    let long = length-take-le m slice fits in
+    ap (λ (x : Answered). answered (x .answer) (x .slice ++ drop m slice)) e
+    ∙ ap (λ (l : List Float). answered a (l ++ drop m slice)) (fill-all m f (take m slice) (omega (arith, long)))
+settle-part (refuses c) a b m f slice p fits e =
+    ap (λ (x : Answered). answered (x .answer) (x .slice ++ drop m slice)) e ∙ ap (answered (Refused c)) (take-append-drop m slice)
+
+module _ (r : List Float) (n T m : ℕ) (slice : List Float) (rest : List Check) (a : Answer) (f : ℕ → Float) where
+  -- what a call answers whose further checks are `rest`, and whose answer is `a` with the numbers f
+  abbrev pub answerOf : List Float → Answered
+  answerOf s = settle (first (opening r n T m s ++ rest)) s (answered a (fill m f s))
+
+  pub shape-refuses : {c : Refusal} → first (byShape (length r) n T m (length slice)) ≡ refuses c → answered (Refused c) slice ≡ answerOf slice
+  unfolding first settle opening
+  shape-refuses {c} e = rw (first-front (byShape (length r) n T m (length slice)) (byReturns T n (at r n) ++ rest), e)
+
+  pub shape-fits : {b : Answer} {p : List Float} → Shaped (length r) n T → m ≤ length slice → answered b p ≡ answerOf (take m slice) → answered b (p ++ drop m slice) ≡ answerOf slice
+  shape-fits {b} {p} shape fits e =
+      let long = length-take-le m slice fits in
+      let k = first (byReturns T n (at r n) ++ rest) in
+      let here = opened r n T m (take m slice) rest shape (omega (arith, long)) in
+      let whole = opened r n T m slice rest shape fits in
+      settle-part k a b m f slice p fits (e ∙ ap (λ (k : Check). settle k (take m slice) (answered a (fill m f (take m slice)))) here)
+      ∙ ap (λ (k : Check). settle k slice (answered a (fill m f slice))) (sym whole)
+
+  pub shaped : {k : Check} → Shaped (length r) n T → length slice ≡ m → k ≡ first (byReturns T n (at r n) ++ rest) → settle k slice (answered a (tab m f)) ≡ answerOf slice
+  shaped {k} shape long e =
+      ap (λ (k : Check). settle k slice (answered a (tab m f))) (e ∙ sym (opened r n T m slice rest shape (omega (arith, long))))
+      ∙ ap (λ (l : List Float). settle (first (opening r n T m slice ++ rest)) slice (answered a l)) (sym (fill-all m f slice (omega (arith, long))))

@@ -1,0 +1,39 @@
+-- `estimators::columns::add_period` meets its contract: the row that is added is the period's.
+use mathlib.Core.Path.{sym, _∙_}
+use native.Mathlib.Omega.{arith}
+use lib.Seq.{length-take-le}
+use Rattle.leaves.specs.Numbers.{_⊕_}
+use Rattle.estimators.proofs.Passes.{period-passed}
+use borrow.Author.Needs.{needs}
+use Rattle.estimators.proofs.columns.add_period.Statement.{statement}
+use Rattle.estimators.proofs.columns.add_period.Tie as tie
+
+array-borrow-prefix-buffer : tie.Need-array-borrow-prefix-buffer
+array-borrow-prefix-buffer c = search needs
+
+slice-aggregate-d : tie.Need-slice-aggregate-d
+slice-aggregate-d c = sym (length-take-le _ _ (omega arith))
+
+form-requires : tie.Need-form-requires
+form-requires c κs =
+    let h = c .before .before .before .before .before .before .before .pre in
+    (h .0, h .1, h .2, h .3, length-take-le _ _ (omega arith))
+
+add-requires : tie.Need-add-requires
+add-requires c κs =
+    let h = c .before .before .before .before .before .before .before .before .before .before .before .before .pre in
+    c .before .before .before .before .form .kept .1 .1 .1 .1 .1 .1 .1 .1 .0 ∙ length-take-le _ _ (omega arith) ∙ sym (h .4)
+
+same-length : tie.Need-same-length
+same-length c = search needs
+
+returns : tie.Need-returns
+returns c =
+    let p = c .before .before .before in
+    let f = p .before .before .before .before .before in
+    let a = f .before .before .before .before .before .before .before .before .args in
+    let h = f .before .before .before .before .before .before .before .before .pre in
+    p .add .ensures ∙ period-passed (λ v x. v ⊕ x) _ _ _ (a .out .now) _ (h .4) (f .form .ensures)
+
+pub add-period-spec : {M : Type 1} → statement M
+add-period-spec = tie.close (tie.spec array-borrow-prefix-buffer slice-aggregate-d form-requires add-requires same-length returns)

@@ -1,0 +1,66 @@
+-- `estimators::ledoit_wolf::ledoit_wolf` meets its contract: the rows that it forms are the definition's, over the power of two of the largest deviation.
+use mathlib.Core.Path.{_≡_, sym, ap, _∙_}
+use mathlib.Core.List.{List}
+use Prim.Native.Nat.{ℕ}
+use native.Mathlib.Omega.{arith}
+use lib.IntN.{ℤ, negℤ}
+use lib.ListN.{length}
+use lib.Seq.{length-take-le}
+use lib.Ieee.{Float}
+use Rattle.leaves.specs.Loops.{tab}
+use Rattle.leaves.specs.Scaling.{binaryExponent}
+use Rattle.leaves.proofs.Loops.{length-tab}
+use Rattle.matrix.specs.Matrix.{at, amax}
+use Rattle.estimators.specs.Sample.{mean, deviation}
+use Rattle.estimators.specs.LedoitWolf.{intensityOf, ledoitWolf}
+use Rattle.estimators.specs.Powers.{Factored}
+use Rattle.estimators.specs.Rows.{centered, secondMoments}
+use Rattle.estimators.specs.declared.Target.{Target}
+use Rattle.estimators.specs.declared.rows.Row.the-variants.{Scaled}
+use Rattle.estimators.proofs.Exponents.{size-neg, neg-fits, neg-read}
+use Rattle.estimators.proofs.Centered.{from-centered, scaled-formed}
+use borrow.Author.Needs.{needs}
+use Rattle.estimators.proofs.ledoit_wolf.ledoit_wolf.Statement.{statement}
+use Rattle.estimators.proofs.ledoit_wolf.ledoit_wolf.Tie as tie
+
+answer : (F : Target) (T n : ℕ) (r : List Float) {means : List Float} → means ≡ tab n (mean T (at r n)) → (e : ℤ) → (means ≡ tab n (mean T (at r n)) → e ≡ binaryExponent (amax T n (deviation T (at r n)))) → (near far : Float) → Factored near far (negℤ e)
+    → {d : Float} → d ≡ intensityOf F T n (centered (Scaled near far) n means r) (at (secondMoments T n (centered (Scaled near far) n means r)) n) → d ≡ ledoitWolf F T n (at r n)
+answer F T n r {means} em e ee near far f ed =
+    from-centered F T n (at r n) (centered (Scaled near far) n means r) e (ee em) (λ t i ht hi. scaled-formed T n (at r n) em near far (negℤ e) f t i hi) ed
+
+array-borrow-prefix-means : tie.Need-array-borrow-prefix-means
+array-borrow-prefix-means c = search needs
+
+slice-aggregate-centers : tie.Need-slice-aggregate-centers
+slice-aggregate-centers c = sym (length-take-le _ _ (c .before .before .pre .2))
+
+means-requires : tie.Need-means-requires
+means-requires c κs = let p = c .before .before .before .pre in (p .0, p .2, length-take-le _ _ (p .2))
+
+array-borrow-prefix-sizes : tie.Need-array-borrow-prefix-sizes
+array-borrow-prefix-sizes c = search needs
+
+slice-aggregate-largest-exponent : tie.Need-slice-aggregate-largest-exponent
+slice-aggregate-largest-exponent c = sym (length-take-le _ _ (c .before .before .before .before .before .before .before .before .pre .2))
+
+largest-exponent-requires : tie.Need-largest-exponent-requires
+largest-exponent-requires c κs = let p = c .before .before .before .before .before .before .before .before .pre in (p .1, p .2, p .0, ap length (c .before .before .before .before .means2 .ensures) ∙ length-tab _ _, length-take-le _ _ (p .2))
+
+sub-factors : tie.Need-sub-factors
+sub-factors c = let e = c .before .largest-exponent in neg-fits (e .result) (omega (arith, e .ensures .0))
+
+factors-requires : tie.Need-factors-requires
+factors-requires c κs = let e = c .before .largest-exponent in rw (neg-read (e .result) (omega (arith, e .ensures .0)), size-neg) (e .ensures .0)
+
+of-rows-requires : tie.Need-of-rows-requires
+of-rows-requires c κs = let p = c .before .before .before .before .before .before .before .before .before .before .before .before .pre in (p .1, p .2, p .0, ap length (c .before .before .before .before .before .before .before .before .means2 .ensures) ∙ length-tab _ _)
+
+returns : tie.Need-returns
+returns c =
+    let a = c .before .before .before .before .before .before .before .before .before .before .before .before .before .before .args in
+    let e = c .before .before .before .before .before .largest-exponent in
+    let f = c .before .before .before .factors in
+    answer (a .target) (a .periods) (a .n) (a .r .now) (c .before .before .before .before .before .before .before .before .before .before .means2 .ensures) (e .result) (e .ensures .1) (f .result .near) (f .result .far) (rw (neg-read (e .result) (omega (arith, e .ensures .0))) at (f .ensures)) (c .before .of-rows .ensures)
+
+pub ledoit-wolf-spec : {M : Type 1} → statement M
+ledoit-wolf-spec = tie.close (tie.spec array-borrow-prefix-means slice-aggregate-centers means-requires array-borrow-prefix-sizes slice-aggregate-largest-exponent largest-exponent-requires sub-factors factors-requires of-rows-requires returns)

@@ -1,0 +1,76 @@
+-- `estimators::ledoit_wolf::of_rows_in` meets its contract: by the cases of the target, from the stored second moments.
+use mathlib.Core.Path.{_≡_, sym, _∙_}
+use mathlib.Core.List.{List}
+use Prim.Native.Nat.{ℕ}
+use lib.Ieee.{Float}
+use Rattle.matrix.specs.Matrix.{Matrix, at}
+use Rattle.estimators.specs.LedoitWolf.{intensityOf}
+use Rattle.estimators.specs.Rows.{centered, secondMoments}
+use Rattle.estimators.specs.declared.Target.{Target}
+use borrow.Author.Needs.{needs}
+use Rattle.estimators.proofs.ledoit_wolf.of_rows_in.Statement.{statement}
+use Rattle.estimators.proofs.ledoit_wolf.of_rows_in.Tie as tie
+
+from-stored : (G : Target) (T n : ℕ) (z : Matrix) {F : Target} {s : List Float} {d : Float} → F ≡ G → s ≡ secondMoments T n z → d ≡ intensityOf G T n z (at s n) → d ≡ intensityOf F T n z (at (secondMoments T n z) n)
+from-stored G T n z eF es ed = ed ∙ (λ k. intensityOf (sym eF k) T n z (at (es k) n))
+
+put-moments-requires : tie.Need-put-moments-requires
+put-moments-requires c κs = search needs
+
+variation-requires : tie.Need-variation-requires
+variation-requires c κs =
+    let m = c .before .before .before .before .put-moments in
+    let p = c .before .before .before .before .before .before .before .before .before .before .before .before .before .pre in
+    (p .2, p .1, p .3, m .kept .1 .1 .1 .1 .1 .0 ∙ p .4, m .ensures .1, p .5)
+
+enum-told : tie.Need-enum-told
+enum-told c = search needs
+
+to-variance-requires : tie.Need-to-variance-requires
+to-variance-requires c κs = search needs
+
+enum-told-2 : tie.Need-enum-told-2
+enum-told-2 c = search needs
+
+covariation-requires : tie.Need-covariation-requires
+covariation-requires c κs = search needs
+
+to-correlation-requires : tie.Need-to-correlation-requires
+to-correlation-requires c κs = search needs
+
+same-length : tie.Need-same-length
+same-length c = search needs
+
+same-length-2 : tie.Need-same-length-2
+same-length-2 c = search needs
+
+same-length-3 : tie.Need-same-length-3
+same-length-3 c = search needs
+
+returns : tie.Need-returns
+returns c =
+    let a = c .before .before .before .before .before .before .before .before .before .before .before .before .before .before .before .before .before .before .before .before .before .before .before .before .args in
+    from-stored _ (a .periods) (a .n) (centered (a .row) (a .n) (a .centers .now) (a .r .now)) (c .before .before .before .before .before .before .enum-told .given .1) (c .before .before .before .before .before .before .before .before .before .before .before .before .before .before .before .put-moments .ensures .0) (c .before .before .to-variance .ensures _ (c .before .before .before .before .before .before .before .before .before .before .variation .ensures))
+
+same-length-4 : tie.Need-same-length-4
+same-length-4 c = search needs
+
+same-length-5 : tie.Need-same-length-5
+same-length-5 c = search needs
+
+same-length-6 : tie.Need-same-length-6
+same-length-6 c = search needs
+
+same-length-7 : tie.Need-same-length-7
+same-length-7 c = search needs
+
+same-length-8 : tie.Need-same-length-8
+same-length-8 c = search needs
+
+returns-2 : tie.Need-returns-2
+returns-2 c =
+    let a = c .before .before .before .before .before .before .before .before .before .before .before .before .before .before .before .before .before .before .before .before .before .before .before .before .before .before .before .before .before .before .before .before .before .args in
+    from-stored _ (a .periods) (a .n) (centered (a .row) (a .n) (a .centers .now) (a .r .now)) (c .before .before .before .before .before .before .before .before .before .before .before .before .before .before .before .enum-told2 .given .1) (c .before .before .before .before .before .before .before .before .before .before .before .before .before .before .before .before .before .before .before .before .before .before .before .before .put-moments .ensures .0) (c .before .before .before .before .to-correlation .ensures _ (c .before .before .before .before .before .before .before .before .before .before .before .before .before .before .before .before .before .before .before .variation .ensures) (c .before .before .before .before .before .before .before .before .before .before .before .before .covariation .ensures))
+
+pub of-rows-in-spec : {M : Type 1} → statement M
+of-rows-in-spec = tie.close (tie.spec put-moments-requires variation-requires enum-told to-variance-requires enum-told-2 covariation-requires to-correlation-requires same-length same-length-2 same-length-3 returns same-length-4 same-length-5 same-length-6 same-length-7 same-length-8 returns-2)

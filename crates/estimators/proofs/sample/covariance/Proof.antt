@@ -1,0 +1,39 @@
+-- `estimators::sample::covariance` meets its contract: there are no units.
+use mathlib.Core.Path.{sym, _∙_}
+use lib.Seq.{length-take-le}
+use Rattle.matrix.specs.Matrix.{at}
+use Rattle.estimators.proofs.Samples.{covariance-same, unit-none}
+use borrow.Author.Needs.{needs}
+use Rattle.estimators.proofs.sample.covariance.Statement.{statement}
+use Rattle.estimators.proofs.sample.covariance.Tie as tie
+
+array-borrow-prefix-buffer : tie.Need-array-borrow-prefix-buffer
+array-borrow-prefix-buffer c = search needs
+
+slice-aggregate-mean : tie.Need-slice-aggregate-mean
+slice-aggregate-mean c = sym (length-take-le _ _ (c .before .before .before .pre .1))
+
+slice-aggregate-means-in : tie.Need-slice-aggregate-means-in
+slice-aggregate-means-in c = search needs
+
+means-in-requires : tie.Need-means-in-requires
+means-in-requires c κs = let h = c .before .before .before .before .before .pre in (h .0, h .1, length-take-le _ _ (h .1))
+
+slice-aggregate-covariance-in : tie.Need-slice-aggregate-covariance-in
+slice-aggregate-covariance-in c = search needs
+
+covariance-in-requires : tie.Need-covariance-in-requires
+covariance-in-requires c κs =
+    let h = c .before .before .before .before .before .before .before .before .before .before .before .pre in
+    (h .0, h .1, h .2, c .before .before .before .before .before .means-in .kept .1 .1 .1 .1 .0 ∙ length-take-le _ _ (h .1), h .3)
+
+same-length : tie.Need-same-length
+same-length c = search needs
+
+returns : tie.Need-returns
+returns c =
+    let a = c .before .before .before .before .before .before .before .before .before .before .before .before .before .before .before .args in
+    c .before .before .before .covariance-in .ensures (c .before .before .before .before .before .before .before .before .before .means-in .ensures) ∙ covariance-same (a .n) (a .periods) _ _ (unit-none (a .n) (at (a .r .now) (a .n)))
+
+pub covariance-spec : {M : Type 1} → statement M
+covariance-spec = tie.close (tie.spec array-borrow-prefix-buffer slice-aggregate-mean slice-aggregate-means-in means-in-requires slice-aggregate-covariance-in covariance-in-requires same-length returns)

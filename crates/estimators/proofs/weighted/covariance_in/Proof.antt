@@ -1,0 +1,48 @@
+-- `estimators::weighted::covariance_in` meets its contract: the rows that are formed are the deviations times the roots.
+use mathlib.Core.Path.{sym, ap, _∙_}
+use Prim.Native.Nat.{ℕ}
+use Rattle.matrix.specs.Matrix.{at}
+use Rattle.estimators.specs.Weighted.{weights}
+use Rattle.estimators.proofs.Grams.{weighted-alike}
+use borrow.Author.Needs.{needs}
+use Rattle.estimators.proofs.weighted.covariance_in.Statement.{statement}
+use Rattle.estimators.proofs.weighted.covariance_in.Tie as tie
+
+put-weights-requires : tie.Need-put-weights-requires
+put-weights-requires c κs = search needs
+
+means-requires : tie.Need-means-requires
+means-requires c κs = let h = c .before .before .before .before .before .before .before .before .before .before .before .pre in (h .0, h .1, h .2, c .before .before .before .before .put-weights .kept .1 .0 ∙ h .4, h .6)
+
+denominator-requires : tie.Need-denominator-requires
+denominator-requires c κs = c .before .before .before .before .before .before .before .before .before .before .before .before .before .before .before .pre .3
+
+put-roots-requires : tie.Need-put-roots-requires
+put-roots-requires c κs = let h = c .before .before .before .before .before .before .before .before .before .before .before .before .before .before .before .before .before .pre in c .before .before .before .before .before .before .before .before .before .before .put-weights .kept .1 .0 ∙ h .4 ∙ sym (h .5)
+
+slice-aggregate-gram : tie.Need-slice-aggregate-gram
+slice-aggregate-gram c = search needs
+
+gram-requires : tie.Need-gram-requires
+gram-requires c κs = let h = c .before .before .before .before .before .before .before .before .before .before .before .before .before .before .before .before .before .before .before .before .before .before .before .before .pre in (h .0, h .2, c .before .before .before .before .before .before .before .before .before .before .before .before .means .kept .1 .1 .1 .1 .0 ∙ h .6, h .7)
+
+same-length : tie.Need-same-length
+same-length c = search needs
+
+same-length-2 : tie.Need-same-length-2
+same-length-2 c = search needs
+
+same-length-3 : tie.Need-same-length-3
+same-length-3 c = search needs
+
+same-length-4 : tie.Need-same-length-4
+same-length-4 c = search needs
+
+returns : tie.Need-returns
+returns c =
+    let a = c .before .before .before .before .before .before .before .before .before .before .before .before .before .before .before .before .before .before .before .before .before .before .before .before .before .before .before .args in
+    let h = c .before .before .before .before .before .before .before .before .before .before .before .before .before .before .before .before .before .before .before .before .before .before .before .before .before .before .before .pre in
+    weighted-alike (a .periods) (a .n) _ (a .l) (at (a .r .now) (a .n)) (h .5) (c .before .before .before .before .before .before .before .before .before .before .before .before .before .before .before .before .before .before .before .before .put-weights .ensures ∙ ap (λ (m : ℕ). weights m (a .l)) (h .4)) (c .before .before .before .before .before .before .before .before .before .before .before .denominator .ensures) (c .before .before .before .before .before .before .before .before .before .before .before .before .before .before .before .means .ensures) (c .before .before .before .before .before .before .before .before .before .put-roots .ensures) (c .before .before .gram .ensures)
+
+pub covariance-in-spec : {M : Type 1} → statement M
+covariance-in-spec = tie.close (tie.spec put-weights-requires means-requires denominator-requires put-roots-requires slice-aggregate-gram gram-requires same-length same-length-2 same-length-3 same-length-4 returns)

@@ -1,0 +1,70 @@
+// The sample means and covariance, and the largest returns (returns.rs).
+ghost use mathlib.Core.Path.{_≡_};
+ghost use Prim.Native.Nat.{ℕ, _*_, _≤_};
+ghost use lib.ListN.{length};
+ghost use Rattle.leaves.specs.Loops.{tab};
+ghost use Rattle.matrix.specs.Limits.{maxSide};
+ghost use Rattle.matrix.specs.Matrix.{at, rows};
+ghost use Rattle.estimators.specs.Sample as Sample;
+ghost use Rattle.estimators.specs.Powers.{inUnits};
+use crate::columns;
+use crate::gram::gram;
+use crate::rows::Row;
+use crate::vectors;
+
+// Each asset's mean return, in its unit where there are units.
+pub(crate) fn means_in(r: &[f64], n: usize, periods: usize, units: &[f64], out: &mut [f64])
+    requires { ⌜ (length (now r) ≡ periods * n) × (n ≤ maxSide) × (length (now out) ≡ n) ⌝ }
+    ensures { λ _. ⌜ now (out .exit) ≡ tab n (Sample.mean periods (inUnits n (now (units .entry)) (at (now (r .entry)) n))) ⌝ }
+{
+    let none = [0.0; 0];
+    let zeros = [0.0; matrix::MAX_SIDE];
+    columns::sum(Row::Plain, r, n, periods, units, &zeros[..n], &none, out);
+    vectors::divide(std::num::nearest_u64_to_f64(periods as u64), out);
+}
+
+// The sample covariance, from these means.
+pub(crate) fn covariance_in(
+    r: &[f64],
+    n: usize,
+    periods: usize,
+    units: &[f64],
+    means: &[f64],
+    out: &mut [f64],
+)
+    requires { ⌜ (length (now r) ≡ periods * n) × (n ≤ maxSide) × (1 ≤ periods) × (length (now means) ≡ n) × (length (now out) ≡ n * n) ⌝ }
+    ensures { λ _. ⌜ (now (means .entry) ≡ tab n (Sample.mean periods (inUnits n (now (units .entry)) (at (now (r .entry)) n))) → now (out .exit) ≡ rows n n (Sample.covariance periods (inUnits n (now (units .entry)) (at (now (r .entry)) n)))) ⌝ }
+{
+    let none = [0.0; 0];
+    gram(Row::Deviation, r, n, periods, units, means, &none, out);
+    vectors::divide(std::num::nearest_u64_to_f64((periods - 1) as u64), out);
+}
+
+pub(crate) fn means(r: &[f64], n: usize, periods: usize, out: &mut [f64])
+    requires { ⌜ (length (now r) ≡ periods * n) × (n ≤ maxSide) × (length (now out) ≡ n) ⌝ }
+    ensures { λ _. ⌜ now (out .exit) ≡ tab n (Sample.mean periods (at (now (r .entry)) n)) ⌝ }
+{
+    let none = [0.0; 0];
+    means_in(r, n, periods, &none, out);
+}
+
+pub(crate) fn covariance(r: &[f64], n: usize, periods: usize, out: &mut [f64])
+    requires { ⌜ (length (now r) ≡ periods * n) × (n ≤ maxSide) × (1 ≤ periods) × (length (now out) ≡ n * n) ⌝ }
+    ensures { λ _. ⌜ now (out .exit) ≡ rows n n (Sample.covariance periods (at (now (r .entry)) n)) ⌝ }
+{
+    let none = [0.0; 0];
+    let mut buffer = [0.0; matrix::MAX_SIDE];
+    let mean = &mut buffer[..n];
+    means_in(r, n, periods, &none, mean);
+    covariance_in(r, n, periods, &none, mean, out);
+}
+
+// Each asset's largest return in size.
+pub(crate) fn largest(r: &[f64], n: usize, periods: usize, out: &mut [f64])
+    requires { ⌜ (length (now r) ≡ periods * n) × (n ≤ maxSide) × (length (now out) ≡ n) ⌝ }
+    ensures { λ _. ⌜ now (out .exit) ≡ tab n (Sample.largest periods (at (now (r .entry)) n)) ⌝ }
+{
+    let none = [0.0; 0];
+    let zeros = [0.0; matrix::MAX_SIDE];
+    columns::largest(Row::Plain, r, n, periods, &none, &zeros[..n], &none, out);
+}

@@ -1,0 +1,33 @@
+// The powers of two near numbers, one for each.
+ghost use mathlib.Core.Path.{_≡_};
+ghost use Prim.Native.Nat.{ℕ};
+ghost use lib.IntN.{pos};
+ghost use lib.ListN.{length, getD};
+ghost use Rattle.leaves.specs.Loops.{tab, nth};
+ghost use Rattle.leaves.specs.Scaling.{binaryExponent, pow2Scaled};
+ghost use Rattle.estimators.specs.Gather.{Exponents};
+use crate::moments::exponent;
+
+// b(x) of each number.
+pub(crate) fn put_exponents(xs: &[f64], out: &mut [i32])
+    requires { ⌜ length (now xs) ≡ length (now out) ⌝ }
+    ensures { λ _. ⌜ (now (out .exit) ≡ tab (length (now (out .entry))) (λ (k : ℕ). binaryExponent (nth (now (xs .entry)) k))) × Exponents (now (out .exit)) ⌝ }
+{
+    let mut k = 0;
+    while k < out.len() {
+        out[k] = exponent(xs[k]);
+        k += 1;
+    }
+}
+
+// Each number times its power of two.
+pub(crate) fn scale(exponents: &[i32], out: &mut [f64])
+    requires { ⌜ (length (now exponents) ≡ length (now out)) × Exponents (now exponents) ⌝ }
+    ensures { λ _. ⌜ now (out .exit) ≡ tab (length (now (out .entry))) (λ (k : ℕ). pow2Scaled (nth (now (out .entry)) k) (getD (now (exponents .entry)) k (pos 0))) ⌝ }
+{
+    let mut k = 0;
+    while k < out.len() {
+        out[k] = leaves::scaling::pow2_scaled(out[k], exponents[k]);
+        k += 1;
+    }
+}

@@ -1,0 +1,82 @@
+-- Three of the calls by their parts: what a call answers, as a function of its decomposition and of the checks that know the sweep limit. Assumes nothing.
+use mathlib.Core.Path.{_≡_, refl}
+use Prim.Native.Nat.{ℕ, _*_}
+use mathlib.Core.Bool.{not}
+use mathlib.Core.List.{List, [], _∷_, _++_}
+use lib.IntN.{ℤ}
+use lib.Ieee.{Float}
+use Rattle.leaves.specs.Loops.{fill, nth}
+use Rattle.leaves.specs.Scaling.{binaryExponent, pow2Scaled}
+use Rattle.matrix.specs.Matrix.{Matrix, at, rows, amax, averaged, allFinite}
+use Rattle.matrix.specs.Jacobi.{Decomposition}
+use Rattle.estimators.specs.Refusals.{Check, when, whenSome, first}
+use Rattle.estimators.specs.Sample.{constantAsset, scaled}
+use Rattle.estimators.specs.Moments.{Moments, moments}
+use Rattle.estimators.specs.Adjusted.{decompositionOf, base, intensity, adjusted}
+use Rattle.estimators.specs.JamesStein.{grandMean, unevenness, decomposeUneven, jamesSteinIntensity, towards}
+use Rattle.estimators.specs.BayesStein.{singular, Pull, bayesStein, pulled}
+use Rattle.estimators.specs.Order.{opening, sweepLimit, ofGiven, ofSettings, adjustedOrder, jamesSteinOrder, bayesSteinOrder}
+use Rattle.estimators.specs.Calls.{Answered, answered, settle, adjustedCovariance, jamesSteinMean, bayesSteinMean}
+use Rattle.estimators.specs.declared.Settings.{Settings}
+use Rattle.estimators.specs.declared.Refusal.the-variants.{ZeroVariance, Singular}
+use Rattle.estimators.specs.declared.Answer.the-variants.{Covariance, Shrunk}
+use Rattle.law.proofs.Columns.{exps, found, Σ, C, taken, sizeOf}
+
+-- ---- the adjusted covariance
+module _ (r : List Float) (n P : ℕ) (s : Settings) (given : List Float) (side : ℕ) where
+  abbrev pub averages : Matrix
+  averages = at (rows side side (averaged (at given side))) side
+
+  abbrev pub estimated : List Float
+  estimated = rows n n (base (s .estimate) P (at r n) averages)
+
+  abbrev pub covariances : List Float
+  covariances = rows n n (adjusted s (intensity (s .shrinkage) P n (at r n)) n (at estimated n))
+
+  abbrev pub ofAnswer : List Check
+  ofAnswer = ofSettings s (intensity (s .shrinkage) P n (at r n)) P n side (at r n) (at estimated n) (at covariances n)
+
+  abbrev pub covarianceBy : List Float → Decomposition → List Check → Answered
+  covarianceBy slice d cs = settle (first (opening r n P (n * n) slice ++ cs ++ ofAnswer)) slice (answered (Covariance (intensity (s .shrinkage) P n (at r n)) (d .sweeps) (d .rotations)) (fill (n * n) (nth covariances) slice))
+
+  pub covariance-is : (slice : List Float) → let d = decompositionOf s side averages in adjustedCovariance r n P s given side slice ≡ covarianceBy slice d (ofGiven s given side d)
+  unfolding adjustedCovariance adjustedOrder
+  covariance-is slice = refl
+
+-- ---- the James-Stein mean
+module _ (r : List Float) (n P : ℕ) where
+  abbrev pub unit : ℤ
+  unit = binaryExponent (amax P n (at r n))
+
+  abbrev pub inUnit : Moments
+  inUnit = moments P n (scaled (λ i. unit) (at r n))
+
+  abbrev pub centre : Float
+  centre = grandMean n (nth (inUnit .mean))
+
+  abbrev pub uneven : ℕ → Decomposition
+  uneven limit = decomposeUneven limit n (unevenness n (nth (inUnit .mean)) centre) (at (inUnit .covariance) n)
+
+  abbrev pub jamesBy : List Float → Decomposition → Check → Answered
+  jamesBy slice d c =
+      let α = jamesSteinIntensity n inUnit centre d in
+      settle (first (opening r n P n slice ++ c ∷ when (not (d .found)) Singular ∷ [])) slice
+      (answered (Shrunk α (pow2Scaled centre unit) (d .sweeps) (d .rotations)) (fill n (λ i. pow2Scaled (towards α centre (nth (inUnit .mean) i)) unit) slice))
+
+  pub james-is : (limit : ℕ) (slice : List Float) → jamesSteinMean r n P limit slice ≡ jamesBy slice (uneven limit) (sweepLimit limit)
+  unfolding jamesSteinMean jamesSteinOrder
+  james-is limit slice = refl
+
+  -- ---- the Bayes-Stein mean
+  abbrev pub pullBy : Decomposition → Pull
+  pullBy d = let m = found P n (at r n) in bayesStein n (m .periods) (nth (m .mean)) (Σ n m) (exps P n (at r n)) d
+
+  abbrev pub bayesBy : List Float → Decomposition → Check → Answered
+  bayesBy slice d c =
+      let m = found P n (at r n) in
+      settle (first (opening r n P n slice ++ c ∷ whenSome (constantAsset n (Σ n m) (sizeOf P n (at r n))) ZeroVariance ∷ when (not (allFinite n n (C n m))) Singular ∷ when (not (d .found)) Singular ∷ when (singular n d) Singular ∷ [])) slice
+      (answered (Shrunk (pullBy d .intensity) (pullBy d .target) (d .sweeps) (d .rotations)) (fill n (λ i. pulled (pullBy d) (nth (m .mean) i) (exps P n (at r n) i)) slice))
+
+  pub bayes-is : (limit : ℕ) (slice : List Float) → bayesSteinMean r n P limit slice ≡ bayesBy slice (taken limit n (found P n (at r n))) (sweepLimit limit)
+  unfolding bayesSteinMean bayesSteinOrder
+  bayes-is limit slice = refl

@@ -1,0 +1,236 @@
+-- The Bayes-Stein mean: each column over the power of two of its largest return. The scaled columns are the same in both runs, so the moments are. A column that is not refused is not zero, so
+-- its exponent grows by k; its deviation is at least 2 ^ -34 in its unit. Assumes nothing.
+use mathlib.Core.Path.{_≡_, refl, sym, ap, _∙_, subst}
+use mathlib.Core.Logic.{inl, inr}
+use Prim.Native.Nat.{ℕ, zero, suc, _-_, _*_, _^_, _≤_, _<_, zero-le}
+use native.Mathlib.Nat.{le-antisymm, le-refl, le-trans, le-of-eq, le-of-lt, lt-of-lt-of-le, lt-of-le-of-lt, lt-irrefl, mul-le-mul, mul-le-mul-right, mul-le-mul-left, eq-zero-or-pos}
+use native.Mathlib.Omega.{arith}
+use mathlib.Core.Bool.{false}
+use lib.Dec.{lit≤}
+use lib.IntN.{ℤ, pos, negℤ, _+ℤ_}
+use lib.ListN.{getD}
+use lib.Pow.{pow-pos}
+use lib.Ieee.{Float, nan, le, eq, ofBits}
+use Rattle.leaves.specs.Numbers.{_⊗_, _⊘_, zero⁺, one, 1e-10}
+use Rattle.leaves.specs.Loops.{tab, nth}
+use Rattle.leaves.specs.Root.{sqrt}
+use Rattle.leaves.specs.Scaling.{binaryExponent, pow2Scaled}
+use Rattle.leaves.specs.Shift.{shift}
+use Rattle.leaves.proofs.Loops.{first-ext}
+use Rattle.leaves.proofs.Whole.{over, under, plus}
+use Rattle.leaves.proofs.SqrtLaws.{sqrt-shift}
+use Rattle.leaves.proofs.SqrtNearest.{moved-sqrt}
+use Rattle.leaves.proofs.Rounding.{near-least, held-pow}
+use Rattle.leaves.proofs.Units.{U, U-pos, U-is, sign, mag, mag-shift, eq-zero}
+use Rattle.leaves.proofs.Range.{Range, range-value, range-size}
+use Rattle.leaves.proofs.Operations.{Moved, still, moved-mul, moved-over}
+use Rattle.leaves.proofs.Signs.{sign-mul, sign-sqrt, sign-not-below}
+use Rattle.leaves.proofs.PowersOfTwo.{shift-null, exponent-shift}
+use Rattle.matrix.specs.Matrix.{Matrix, at, rows}
+use Rattle.matrix.specs.Jacobi.{Decomposition, decompose}
+use Rattle.matrix.proofs.Stored.{rows-at}
+use Rattle.estimators.specs.Sample.{mean, deviation, gram, covariance, largest, constantAsset, scaled}
+use Rattle.estimators.specs.Moments.{Moments, moments}
+use Rattle.estimators.specs.BayesStein.{correlation, Pull, bayesStein}
+use borrow.Author.Tests.{ne-eqb}
+use Rattle.law.proofs.Numbers.{nth-tab}
+use Rattle.law.proofs.Sizes.{plus-val, le-no}
+use Rattle.law.proofs.Sample.{Returns, mean-moved, covariance-moved, largest-moved, largest-above, tenth-moved, tenth-above}
+use Rattle.law.proofs.Scaled.{Scaling, scaling, scaled-least, exponent-within, exponent-null}
+use Rattle.law.proofs.Correlation.{sign-variance, sign-largest, above-zero}
+use Rattle.law.proofs.Shrinkage.{one-moved}
+use Rattle.law.proofs.Moments.{moments-same}
+use Rattle.law.proofs.Share.{sign-scaled}
+use Rattle.law.proofs.Ratio.{product-is, quotient-is}
+
+-- ---- the parts of the call
+abbrev pub exps : ℕ → ℕ → Matrix → ℕ → ℤ
+exps P n x i = getD (tab n (λ i. binaryExponent (largest P x i))) i (pos 0)
+
+abbrev pub found : ℕ → ℕ → Matrix → Moments
+found P n x = moments P n (scaled (exps P n x) x)
+
+abbrev pub Σ : ℕ → Moments → Matrix
+Σ n m = at (m .covariance) n
+
+abbrev pub C : ℕ → Moments → Matrix
+C n m = at (rows n n (correlation (at (m .covariance) n))) n
+
+abbrev pub taken : ℕ → ℕ → Moments → Decomposition
+taken limit n m = decompose limit n (C n m)
+
+abbrev pub sizeOf : ℕ → ℕ → Matrix → ℕ → Float
+sizeOf P n x i = pow2Scaled (largest P x i) (negℤ (exps P n x i))
+
+abbrev pub pull : ℕ → ℕ → Moments → (ℕ → ℤ) → Pull
+pull limit n m e = bayesStein n (m .periods) (nth (m .mean)) (Σ n m) e (taken limit n m)
+
+pub exps-at : (P n : ℕ) (x : Matrix) (i : ℕ) → i < n → exps P n x i ≡ binaryExponent (largest P x i)
+exps-at P n x i l = nth-tab n (λ i. binaryExponent (largest P x i)) i (pos 0) l
+
+-- ---- each column over its power of two
+module _ {k n P : ℕ} {x y : Matrix} (small : k ≤ 80) (r : Returns k n P 982 1034 1114 x y) where
+  pub column : (i : ℕ) → i < n → Scaling k 982 1034 1114 (largest P x i) (largest P y i)
+  column i a = scaling (largest-moved r i a) (lit≤ tt) (lit≤ tt) (lit≤ tt) (lit≤ tt) (lit≤ tt) (lit≤ tt) (omega arith)
+
+  entry-same : (t i : ℕ) → t < P → i < n → scaled (exps P n y) y t i ≡ scaled (exps P n x) x t i
+  unfolding scaled
+  entry-same t i a b =
+      ap (λ (e : ℤ). pow2Scaled (y t i) (negℤ e)) (exps-at P n y i b) ∙ column i b .same (r .entries t i a b) (largest-above r t i a b) ∙ sym (ap (λ (e : ℤ). pow2Scaled (x t i) (negℤ e)) (exps-at P n x i b))
+
+  pub found-same : found P n y ≡ found P n x
+  found-same = moments-same P n (scaled (exps P n y) y) (scaled (exps P n x) x) entry-same
+
+  size-same : (i : ℕ) → i < n → sizeOf P n y i ≡ sizeOf P n x i
+  size-same i b =
+      ap (λ (e : ℤ). pow2Scaled (largest P y i) (negℤ e)) (exps-at P n y i b) ∙ column i b .same (largest-moved r i b) (le-refl (mag (largest P x i))) ∙ sym (ap (λ (e : ℤ). pow2Scaled (largest P x i) (negℤ e)) (exps-at P n x i b))
+
+  pub constant-same : (m : Moments) → constantAsset n (Σ n m) (sizeOf P n y) ≡ constantAsset n (Σ n m) (sizeOf P n x)
+  unfolding constantAsset
+  constant-same m = first-ext n (λ i. le (sqrt (Σ n m i i)) (1e-10 ⊗ sizeOf P n y i)) (λ i. le (sqrt (Σ n m i i)) (1e-10 ⊗ sizeOf P n x i)) (λ i l. ap (λ (s : Float). le (sqrt (Σ n m i i)) (1e-10 ⊗ s)) (size-same i l))
+
+  abbrev u : Matrix
+  u = scaled (exps P n x) x
+
+  entry-is : (t i : ℕ) → t < P → i < n → scaled (exps P n x) x t i ≡ pow2Scaled (x t i) (negℤ (binaryExponent (largest P x i)))
+  unfolding scaled
+  entry-is t i a b = ap (λ (e : ℤ). pow2Scaled (x t i) (negℤ e)) (exps-at P n x i b)
+
+  -- below 2 in size
+  units : Returns 0 n P 942 942 1075 (scaled (exps P n x) x) (scaled (exps P n x) x)
+  units = record {
+    assets = r .assets;
+    few = r .few;
+    periods = r .periods;
+    most = r .most;
+    entries = λ t i a b. still 942 1075 (subst (Range 942 (2 ^ 942) (2 ^ 1075)) (sym (entry-is t i a b)) (column i b .moved (r .entries t i a b) (largest-above r t i a b) .range));
+  }
+
+  abbrev m : Moments
+  m = found P n x
+
+  pub μ-range : (i : ℕ) → i < n → Range 878 (2 ^ 930) (2 ^ 1087) (nth (found P n x .mean) i)
+  unfolding moments
+  μ-range i a = rw (nth-tab n (mean P u) i nan a) (mean-moved units 878 (lit≤ tt) (lit≤ tt) i a .range)
+
+  variance-is : (i : ℕ) → i < n → Σ n (found P n x) i i ≡ covariance P (scaled (exps P n x) x) i i
+  unfolding moments
+  variance-is i a = rows-at (covariance P u) n n i i a a
+
+  variance-range : (i : ℕ) → i < n → Range 618 (2 ^ 670) (2 ^ 1114) (Σ n (found P n x) i i)
+  variance-range i a = rw (variance-is i a) (covariance-moved units 878 (lit≤ tt) (lit≤ tt) 682 (lit≤ tt) 618 (lit≤ tt) 1102 (lit≤ tt) (lit≤ tt) i i a a .range)
+
+  variance-plus : (i : ℕ) → i < n → sign (Σ n (found P n x) i i) ≡ false
+  variance-plus i a = ap sign (variance-is i a) ∙ sign-variance P u i
+
+  abbrev v : ℕ → Float
+  v i = sqrt (Σ n m i i)
+
+  v-range : (i : ℕ) → i < n → Range 820 (2 ^ 872) (2 ^ 1094) (sqrt (Σ n (found P n x) i i))
+  v-range i a = moved-sqrt {k = 0} (still 670 1114 (variance-range i a)) (sign-not-below (Σ n m i i) (variance-plus i a)) 820 1094 (lit≤ tt) (lit≤ tt) .range
+
+  -- ---- a column that is accepted
+  module _ (i : ℕ) (a : i < n) (h : le (sqrt (Σ n (found P n x) i i)) (1e-10 ⊗ sizeOf P n x i) ≡ false) where
+    abbrev A : Float
+    A = largest P x i
+
+    A-range : Range 982 (2 ^ 1034) (2 ^ 1114) (largest P x i)
+    A-range = largest-moved r i a .range
+
+    size-range : Range 942 (2 ^ 942) (2 ^ 1075) (sizeOf P n x i)
+    size-range = rw (exps-at P n x i a) (column i a .moved (largest-moved r i a) (le-refl (mag A)) .range)
+
+    size-plus : sign (sizeOf P n x i) ≡ false
+    size-plus = sign-scaled A (negℤ (exps P n x i)) (sign-largest P x i)
+
+    tolerance-range : Range 856 (2 ^ 908) (2 ^ 1042) (1e-10 ⊗ sizeOf P n x i)
+    tolerance-range = moved-mul tenth-moved (still 942 1075 size-range) 856 908 1042 (lit≤ tt) (lit≤ tt) (lit≤ tt) (lit≤ tt) .range
+
+    v-above : 0 < mag (sqrt (Σ n (found P n x) i i))
+    v-above = above-zero (Σ n m i i) (sizeOf P n x i) (v-range i a) tolerance-range (variance-plus i a) size-plus h
+
+    -- the column is not zero: zeros would be their own doubles, and so would their deviation
+    pub not-zero : 0 < mag (largest P x i)
+    not-zero = elim (eq-zero-or-pos (mag A)) [ inr p ↦ p | inl z ↦ absurd (zeros z) ]
+      where
+        alone : (s : ℕ) (b : ℤ) → s ≤ 1 → b ≡ b +ℤ pos (1 - s) → s ≡ 1
+        alone zero b l e = unfold over under in omega (arith, ap over e, ap under e, plus b (pos 1))
+        alone (suc zero) b l e = refl
+        alone (suc (suc s)) b l e = absurd (omega arith)
+
+        same-column : covariance P (λ t j. scaled (exps P n x) x t i) i i ≡ shift (pos 2) (covariance P (λ t j. scaled (exps P n x) x t i) i i) → covariance P (scaled (exps P n x) x) i i ≡ shift (pos 2) (covariance P (scaled (exps P n x) x) i i)
+        same-column e = unfold covariance gram deviation mean in e
+
+        vanish : (a : ℕ) → a ≡ a * 2 → a ≤ 0
+        vanish a e = omega arith
+
+        zeros : mag (largest P x i) ≡ 0 → ⊥
+        zeros z =
+            let doubled : (d : Float) → Range 982 (2 ^ 1034) (2 ^ 1114) d → mag d ≡ 0 → Moved 1 982 1034 1114 d d = λ d q w. record { range = q; copy = sym (shift-null (pos 1) d (q .fit) (q .finite) w) } in
+            let s : Scaling 1 982 1034 1114 (largest P x i) (largest P x i) = scaling (doubled A A-range z) (lit≤ tt) (lit≤ tt) (lit≤ tt) (lit≤ tt) (lit≤ tt) (lit≤ tt) (lit≤ tt) in
+            let one-still : s .still ≡ 1 = alone (s .still) (binaryExponent A) (s .few) (s .exponent) in
+            let null : (t : ℕ) → t < P → mag (x t i) ≡ 0 = λ t l. le-antisymm (le-trans (largest-above r t i l a) (le-of-eq z)) zero-le in
+            let w : Matrix = λ t j. scaled (exps P n x) x t i in
+            let R : Returns 1 n P 942 942 1075 w w = record {
+              assets = r .assets;
+              few = r .few;
+              periods = r .periods;
+              most = r .most;
+              entries = λ t j l b. rw (entry-is t i l a) (subst (λ (c : ℕ). Moved c 942 942 1075 (pow2Scaled (x t i) (negℤ (binaryExponent (largest P x i)))) (pow2Scaled (x t i) (negℤ (binaryExponent (largest P x i))))) one-still
+                  (s .moved (doubled (x t i) (r .entries t i l a .range) (null t l)) (largest-above r t i l a)));
+            } in
+            let e : covariance P w i i ≡ shift (pos 2) (covariance P w i i) = covariance-moved R 878 (lit≤ tt) (lit≤ tt) 682 (lit≤ tt) 618 (lit≤ tt) 1102 (lit≤ tt) (lit≤ tt) i i a a .copy in
+            let f : covariance P u i i ≡ shift (pos 2) (covariance P u i i) = same-column e in
+            let g : sqrt (Σ n m i i) ≡ shift (pos 1) (sqrt (Σ n m i i)) = ap sqrt (variance-is i a ∙ f ∙ ap (shift (pos 2)) (sym (variance-is i a))) ∙ sqrt-shift (Σ n m i i) (pos 1) in
+            let d : mag (sqrt (Σ n m i i)) ≡ mag (sqrt (Σ n m i i)) * 2 = ap mag g ∙ mag-shift 1 (sqrt (Σ n m i i)) (v-range i a .fit) (v-range i a .finite) in
+            lt-irrefl 0 (lt-of-lt-of-le v-above (vanish (mag (sqrt (Σ n m i i))) d))
+
+    pub grows : exps P n y i ≡ exps P n x i +ℤ pos k
+    grows = exps-at P n y i a ∙ ap binaryExponent (largest-moved r i a .copy) ∙ exponent-shift (pos k) A (A-range .finite) not-zero ∙ ap (λ (e : ℤ). e +ℤ pos k) (sym (exps-at P n x i a))
+
+    pub exponent-small : (over (exps P n x i) ≤ 40) × (under (exps P n x i) ≤ 41)
+    exponent-small = rw (exps-at P n x i a) (column i a .small)
+
+    -- at least 2 ^ -34: the tolerance of a column whose largest is at least 1
+    v-least : 2 ^ 1040 ≤ mag (sqrt (Σ n (found P n x) i i))
+    v-least =
+        let t = 1e-10 ⊗ sizeOf P n x i in
+        let one : 2 ^ 1074 ≤ mag (sizeOf P n x i) = rw (exps-at P n x i a) (scaled-least 1034 1114 A A-range not-zero (lit≤ tt) (lit≤ tt) (lit≤ tt)) in
+        let least : 2 ^ 1040 ≤ mag t = rw (product-is 1e-10 (sizeOf P n x i) (tenth-moved .range .fit) (size-range .fit) (tolerance-range .finite))
+        (near-least (mag 1e-10 * mag (sizeOf P n x i)) U (2 ^ 1040) U-pos (held-pow 1040) (le-trans (le-of-eq (ap (λ (z : ℕ). 2 ^ 1040 * z) U-is)) (mul-le-mul (tenth-moved .range .least tenth-above) one))) in
+        le-of-lt (lt-of-le-of-lt least (le-no (sqrt (Σ n m i i)) t (plus-val (v-range i a) (sign-sqrt (Σ n m i i) (variance-plus i a))) (plus-val tolerance-range (sign-mul 1e-10 (sizeOf P n x i) (unfold sign ofBits in sym size-plus))) h))
+
+    pub v-moved : Moved 0 988 1040 1094 (sqrt (Σ n (found P n x) i i)) (sqrt (Σ n (found P n x) i i))
+    v-moved = still 1040 1094 (range-size 988 (2 ^ 1094) (sqrt (Σ n m i i)) (v-range i a .fit) (v-range i a .finite) (inr v-least) (v-range i a .most))
+
+    -- its inverse, and the mean over it
+    inverse-range : Range 1002 (2 ^ 1054) (2 ^ 1108) (one ⊘ sqrt (Σ n (found P n x) i i))
+    inverse-range = moved-over one-moved v-moved v-above 1002 1108 (lit≤ tt) (lit≤ tt) (lit≤ tt) .range
+
+    inverse-above : 0 < mag (one ⊘ sqrt (Σ n (found P n x) i i))
+    inverse-above = rw (quotient-is one (sqrt (Σ n m i i)) (one-moved .range .fit) (v-range i a .fit) (v-range i a .finite) v-above (inverse-range .finite))
+        (lt-of-lt-of-le (pow-pos 1054) (near-least (mag one * U) (mag (sqrt (Σ n m i i))) (2 ^ 1054) v-above (held-pow 1054)
+        (le-trans (mul-le-mul-left (2 ^ 1054) (v-range i a .most)) (le-trans powers (mul-le-mul-right U one-least)))))
+      where
+        one-least : 2 ^ 1074 ≤ mag one
+        one-least = unfold mag U in lit≤ tt
+
+        powers : 2 ^ 1054 * 2 ^ 1094 ≤ 2 ^ 1074 * U
+        powers = unfold U in lit≤ tt
+
+    pub inverse-some : eq (one ⊘ sqrt (Σ n (found P n x) i i)) zero⁺ ≡ false
+    inverse-some = eq-zero (one ⊘ sqrt (Σ n m i i)) (inverse-range .fit) (inverse-range .finite) ∙ ne-eqb (mag (one ⊘ sqrt (Σ n m i i))) 0 (λ e. lt-irrefl 0 (subst (λ (n : ℕ). 0 < n) e inverse-above))
+
+    pub inverse-exponent : (over (binaryExponent (one ⊘ sqrt (Σ n (found P n x) i i))) ≤ 34) × (under (binaryExponent (one ⊘ sqrt (Σ n (found P n x) i i))) ≤ 21)
+    inverse-exponent = exponent-within 1054 1108 (one ⊘ sqrt (Σ n m i i)) inverse-range inverse-above (lit≤ tt) (lit≤ tt)
+
+    pub share-range : Range 858 (2 ^ 910) (2 ^ 1121) (nth (found P n x .mean) i ⊘ sqrt (Σ n (found P n x) i i))
+    share-range = moved-over (still 930 1087 (μ-range i a)) v-moved v-above 858 1121 (lit≤ tt) (lit≤ tt) (lit≤ tt) .range
+
+    pub share-exponent : (over (binaryExponent (nth (found P n x .mean) i ⊘ sqrt (Σ n (found P n x) i i))) ≤ 47) × (under (binaryExponent (nth (found P n x .mean) i ⊘ sqrt (Σ n (found P n x) i i))) ≤ 165)
+    share-exponent =
+        let z = nth (m .mean) i ⊘ sqrt (Σ n m i i) in
+        elim (eq-zero-or-pos (mag z)) [
+          | inr p ↦ exponent-within 910 1121 z share-range p (lit≤ tt) (lit≤ tt)
+          | inl e ↦ (rw (exponent-null z (range-value share-range) e) (unfold over under in (zero-le, zero-le)))
+        ]

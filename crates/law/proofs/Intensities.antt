@@ -1,0 +1,127 @@
+-- An intensity that a call reports is NaN or from 0 to 1, over all inputs: document 01, "Records" and "Estimators". A fixed one was checked, Ledoit-Wolf's and James-Stein's are cut to that range, and
+-- Bayes-Stein's is a part of a whole. Assumes nothing.
+use mathlib.Core.Path.{_≡_, refl, sym, _∙_, subst}
+use mathlib.Core.Logic.{_⊎_, inl, inr}
+use Prim.Native.Nat.{ℕ, _*_, _≤_}
+use mathlib.Core.Bool.{Bool, true, false, cond, _&&_}
+use mathlib.Core.List.{List, _++_}
+use lib.Dec.{T}
+use lib.Ieee.{Float, nan, inf, fin, lt, le, eq}
+use Rattle.leaves.specs.Numbers.{zero⁺, one, clamp01}
+use Rattle.leaves.proofs.Signs.{sign-count}
+use Rattle.matrix.specs.Limits.{maxSide}
+use Rattle.matrix.specs.Matrix.{Matrix, at}
+use Rattle.matrix.specs.Jacobi.{Decomposition}
+use Rattle.estimators.specs.Refusals.{Check, passes, refuses, first}
+use Rattle.estimators.specs.Moments.{Moments, moments}
+use Rattle.estimators.specs.LedoitWolf.{intensityOf, ledoitWolf}
+use Rattle.estimators.specs.Adjusted.{decompositionOf, intensity}
+use Rattle.estimators.specs.JamesStein.{jamesSteinIntensity}
+use Rattle.estimators.specs.Order.{opening, ofGiven, badShrinkage, ofSettings}
+use Rattle.estimators.specs.Calls.{Answered, settle, ledoitWolfIntensity, exponentiallyWeightedMean}
+use Rattle.estimators.specs.declared.Target.{Target}
+use Rattle.estimators.specs.declared.Shrinkage.{Shrinkage}
+use Rattle.estimators.specs.declared.Shrinkage.the-variants.{Unshrunk, Fixed, LedoitWolf}
+use Rattle.estimators.specs.declared.Field.the-variants.{ShrinkageField}
+use Rattle.estimators.specs.declared.Refusal.the-variants.{BadSetting}
+use Rattle.estimators.specs.declared.Answer.{Answer}
+use Rattle.estimators.specs.declared.Answer.the-variants.{Refused, Covariance, Intensity, Mean, Shrunk}
+use Rattle.law.specs.Law as Law
+use Rattle.law.specs.Law.{Question, ask}
+use Rattle.law.proofs.Sizes.{number, le-or}
+use Rattle.law.proofs.Columns.{exps, found, pull}
+use Rattle.law.proofs.Pull.{pull-unit}
+use Rattle.law.proofs.Passing.{pass-must, pass-cons, pass-append, pass-opening}
+use Rattle.law.proofs.Calls.{averages, ofAnswer, covariance-is, inUnit, centre, uneven, james-is, bayes-is}
+
+abbrev pub Share : Float → Type 0
+Share x = (x ≡ nan) ⊎ ((le zero⁺ x ≡ true) × (le x one ≡ true))
+
+-- ---- from comparisons
+le-of : (x y : Float) → T (number x) → T (number y) → lt y x ≡ false → le x y ≡ true
+le-of x y p q h = go (le x y) refl
+  where
+    go : (b : Bool) → le x y ≡ b → b ≡ true
+    go true e = refl
+    go false e = absurd (subst T (sym (le-or x y p q e) ∙ h) tt)
+
+share-of : (x : Float) → lt x zero⁺ ≡ false → lt one x ≡ false → Share x
+share-of nan h k = inl refl
+share-of (inf s) h k = inr (le-of zero⁺ (inf s) tt tt h, le-of (inf s) one tt tt k)
+share-of (fin s m e) h k = inr (le-of zero⁺ (fin s m e) tt tt h, le-of (fin s m e) one tt tt k)
+
+zero-share : Share zero⁺
+unfolding le lt eq
+zero-share = inr (refl, refl)
+
+clamped : (x : Float) → Share (clamp01 x)
+unfolding clamp01
+clamped x = go (lt x zero⁺) refl (lt one x) refl
+  where
+    one-share : Share one
+    one-share = unfold le lt eq in inr (refl, refl)
+
+    go : (a : Bool) → lt x zero⁺ ≡ a → (b : Bool) → lt one x ≡ b → Share (cond a zero⁺ (cond b one x))
+    go true p b q = zero-share
+    go false p true q = one-share
+    go false p false q = share-of x p q
+
+-- ---- the three intensities, and a fixed one that passes its check
+ledoitWolf-share : (F : Target) (P n : ℕ) (x : Matrix) → Share (ledoitWolf F P n x)
+unfolding ledoitWolf intensityOf
+ledoitWolf-share F P n x = go (lt zero⁺ _) _
+  where
+    go : (b : Bool) (w : Float) → Share (elim b [ true ↦ clamp01 w | false ↦ zero⁺ ])
+    go true w = clamped w
+    go false w = zero-share
+
+james-share : (n : ℕ) (m : Moments) (μ₀ : Float) (d : Decomposition) → Share (jamesSteinIntensity n m μ₀ d)
+unfolding jamesSteinIntensity
+james-share n m μ₀ d = go (eq _ zero⁺) _
+  where
+    go : (b : Bool) (w : Float) → Share (elim b [ true ↦ zero⁺ | false ↦ clamp01 w ])
+    go true w = zero-share
+    go false w = clamped w
+
+bayes-share : (r : List Float) (limit n P : ℕ) → n ≤ maxSide → Share (pull limit n (found P n (at r n)) (exps P n (at r n)) .intensity)
+bayes-share r limit n P few =
+    let m = found P n (at r n) in
+    let u = pull-unit limit n m (exps P n (at r n)) few (unfold moments in sign-count P) in
+    share-of (pull limit n m (exps P n (at r n)) .intensity) (u .0) (u .1)
+
+adjusted-share : (S : Shrinkage) (P n : ℕ) (x : Matrix) → badShrinkage S ≡ passes → Share (intensity S P n x)
+unfolding intensity badShrinkage
+adjusted-share Unshrunk P n x h = zero-share
+adjusted-share (Fixed δ) P n x h = go (le zero⁺ δ) refl (le δ one) refl (pass-must (le zero⁺ δ && le δ one) (BadSetting ShrinkageField) h)
+  where
+    go : (a : Bool) → le zero⁺ δ ≡ a → (b : Bool) → le δ one ≡ b → (a && b) ≡ true → Share δ
+    go true p true q e = inr (p, q)
+    go true p false q e = absurd (subst T (sym e) tt)
+    go false p b q e = absurd (subst T (sym e) tt)
+adjusted-share (LedoitWolf F) P n x h = ledoitWolf-share F P n x
+
+-- ---- what a call reports
+abbrev pub Reported : Answer → Type 0
+Reported (Refused c) = Unit {0}
+Reported (Covariance δ sweeps rotations) = Share δ
+Reported (Intensity δ) = Share δ
+Reported Mean = Unit {0}
+Reported (Shrunk α μ₀ sweeps rotations) = Share α
+
+settled : (c : Check) (slice : List Float) (w : Answered) → (c ≡ passes → Reported (w .answer)) → Reported (settle c slice w .answer)
+unfolding settle
+settled passes slice w h = h refl
+settled (refuses c) slice w h = tt
+
+pub reported : (r : List Float) (n P : ℕ) (q : Question) (slice : List Float) → Reported (ask r n P q slice .answer)
+reported r n P (Law.adjusted s given side) slice =
+    let cs = opening r n P (n * n) slice ++ ofGiven s given side (decompositionOf s side (averages r n P s given side)) in
+    let a = ofAnswer r n P s given side in
+    rw (covariance-is r n P s given side slice) (settled (first (cs ++ a)) slice _ (λ h. adjusted-share (s .shrinkage) P n (at r n) (second (pass-append cs a h .1))))
+  where
+    second : first (ofAnswer r n P s given side) ≡ passes → badShrinkage (s .shrinkage) ≡ passes
+    second h = unfold ofSettings in pass-cons _ _ (pass-cons _ _ h .1) .0
+reported r n P (Law.intensity F) slice = unfold ledoitWolfIntensity in settled _ _ _ (λ h. ledoitWolf-share F P n (at r n))
+reported r n P (Law.weightedMean halfLife) slice = unfold exponentiallyWeightedMean in settled _ slice _ (λ h. tt)
+reported r n P (Law.jamesStein limit) slice = rw (james-is r n P limit slice) (settled _ slice _ (λ h. james-share n (inUnit r n P) (centre r n P) (uneven r n P limit)))
+reported r n P (Law.bayesStein limit) slice = rw (bayes-is r n P limit slice) (settled (first (opening r n P n slice ++ _)) slice _ (λ h. bayes-share r limit n P (pass-opening r n P n slice (pass-append (opening r n P n slice) _ h .0) .0)))

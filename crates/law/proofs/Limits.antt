@@ -1,0 +1,172 @@
+-- Document 01, "Jacobi": an answer given at a sweep limit is the answer at every larger one up to 100, in every bit and count. The decomposition that was found is found again
+-- (matrix, `larger-limit`), and nothing else of a call knows the limit. Assumes nothing.
+use mathlib.Core.Path.{_≡_, refl, sym, ap, ap₂, _∙_, subst}
+use Prim.Native.Nat.{ℕ, _*_, _≤_}
+use native.Mathlib.Nat.{le-trans}
+use mathlib.Core.Bool.{Bool, true, false, not}
+use mathlib.Core.List.{List, [], _∷_, _++_}
+use lib.Ieee.{Float, lt, eq}
+use borrow.Author.Tests.{le-ltb}
+use Rattle.leaves.specs.Numbers.{_⊘_, zero⁺}
+use Rattle.leaves.specs.Loops.{nth}
+use Rattle.matrix.specs.Limits.{maxSweeps}
+use Rattle.matrix.specs.Matrix.{Matrix, at, amax}
+use Rattle.matrix.specs.Jacobi.{Decomposition, decompose, unturned}
+use Rattle.matrix.proofs.Sweeps.{larger-limit}
+use Rattle.estimators.specs.Refusals.{Check, passes, when, first}
+use Rattle.estimators.specs.Given.{decomposeGiven}
+use Rattle.estimators.specs.JamesStein.{unevenness, decomposeUneven}
+use Rattle.estimators.specs.Adjusted.{decompositionOf, adjusted}
+use Rattle.estimators.specs.Order.{opening, sweepLimit, ofGiven, ofSettings}
+use Rattle.estimators.specs.Calls.{adjustedCovariance, jamesSteinMean, bayesSteinMean}
+use Rattle.estimators.specs.declared.Field.the-variants.{SweepLimitField}
+use Rattle.estimators.specs.declared.Estimate.{Estimate}
+use Rattle.estimators.specs.declared.Estimate.the-variants.{Sample, Given, Weighted, Semi, SemiBelow}
+use Rattle.estimators.specs.declared.Shrinkage.{Shrinkage}
+use Rattle.estimators.specs.declared.Regularization.{Regularization}
+use Rattle.estimators.specs.declared.Settings.{Settings}
+use Rattle.estimators.specs.declared.Refusal.the-variants.{BadSetting, NotDecomposed, Singular}
+use Rattle.law.specs.Law as Law
+use Rattle.law.specs.Law.{Question, ask}
+use Rattle.law.proofs.Settings.{sets}
+use Rattle.law.proofs.Columns.{C, found, taken}
+use Rattle.law.proofs.Passing.{pass-must, pass-cons, pass-append, Accepted, all-pass}
+use Rattle.law.proofs.Calls.{averages, ofAnswer, covarianceBy, covariance-is, inUnit, centre, uneven, jamesBy, james-is, bayesBy, bayes-is}
+
+-- ---- the check of the limit
+limit-passes : (limit : ℕ) → limit ≤ maxSweeps → sweepLimit limit ≡ passes
+unfolding sweepLimit
+limit-passes limit h = ap (λ (b : Bool). when b (BadSetting SweepLimitField)) (le-ltb maxSweeps limit h)
+
+same-limit : (limit limit′ : ℕ) → limit ≤ limit′ → limit′ ≤ maxSweeps → sweepLimit limit′ ≡ sweepLimit limit
+same-limit limit limit′ l h = limit-passes limit′ h ∙ sym (limit-passes limit (le-trans l h))
+
+-- ---- the decompositions that the calls ask for
+uneven-larger : (limit limit′ n : ℕ) (u : Float) (Σ : Matrix) → limit ≤ limit′ → decomposeUneven limit n u Σ .found ≡ true → decomposeUneven limit′ n u Σ ≡ decomposeUneven limit n u Σ
+unfolding decomposeUneven
+uneven-larger limit limit′ n u Σ l = go (eq u zero⁺)
+  where
+    chosen : Bool → Decomposition → Decomposition
+    chosen b d = elim b [ true ↦ unturned n true | false ↦ d ]
+
+    go : (b : Bool) → chosen b (decompose limit n Σ) .found ≡ true → chosen b (decompose limit′ n Σ) ≡ chosen b (decompose limit n Σ)
+    go true h = refl
+    go false h = larger-limit n Σ limit limit′ l h
+
+given-larger : (limit limit′ n : ℕ) (a : Matrix) → limit ≤ limit′ → decomposeGiven limit n a .found ≡ true → decomposeGiven limit′ n a ≡ decomposeGiven limit n a
+unfolding decomposeGiven
+given-larger limit limit′ n a l = go (lt zero⁺ (amax n n a))
+  where
+    b : Matrix
+    b i j = a i j ⊘ amax n n a
+
+    chosen : Bool → Decomposition → Decomposition
+    chosen x d = elim x [ true ↦ d | false ↦ unturned n true ]
+
+    go : (x : Bool) → chosen x (decompose limit n b) .found ≡ true → chosen x (decompose limit′ n b) ≡ chosen x (decompose limit n b)
+    go true h = larger-limit n b limit limit′ l h
+    go false h = refl
+
+-- ---- the means
+module _ (r : List Float) (n P : ℕ) (slice : List Float) where
+  james-found : (d : Decomposition) (c : Check) → Accepted (jamesBy r n P slice d c) → d .found ≡ true
+  james-found d c h =
+      let cs : List Check = c ∷ when (not (d .found)) Singular ∷ [] in
+      let q = pass-append (opening r n P n slice) cs (all-pass (first (opening r n P n slice ++ cs)) slice _ h) .1 in
+      pass-must (d .found) Singular (pass-cons (when (not (d .found)) Singular) [] (pass-cons c (when (not (d .found)) Singular ∷ []) q .1) .0)
+
+  pub james-limit : (limit limit′ : ℕ) → limit ≤ limit′ → limit′ ≤ maxSweeps → Accepted (jamesSteinMean r n P limit slice) → jamesSteinMean r n P limit′ slice ≡ jamesSteinMean r n P limit slice
+  james-limit limit limit′ l h a =
+      let f = james-found (uneven r n P limit) (sweepLimit limit) (subst Accepted (james-is r n P limit slice) a) in
+      let m = inUnit r n P in
+      james-is r n P limit′ slice ∙ ap₂ (jamesBy r n P slice) (uneven-larger limit limit′ n (unevenness n (nth (m .mean)) (centre r n P)) (at (m .covariance) n) l f) (same-limit limit limit′ l h) ∙ sym (james-is r n P limit slice)
+
+  bayes-found : (d : Decomposition) (c : Check) → Accepted (bayesBy r n P slice d c) → d .found ≡ true
+  bayes-found d c h =
+      let q = pass-append (opening r n P n slice) _ (all-pass (first (opening r n P n slice ++ _)) slice _ h) .1 in
+      let q₁ = pass-cons _ _ q in
+      let q₂ = pass-cons _ _ (q₁ .1) in
+      let q₃ = pass-cons _ _ (q₂ .1) in
+      pass-must (d .found) Singular (pass-cons _ _ (q₃ .1) .0)
+
+  pub bayes-limit : (limit limit′ : ℕ) → limit ≤ limit′ → limit′ ≤ maxSweeps → Accepted (bayesSteinMean r n P limit slice) → bayesSteinMean r n P limit′ slice ≡ bayesSteinMean r n P limit slice
+  bayes-limit limit limit′ l h a =
+      let m = found P n (at r n) in
+      let f = bayes-found (taken limit n m) (sweepLimit limit) (subst Accepted (bayes-is r n P limit slice) a) in
+      bayes-is r n P limit′ slice ∙ ap₂ (bayesBy r n P slice) (larger-limit n (C n m) limit limit′ l f) (same-limit limit limit′ l h) ∙ sym (bayes-is r n P limit slice)
+
+-- ---- the adjusted covariance
+abbrev pub limited : Settings → ℕ → Settings
+limited s limit = sets (s .estimate) (s .shrinkage) (s .regularization) limit
+
+after : {c c' : Check} {cs : List Check} → c' ≡ c → (c' ∷ cs) ≡ (c ∷ cs)
+after {cs = cs} e = ap (λ (c : Check). c ∷ cs) e
+
+module _ (S : Shrinkage) (H : Regularization) (given : List Float) (side : ℕ) where
+  given-checks : (E : Estimate) (limit limit′ : ℕ) (d : Decomposition) → sweepLimit limit′ ≡ sweepLimit limit → ofGiven (sets E S H limit′) given side d ≡ ofGiven (sets E S H limit) given side d
+  unfolding ofGiven
+  given-checks Sample limit limit′ d e = refl
+  given-checks Given limit limit′ d e = after e
+  given-checks (Weighted halfLife) limit limit′ d e = refl
+  given-checks Semi limit limit′ d e = refl
+  given-checks (SemiBelow threshold) limit limit′ d e = refl
+
+  given-same : (E : Estimate) (limit limit′ : ℕ) (g : Matrix) → limit ≤ limit′ → first (ofGiven (sets E S H limit) given side (decompositionOf (sets E S H limit) side g)) ≡ passes
+      → decompositionOf (sets E S H limit′) side g ≡ decompositionOf (sets E S H limit) side g
+  unfolding ofGiven decompositionOf
+  given-same Sample limit limit′ g l h = refl
+  given-same Given limit limit′ g l h =
+      let h₁ = pass-cons _ _ h in
+      let h₂ = pass-cons _ _ (h₁ .1) in
+      let h₃ = pass-cons _ _ (h₂ .1) in
+      let h₄ = pass-cons _ _ (h₃ .1) in
+      let h₅ = pass-cons _ _ (h₄ .1) in
+      let h₆ = pass-cons _ _ (h₅ .1) in
+      given-larger limit limit′ side g l (pass-must (decomposeGiven limit side g .found) NotDecomposed (pass-cons _ _ (h₆ .1) .0))
+  given-same (Weighted halfLife) limit limit′ g l h = refl
+  given-same Semi limit limit′ g l h = refl
+  given-same (SemiBelow threshold) limit limit′ g l h = refl
+
+module _ (r : List Float) (n P : ℕ) (s : Settings) (given : List Float) (side : ℕ) (slice : List Float) where
+  g : Matrix
+  g = averages r n P s given side
+
+  -- nothing but the decomposition and its checks knows the limit
+  by-same : (limit limit′ : ℕ) (d : Decomposition) (cs : List Check) → covarianceBy r n P (limited s limit′) given side slice d cs ≡ covarianceBy r n P (limited s limit) given side slice d cs
+  unfolding ofSettings adjusted
+  by-same limit limit′ d cs = refl
+
+  checks-pass : (s : Settings) (d : Decomposition) (cs : List Check) → Accepted (covarianceBy r n P s given side slice d cs) → first cs ≡ passes
+  checks-pass s d cs h =
+      let o = opening r n P (n * n) slice in
+      let a = ofAnswer r n P s given side in
+      pass-append o cs (pass-append (o ++ cs) a (all-pass (first (o ++ cs ++ a)) slice _ h) .0) .1
+
+  pub covariance-limit : (limit limit′ : ℕ) → limit ≤ limit′ → limit′ ≤ maxSweeps → Accepted (adjustedCovariance r n P (limited s limit) given side slice)
+      → adjustedCovariance r n P (limited s limit′) given side slice ≡ adjustedCovariance r n P (limited s limit) given side slice
+  unfolding g
+  covariance-limit limit limit′ l h a =
+      let S = s .shrinkage in
+      let H = s .regularization in
+      let d = decompositionOf (limited s limit) side g in
+      let d′ = decompositionOf (limited s limit′) side g in
+      let cs = ofGiven (limited s limit) given side d in
+      let p : d′ ≡ d = given-same S H given side (s .estimate) limit limit′ g l (checks-pass (limited s limit) d cs (subst Accepted (covariance-is r n P (limited s limit) given side slice) a)) in
+      let q : ofGiven (limited s limit′) given side d′ ≡ cs = ap (ofGiven (limited s limit′) given side) p ∙ given-checks S H given side (s .estimate) limit limit′ d (same-limit limit limit′ l h) in
+      covariance-is r n P (limited s limit′) given side slice ∙ by-same limit limit′ d′ (ofGiven (limited s limit′) given side d′) ∙ ap₂ (covarianceBy r n P (limited s limit) given side slice) p q ∙ sym (covariance-is r n P (limited s limit) given side slice)
+
+-- ---- all five calls
+abbrev pub withLimit : Question → ℕ → Question
+withLimit (Law.adjusted s given side) limit = Law.adjusted (limited s limit) given side
+withLimit (Law.intensity F) limit = Law.intensity F
+withLimit (Law.weightedMean halfLife) limit = Law.weightedMean halfLife
+withLimit (Law.jamesStein l) limit = Law.jamesStein limit
+withLimit (Law.bayesStein l) limit = Law.bayesStein limit
+
+pub larger-sweep-limit : (r : List Float) (n P : ℕ) (q : Question) (slice : List Float) (limit limit′ : ℕ) → limit ≤ limit′ → limit′ ≤ maxSweeps → Accepted (ask r n P (withLimit q limit) slice)
+    → ask r n P (withLimit q limit′) slice ≡ ask r n P (withLimit q limit) slice
+larger-sweep-limit r n P (Law.adjusted s given side) slice limit limit′ l h a = covariance-limit r n P s given side slice limit limit′ l h a
+larger-sweep-limit r n P (Law.intensity F) slice limit limit′ l h a = refl
+larger-sweep-limit r n P (Law.weightedMean halfLife) slice limit limit′ l h a = refl
+larger-sweep-limit r n P (Law.jamesStein old) slice limit limit′ l h a = james-limit r n P slice limit limit′ l h a
+larger-sweep-limit r n P (Law.bayesStein old) slice limit limit′ l h a = bayes-limit r n P slice limit limit′ l h a

@@ -1,0 +1,71 @@
+-- What is known of a list of checks that all pass, and of a call that accepts: document 01, "Causes". Assumes nothing.
+use mathlib.Core.Path.{_≡_, refl, sym, subst}
+use Prim.Native.Nat.{ℕ, _*_, _≤_}
+use mathlib.Core.Bool.{Bool, true, false, not, _||_}
+use mathlib.Core.List.{List, [], _∷_, _++_}
+use lib.Dec.{T, eqb, ltb}
+use lib.ListN.{length}
+use lib.Ieee.{Float}
+use borrow.Author.Tests.{ltb-false}
+use Rattle.matrix.specs.Limits.{maxSide, maxSweeps}
+use Rattle.estimators.specs.Refusals.{Check, passes, refuses, when, first}
+use Rattle.estimators.specs.Order.{maxPeriods, opening, sweepLimit}
+use Rattle.estimators.specs.Calls.{Answered, settle}
+use Rattle.estimators.specs.declared.Field.the-variants.{SweepLimitField}
+use Rattle.estimators.specs.declared.Refusal.{Refusal}
+use Rattle.estimators.specs.declared.Refusal.the-variants.{TooLarge, WrongLength, BadSetting}
+use Rattle.estimators.specs.declared.Answer.the-variants.{Refused}
+
+abbrev IsPass : Check → Type 0
+IsPass passes = Unit {0}
+IsPass (refuses c) = ⊥
+
+-- ---- one check
+pub pass-test : (b : Bool) (c : Refusal) → when b c ≡ passes → b ≡ false
+pass-test true c h = absurd (subst IsPass (sym h) tt)
+pass-test false c h = refl
+
+pub pass-must : (b : Bool) (c : Refusal) → when (not b) c ≡ passes → b ≡ true
+pass-must true c h = refl
+pass-must false c h = absurd (subst IsPass (sym h) tt)
+
+-- ---- lists of checks
+pub pass-cons : (c : Check) (cs : List Check) → first (c ∷ cs) ≡ passes → (c ≡ passes) × (first cs ≡ passes)
+unfolding first
+pass-cons passes cs h = (refl, h)
+pass-cons (refuses c) cs h = absurd (subst IsPass (sym h) tt)
+
+pub pass-append : (cs ds : List Check) → first (cs ++ ds) ≡ passes → (first cs ≡ passes) × (first ds ≡ passes)
+unfolding first
+pass-append [] ds h = (refl, h)
+pass-append (passes ∷ cs) ds h = pass-append cs ds h
+pass-append (refuses c ∷ cs) ds h = absurd (subst IsPass (sym h) tt)
+
+or-no : (a b : Bool) → (a || b) ≡ false → (a ≡ false) × (b ≡ false)
+or-no true b h = absurd (subst T h tt)
+or-no false b h = (refl, h)
+
+-- no more than 32 assets, and the answer slice is long enough
+pub pass-opening : (r : List Float) (n P needed : ℕ) (slice : List Float) → first (opening r n P needed slice) ≡ passes → (n ≤ maxSide) × (needed ≤ length slice)
+unfolding opening
+pass-opening r n P needed slice h =
+    let h₁ = pass-cons _ _ h in
+    let h₂ = pass-cons _ _ (h₁ .1) in
+    let h₃ = pass-cons _ _ (h₂ .1) in
+    let h₄ = pass-cons _ _ (h₃ .1) in (
+      ltb-false maxSide n (or-no (ltb maxSide n) (ltb maxPeriods P) (pass-test _ TooLarge (h₂ .0)) .0),
+      ltb-false (length slice) needed (or-no (not (eqb (length r) (P * n))) (ltb (length slice) needed) (pass-test _ WrongLength (h₄ .0)) .1),
+    )
+
+pub pass-limit : (limit : ℕ) → sweepLimit limit ≡ passes → limit ≤ maxSweeps
+unfolding sweepLimit
+pass-limit limit h = ltb-false maxSweeps limit (pass-test (ltb maxSweeps limit) (BadSetting SweepLimitField) h)
+
+-- ---- a call
+abbrev pub Accepted : Answered → Type 0
+Accepted w = (c : Refusal) → w .answer ≡ Refused c → ⊥
+
+pub all-pass : (c : Check) (slice : List Float) (w : Answered) → Accepted (settle c slice w) → c ≡ passes
+unfolding settle
+all-pass passes slice w h = refl
+all-pass (refuses c) slice w h = absurd (h c refl)

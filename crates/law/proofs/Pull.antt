@@ -1,0 +1,397 @@
+-- The Bayes-Stein mean: intensity, target and means, over columns that are not refused. All exponents grow by k together, so the intensity is the same. The target is one ratio, scaled by 2 ^ s and
+-- by 2 ^ (s + k): it is far from overflow, or infinite, in both runs. The means add one number scaled back and the intensity times the target. Assumes nothing.
+use mathlib.Core.Path.{_≡_, refl, sym, ap, ap₂, _∙_, subst}
+use mathlib.Core.Logic.{_⊎_, inl, inr}
+use Prim.Native.Nat.{ℕ, zero, suc, _+_, _-_, _*_, _^_, _≤_, _<_, zero-le}
+use native.Mathlib.Nat.{zero-mul, le-refl, le-trans, le-of-eq, lt-irrefl, zero-add, mul-le-mul, mul-le-mul-right, eq-zero-or-pos, le-of-mul-le-mul-right}
+use native.Mathlib.Omega.{arith}
+use mathlib.Core.Bool.{Bool, true, false}
+use mathlib.Core.List.{List}
+use lib.Dec.{T, lit≤}
+use lib.IntN.{ℤ, pos, negℤ, _+ℤ_, _-ℤ_}
+use lib.Pow.{pow-add, pow-pos, pow-mono}
+use lib.Ieee.{Float, nan, inf, fin, binary64, fits, le, lt, eq, add, mul, size}
+use lib.Ieee.Fits.{mul-fits, div-fits}
+use Rattle.leaves.specs.Numbers.{_⊕_, _⊖_, _⊗_, _⊘_, zero⁺, one, two, 1e-10, count, isFinite, max0}
+use Rattle.leaves.specs.Loops.{sumTo, nth}
+use Rattle.leaves.specs.Root.{sqrt}
+use Rattle.leaves.specs.Scaling.{pow2, binaryExponent, pow2Scaled}
+use Rattle.leaves.specs.Shift.{shift}
+use Rattle.leaves.proofs.Loops.{tab-ext}
+use Rattle.leaves.proofs.Whole.{over, under, plus, minus, same, one-side, over-neg, under-neg}
+use Rattle.leaves.proofs.Shift.{shift-nan, isFinite-shift}
+use Rattle.leaves.proofs.Rounding.{near-most, held-pow}
+use Rattle.leaves.proofs.Units.{U, U-pos, U-is, sign, mag, val-mag, mag-val, eq-zero}
+use Rattle.leaves.proofs.Arithmetic.{mul-finite}
+use Rattle.leaves.proofs.Range.{Range, range-value, range-size}
+use Rattle.leaves.proofs.Operations.{Moved, still, moved-weaken, moved-add, moved-sub, moved-mul}
+use Rattle.leaves.proofs.Signs.{sign-mul, sign-count}
+use Rattle.leaves.proofs.PowersOfTwo.{range-move, scaled-moves, shift-null, exponent-range, fits-move, scaled-copy}
+use Rattle.matrix.specs.Limits.{maxSweeps}
+use Rattle.matrix.specs.Matrix.{Matrix, at, amax, allFinite}
+use Rattle.matrix.specs.Jacobi.{Decomposition, decompose, unturned, scaledBack, swept, start}
+use Rattle.matrix.proofs.Alike.{decomposedBy, decompose-is}
+use Rattle.matrix.proofs.Turn.{Limit}
+use Rattle.matrix.proofs.Vectors.{Small, vectors-small}
+use Rattle.estimators.specs.Moments.{Moments, moments}
+use Rattle.estimators.specs.BayesStein.{singular, commonExponent, gathered, project, form, bayesStein, pulled}
+use borrow.Author.Tests.{ne-eqb}
+use Rattle.leaves.proofs.Zero.{not-above}
+use Rattle.leaves.proofs.Laws.{room→fits}
+use Rattle.law.specs.Law.{AtLeast}
+use Rattle.law.proofs.Numbers.{nth-tab}
+use Rattle.law.proofs.Sizes.{pow2-val, at-least}
+use Rattle.law.proofs.Sample.{Returns}
+use Rattle.law.proofs.Scaled.{scaled-range, lead}
+use Rattle.law.proofs.Shrinkage.{one-moved}
+use Rattle.law.proofs.Weighted.{sum-fits}
+use Rattle.law.proofs.JamesStein.{unit-range, add-nan, nan-scaled, scaled-fits}
+use Rattle.law.proofs.Share.{sign-scaled, max0-plus, intensityOf, share-unit}
+use Rattle.law.proofs.Common.{LeZ, common-in, common-above, common-lower}
+use Rattle.law.proofs.Tied.{one-step, inf-scaled, tied}
+use Rattle.law.proofs.Ratio.{product-is, sum-finite, sum-most, ratio-most}
+use Rattle.law.proofs.Columns.{C, exponent-small, exps, found, grows, inverse-exponent, inverse-some, pull, share-exponent, share-range, sizeOf, taken, Σ, μ-range}
+
+-- ---- the exponents of the two vectors
+abbrev Small' : ℕ → ℕ → ℤ → Type 0
+Small' hi lo j = (over j ≤ hi) × (under j ≤ lo)
+
+plus-small : {a b c d : ℕ} (i j : ℤ) → Small' a b i → Small' c d j → Small' (a + c) (b + d) (i +ℤ j)
+plus-small i j p q = (omega (arith, plus i j, one-side (i +ℤ j), p, q), omega (arith, plus i j, one-side (i +ℤ j), p, q))
+
+neg-small : {a b : ℕ} (j : ℤ) → Small' a b j → Small' b a (negℤ j)
+neg-small j p = (omega (arith, over-neg j, p), omega (arith, under-neg j, p))
+
+none-small : (a b : ℕ) → Small' a b (pos 0)
+unfolding over under
+none-small a b = (zero-le, zero-le)
+
+-- a number scaled so that its exponent is not above 0 is below 2
+below-two : {g L : ℕ} (h : ℕ) (x : Float) → Range g L (2 ^ h) x → (j : ℤ) → under j ≤ g + over j → h + over j ≤ 2097 + under j → (0 < mag x → LeZ (binaryExponent x +ℤ j) (pos 0)) → T (isFinite (pow2Scaled x j)) × (mag (pow2Scaled x j) ≤ 2 ^ 1075)
+unfolding over under
+below-two {g} {L} h x r j low high not-above = elim (eq-zero-or-pos (mag x)) [
+  | inl z ↦
+      let e = scaled-moves h x r j low high ∙ shift-null j x (r .fit) (r .finite) z in
+      (rw e (r .finite), rw (e, z) zero-le)
+  | inr p ↦
+      let b = binaryExponent x in
+      let q = lead x (r .finite) (range-value r) p .1 in
+      let f = not-above p in
+      let top = 1075 + over b - under b in
+      let few : under b ≤ 1075 + over b = omega (arith, exponent-range h x r p, one-side b) in
+      let r' : Range g L (2 ^ top) x = record {
+        fit = r .fit;
+        finite = r .finite;
+        count = r .count;
+        grain = r .grain;
+        least = r .least;
+        most = le-of-mul-le-mul-right {k = 2 ^ under b} (le-trans q (le-of-eq (ap (λ (z : ℕ). 2 ^ z) (omega arith) ∙ pow-add 2 top (under b)))) (pow-pos (under b));
+      } in
+      let room : top + over j ≤ 1075 + under j = omega (arith, plus b j, one-side b, f) in
+      let s : Range (g + over j - under j) 0 (2 ^ 1075) (shift j x) = range-move top x r' j low (le-trans room (omega arith)) (g + over j - under j) 0 (2 ^ 1075) (omega arith) (le-trans (le-of-eq (zero-mul (2 ^ under j))) zero-le)
+      (le-trans (le-of-eq (sym (pow-add 2 top (over j)))) (le-trans (pow-mono room) (le-of-eq (pow-add 2 1075 (under j))))) in
+      rw (scaled-moves h x r j low high) (s .finite, s .most)
+]
+
+-- ---- what is found of a decomposition's parts
+-- the values are numbers of the format
+values-fit : (limit n : ℕ) (a : Matrix) (e : ℕ) → e < n → T (fits binary64 (nth (decompose limit n a .values) e))
+values-fit limit n a e l = rw (decompose-is limit n a) (go (allFinite n n a) (eq (amax n n a) zero⁺))
+  where
+    zeros : (f : Bool) → T (fits binary64 (nth (unturned n f .values) e))
+    zeros f = unfold unturned in rw (nth-tab n (λ i. zero⁺) e nan l) (unfold fits in tt)
+
+    go : (f z : Bool) → T (fits binary64 (nth (decomposedBy limit n f z (amax n n a) (start n (amax n n a) a) .values) e))
+    go false z = zeros false
+    go true true = zeros true
+    go true false = unfold scaledBack in rw (nth-tab n (λ i. at (swept limit n (start n (amax n n a) a) .reached .matrix) n i i ⊗ amax n n a) e nan l) (mul-fits binary64 (at (swept limit n (start n (amax n n a) a) .reached .matrix) n e e) (amax n n a))
+
+-- a projection, where it is finite
+project-most : (limit n : ℕ) (a : Matrix) → n ≤ 32 → limit ≤ maxSweeps → (z : ℕ → Float) → ((i : ℕ) → i < n → T (fits binary64 (z i)) × T (isFinite (z i)) × (mag (z i) ≤ 2 ^ 1075))
+    → (e : ℕ) → e < n → T (isFinite (nth (project n (decompose limit n a) z) e)) → mag (nth (project n (decompose limit n a) z) e) ≤ 2 ^ 1380
+project-most limit n a few short z each e l F =
+    let W = at (decompose limit n a .vectors) n in
+    let i : nth (project n (decompose limit n a) z) e ≡ sumTo n (λ i. W i e ⊗ z i) = unfold project in nth-tab n (λ e. sumTo n (λ i. W i e ⊗ z i)) e nan l in
+    rw i (sum-most n 1375 (λ i. W i e ⊗ z i) few (lit≤ tt) (λ t b.
+    let f = sum-finite n (λ i. W i e ⊗ z i) (subst (λ (y : Float). T (isFinite y)) i F) t b in
+    let q = mul-finite (W t e) (z t) f in
+    let s = vector (W t e) (vectors-small limit n a (le-trans few (lit≤ tt)) short t e b l) (q .0) in (
+      mul-fits binary64 (W t e) (z t),
+      f,
+      rw (product-is (W t e) (z t) (s .0) (each t b .0) f)
+          (near-most (mag (W t e) * mag (z t)) U (2 ^ 1375) U-pos (held-pow 1375) (le-trans (mul-le-mul (s .1) (each t b .2)) (le-of-eq powers))),
+    )))
+  where
+    powers : 2 ^ 1374 * 2 ^ 1075 ≡ 2 ^ 1375 * U
+    powers = unfold U in refl
+
+    vector : (x : Float) → Small x → T (isFinite x) → T (fits binary64 x) × (mag x ≤ 2 ^ 1374)
+    vector x (inl z) f = absurd (unfold isFinite in subst (λ (y : Float). T (isFinite y)) z f)
+    vector x (inr r) f = (r .fit, le-trans (r .most) (unfold Limit in le-refl Limit))
+
+pow2-fits : (j : ℤ) → over j ≤ 108 → under j ≤ 240 → T (fits binary64 (pow2 j))
+unfolding size
+pow2-fits j a b = room→fits false 0 j (record { odd = refl; digits = lit≤ tt; low = le-trans b (lit≤ tt); high = omega arith })
+
+-- ---- what a call that does not refuse has seen
+pub record Passed (limit n : ℕ) (m : Moments) (s : ℕ → Float) : Type 0 where
+  pub limited : limit ≤ maxSweeps
+  pub above : (i : ℕ) → i < n → le (sqrt (Σ n m i i)) (1e-10 ⊗ s i) ≡ false
+  pub regular : singular n (taken limit n m) ≡ false
+
+-- the two vectors, their exponents and the ratio
+abbrev inverse : ℕ → Moments → ℕ → Float
+inverse n m i = one ⊘ sqrt (Σ n m i i)
+
+abbrev share : ℕ → Moments → ℕ → Float
+share n m i = nth (m .mean) i ⊘ sqrt (Σ n m i i)
+
+abbrev aOf : ℕ → Moments → (ℕ → ℤ) → ℤ
+aOf n m e = commonExponent n (inverse n m) (λ i. negℤ (e i))
+
+abbrev bOf : ℕ → Moments → ℤ
+bOf n m = commonExponent n (share n m) (λ i. pos 0)
+
+abbrev ones : ℕ → Moments → (ℕ → ℤ) → List Float
+ones n m e = gathered n (inverse n m) (λ i. negℤ (e i)) (aOf n m e)
+
+abbrev means : ℕ → Moments → List Float
+means n m = gathered n (share n m) (λ i. pos 0) (bOf n m)
+
+abbrev ratio : ℕ → Decomposition → List Float → List Float → Float
+ratio n d x y = form n d (project n d (nth x)) (project n d (nth y)) ⊘ form n d (project n d (nth x)) (project n d (nth x))
+
+abbrev distance : ℕ → Decomposition → Float → List Float → List Float → ℤ → Float
+distance n d P x y b =
+    let q = project n d (λ i. nth y i ⊖ ratio n d x y ⊗ nth x i) in
+    P ⊗ pow2Scaled (max0 (form n d q q)) (b +ℤ b)
+
+pull-is : (limit n : ℕ) (m : Moments) (e : ℕ → ℤ) → let d = taken limit n m in
+    (pull limit n m e .intensity ≡ intensityOf n (distance n d (m .periods) (ones n m e) (means n m) (bOf n m))) × (pull limit n m e .target ≡ pow2Scaled (ratio n d (ones n m e) (means n m)) (bOf n m -ℤ aOf n m e))
+unfolding bayesStein
+pull-is limit n m e = (refl, refl)
+
+-- the intensity, not below 0 and not above 1
+distance-plus : (n : ℕ) (d : Decomposition) (P : Float) (x y : List Float) (b : ℤ) → sign P ≡ false → sign (distance n d P x y b) ≡ false
+distance-plus n d P x y b h =
+    let q = project n d (λ i. nth y i ⊖ ratio n d x y ⊗ nth x i) in
+    sign-mul P (pow2Scaled (max0 (form n d q q)) (b +ℤ b)) (h ∙ sym (sign-scaled (max0 (form n d q q)) (b +ℤ b) (max0-plus (form n d q q))))
+
+pub pull-unit : (limit n : ℕ) (m : Moments) (e : ℕ → ℤ) → n ≤ 32 → sign (m .periods) ≡ false → (lt (pull limit n m e .intensity) zero⁺ ≡ false) × (lt one (pull limit n m e .intensity) ≡ false)
+pull-unit limit n m e few h =
+    let d = taken limit n m in
+    rw (pull-is limit n m e .0) (share-unit n (distance n d (m .periods) (ones n m e) (means n m) (bOf n m)) few (mul-fits binary64 (m .periods) _) (distance-plus n d (m .periods) (ones n m e) (means n m) (bOf n m) h))
+
+-- the ratio of a decomposition that passes the test, for vectors below 2 in size
+ratio-small : (limit n : ℕ) (a : Matrix) → 0 < n → n ≤ 32 → limit ≤ maxSweeps → singular n (decompose limit n a) ≡ false → (x y : List Float)
+    → ((i : ℕ) → i < n → T (fits binary64 (nth y i)) × T (isFinite (nth y i)) × (mag (nth y i) ≤ 2 ^ 1075))
+    → T (isFinite (ratio n (decompose limit n a) x y)) → mag (ratio n (decompose limit n a) x y) ≤ 2 ^ 1983
+unfolding form singular
+ratio-small limit zero a p few short test x y hy F = absurd (lt-irrefl 0 p)
+ratio-small limit (suc n) a p few short test x y hy F =
+    let d = decompose limit (suc n) a in
+    ratio-most n few (nth (d .values)) (values-fit limit (suc n) a) test (λ e. nth (project (suc n) d (nth x)) e) (λ e. nth (project (suc n) d (nth y)) e)
+    (projected x) (projected y) (project-most limit (suc n) a few short (nth y) hy) F
+  where
+    projected : (x : List Float) (e : ℕ) → e < suc n → T (fits binary64 (nth (project (suc n) (decompose limit (suc n) a) (nth x)) e))
+    projected x e l = unfold project in rw (nth-tab (suc n) (λ e. sumTo (suc n) (λ i. at (decompose limit (suc n) a .vectors) (suc n) i e ⊗ nth x i)) e nan l) (sum-fits (suc n) (λ i. at (decompose limit (suc n) a .vectors) (suc n) i e ⊗ nth x i))
+
+module _ {k n P : ℕ} {x y : Matrix} (small : k ≤ 80) (r : Returns k n P 982 1034 1114 x y) (tops : (i : ℕ) → i < n → over (exps P n y i) ≤ 40) (limit : ℕ) (p : Passed limit n (found P n x) (sizeOf P n x)) where
+  abbrev m' : Moments
+  m' = found P n x
+
+  abbrev e : ℕ → ℤ
+  e = exps P n x
+
+  abbrev f : ℕ → ℤ
+  f = exps P n y
+
+  abbrev d : Decomposition
+  d = taken limit n (found P n x)
+
+  a-small : Small' 75 61 (aOf n (found P n x) (exps P n x))
+  a-small = common-in (inverse n m') (λ i. negℤ (e i)) (Small' 75 61) n (none-small 75 61) (λ i l.
+      plus-small (binaryExponent (inverse n m' i)) (negℤ (e i)) (inverse-exponent small r i l (p .above i l)) (neg-small (e i) (exponent-small small r i l (p .above i l))))
+
+  a'-small : under (aOf n (found P n x) (exps P n y)) ≤ 61
+  a'-small = common-in (inverse n m') (λ i. negℤ (f i)) (λ z. under z ≤ 61) n (none-small 0 61 .1) (λ i l.
+      let b = binaryExponent (inverse n m' i) in
+      let q = inverse-exponent small r i l (p .above i l) in
+      omega (arith, plus b (negℤ (f i)), one-side (b +ℤ negℤ (f i)), over-neg (f i), under-neg (f i), tops i l, q))
+
+  b-small : Small' 47 165 (bOf n (found P n x))
+  b-small = common-in (share n m') (λ i. pos 0) (Small' 47 165) n (none-small 47 165) (λ i l. plus-small (binaryExponent (share n m' i)) (pos 0) (share-exponent small r i l (p .above i l)) (none-small 0 0))
+
+  lower : aOf n (found P n x) (exps P n y) +ℤ pos k ≡ aOf n (found P n x) (exps P n x)
+  lower = common-lower (inverse n m') e f k n (r .assets) (λ i l. grows small r i l (p .above i l)) (λ i l. inverse-some small r i l (p .above i l))
+
+  ones-same : ones n (found P n x) (exps P n y) ≡ ones n (found P n x) (exps P n x)
+  unfolding gathered over under
+  ones-same =
+      let A = aOf n m' e in
+      let B = aOf n m' f in
+      tab-ext (λ i. pow2Scaled (inverse n m' i) (negℤ (f i) -ℤ B)) (λ i. pow2Scaled (inverse n m' i) (negℤ (e i) -ℤ A)) n (λ i l. ap (pow2Scaled (inverse n m' i)) (same (negℤ (f i) -ℤ B) (negℤ (e i) -ℤ A)
+      (let g = grows small r i l (p .above i l) in omega (arith, minus (negℤ (f i)) B, minus (negℤ (e i)) A, over-neg (f i), under-neg (f i), over-neg (e i), under-neg (e i), plus (e i) (pos k), plus B (pos k), ap over g, ap under g, ap over lower, ap under lower))))
+
+  -- ---- the ratio
+  means-small : (i : ℕ) → i < n → T (fits binary64 (nth (means n (found P n x)) i)) × T (isFinite (nth (means n (found P n x)) i)) × (mag (nth (means n (found P n x)) i) ≤ 2 ^ 1075)
+  unfolding gathered over under
+  means-small i l =
+      let b = bOf n m' in
+      let j = pos 0 -ℤ b in
+      let z = share n m' i in
+      let c = b-small in
+      let q = below-two 1121 z (share-range small r i l (p .above i l)) j (omega (arith, minus (pos 0) b, one-side j)) (omega (arith, minus (pos 0) b, one-side j)) (λ s.
+      let w = common-above (share n m') (λ i. pos 0) n i l (eq-zero z (share-range small r i l (p .above i l) .fit) (share-range small r i l (p .above i l) .finite) ∙ ne-eqb (mag z) 0 (λ e. lt-irrefl 0 (subst (λ (n : ℕ). 0 < n) e s))) in
+      omega (arith, plus (binaryExponent z) j, minus (pos 0) b, plus (binaryExponent z) (pos 0), w)) in
+      rw (nth-tab n (λ i. pow2Scaled (share n m' i) (pos 0 -ℤ b)) i nan l) (scaled-fits z j, q .0, q .1)
+
+  abbrev R : Float
+  R = ratio n (taken limit n (found P n x)) (ones n (found P n x) (exps P n x)) (means n (found P n x))
+
+  R-small : T (isFinite R) → mag R ≤ 2 ^ 1983
+  R-small = ratio-small limit n (C n m') (r .assets) (r .few) (p .limited) (p .regular) (ones n m' e) (means n m') means-small
+
+  R-fits : T (fits binary64 R)
+  R-fits = div-fits binary64 (form n d (project n d (nth (ones n m' e))) (project n d (nth (means n m')))) (form n d (project n d (nth (ones n m' e))) (project n d (nth (ones n m' e))))
+
+  -- ---- the target
+  abbrev S : ℤ
+  S = bOf n (found P n x) -ℤ aOf n (found P n x) (exps P n x)
+
+  S-small : Small' 108 240 S
+  S-small = (omega (arith, minus (bOf n m') (aOf n m' e), one-side S, a-small, b-small), omega (arith, minus (bOf n m') (aOf n m' e), one-side S, a-small, b-small))
+
+  S-moves : bOf n (found P n x) -ℤ aOf n (found P n x) (exps P n y) ≡ S +ℤ pos k
+  unfolding over under
+  S-moves = same (bOf n m' -ℤ aOf n m' f) (S +ℤ pos k) (omega (arith, minus (bOf n m') (aOf n m' f), minus (bOf n m') (aOf n m' e), plus S (pos k), plus (aOf n m' f) (pos k), ap over lower, ap under lower))
+
+  S'-small : Small' 108 240 (S +ℤ pos k)
+  unfolding over under
+  S'-small = (omega (arith, ap over S-moves, minus (bOf n m') (aOf n m' f), one-side (bOf n m' -ℤ aOf n m' f), a'-small, b-small), omega (arith, plus S (pos k), one-side (S +ℤ pos k), S-small))
+
+  target-is : pull limit n (found P n x) (exps P n x) .target ≡ pow2Scaled R S
+  target-is = pull-is limit n m' e .1
+
+  target'-is : pull limit n (found P n x) (exps P n y) .target ≡ pow2Scaled R (S +ℤ pos k)
+  target'-is = pull-is limit n m' f .1 ∙ ap₂ (λ (o : List Float) (j : ℤ). pow2Scaled (ratio n d o (means n m')) j) ones-same S-moves
+
+  endless : (s : Bool) → shift (pos k) (inf s) ≡ inf s
+  endless s = unfold shift in refl
+
+  scaled-moved : (z : Float) → R ≡ z → AtLeast 400 (pow2Scaled R S) → AtLeast 400 (pow2Scaled R (S +ℤ pos k)) → pow2Scaled R (S +ℤ pos k) ≡ shift (pos k) (pow2Scaled R S)
+  scaled-moved nan q a b = rw (q, nan-scaled (S +ℤ pos k), nan-scaled S, shift-nan (pos k))
+  scaled-moved (inf s) q a b =
+      let c = S-small in
+      let c' = S'-small in
+      ap (λ (z : Float). pow2Scaled z (S +ℤ pos k)) q ∙ inf-scaled s (S +ℤ pos k) (le-trans (c' .0) (lit≤ tt)) (le-trans (c' .1) (lit≤ tt)) ∙ sym (endless s)
+      ∙ ap (shift (pos k)) (sym (ap (λ (z : Float). pow2Scaled z S) q ∙ inf-scaled s S (le-trans (c .0) (lit≤ tt)) (le-trans (c .1) (lit≤ tt))))
+  scaled-moved (fin s c w) q a b =
+      let F : T (isFinite R) = subst (λ (z : Float). T (isFinite z)) (sym q) (unfold isFinite in tt) in
+      tied R R-fits F 1983 (R-small F) S k small (le-trans (S-small .1) (lit≤ tt)) (le-trans (S-small .0) (lit≤ tt)) (let c = S'-small in omega arith) a b
+
+  pub target-fits : T (fits binary64 (pull limit n (found P n x) (exps P n x) .target))
+  target-fits = rw target-is (scaled-fits R S)
+
+  pub target-moved : AtLeast 400 (pull limit n (found P n x) (exps P n x) .target) → AtLeast 400 (pull limit n (found P n x) (exps P n y) .target) → pull limit n (found P n x) (exps P n y) .target ≡ shift (pos k) (pull limit n (found P n x) (exps P n x) .target)
+  target-moved a b = target'-is ∙ scaled-moved R refl (subst (AtLeast 400) target-is a) (subst (AtLeast 400) target'-is b) ∙ ap (shift (pos k)) (sym target-is)
+
+  -- a finite target's range: 0, or from 2 ^ -400, and not so large that it overflows in either run
+  target-range : AtLeast 400 (pull limit n (found P n x) (exps P n x) .target) → T (isFinite (pull limit n (found P n x) (exps P n x) .target)) → Range 622 (2 ^ 674) (2 ^ (2091 - k)) (pull limit n (found P n x) (exps P n x) .target)
+  target-range a F = rw target-is (go (subst (AtLeast 400) target-is a) (subst (λ (z : Float). T (isFinite z)) target-is F))
+    where
+      go : AtLeast 400 (pow2Scaled R S) → T (isFinite (pow2Scaled R S)) → Range 622 (2 ^ 674) (2 ^ (2091 - k)) (pow2Scaled R S)
+      go a F =
+          let c = S-small in
+          let e = one-step R S (le-trans (c .0) (lit≤ tt)) (le-trans (c .1) (lit≤ tt)) in
+          let q = mul-finite R (pow2 S) (subst (λ (z : Float). T (isFinite z)) e F) in
+          let w = pow2-val S (1074 + over S - under S) (omega arith) in
+          let most : mag (pow2Scaled R S) ≤ 2 ^ (2091 - k) = rw (e, product-is R (pow2 S) R-fits (pow2-fits S (c .0) (c .1)) (subst (λ (z : Float). T (isFinite z)) e F), val-mag (pow2 S) false (2 ^ (1074 + over S - under S)) w .1)
+          (near-most (mag R * 2 ^ (1074 + over S - under S)) U (2 ^ (2091 - k)) U-pos (held-pow (2091 - k)) (le-trans (mul-le-mul-right (2 ^ (1074 + over S - under S)) (R-small (q .0))) (powers (over S) (under S) room))) in
+          range-size 622 (2 ^ (2091 - k)) (pow2Scaled R S) (scaled-fits R S) F (at-least 400 (lit≤ tt) (pow2Scaled R S) (mag-val (pow2Scaled R S) (scaled-fits R S) F) a) most
+        where
+          room : over S + k ≤ 108 + under S
+          room = unfold over under in omega (arith, plus S (pos k), one-side (S +ℤ pos k), S'-small)
+
+          powers : (o u : ℕ) → o + k ≤ 108 + u → 2 ^ 1983 * 2 ^ (1074 + o - u) ≤ 2 ^ (2091 - k) * U
+          powers o u l = le-trans (le-of-eq (sym (pow-add 2 1983 (1074 + o - u)))) (le-trans (pow-mono {i = 1983 + (1074 + o - u)} {j = 2091 - k + 1074} (omega arith)) (le-of-eq (pow-add 2 (2091 - k) 1074 ∙ ap (λ (z : ℕ). 2 ^ (2091 - k) * z) (sym U-is))))
+
+  -- ---- the intensity
+  abbrev α : Float
+  α = pull limit n (found P n x) (exps P n x) .intensity
+
+  pub intensity-same : pull limit n (found P n x) (exps P n y) .intensity ≡ pull limit n (found P n x) (exps P n x) .intensity
+  intensity-same = pull-is limit n m' f .0 ∙ ap (λ (o : List Float). intensityOf n (distance n d (m' .periods) o (means n m') (bOf n m'))) ones-same ∙ sym (pull-is limit n m' e .0)
+
+  intensity-range : AtLeast 400 (pull limit n (found P n x) (exps P n x) .intensity) → (pull limit n (found P n x) (exps P n x) .intensity ≡ nan) ⊎ Range 622 (2 ^ 674) (2 ^ 1074) (pull limit n (found P n x) (exps P n x) .intensity)
+  intensity-range a =
+      let u = pull-unit limit n m' e (r .few) (unfold moments in sign-count P) in
+      unit-range 400 (lit≤ tt) α (rw (pull-is limit n m' e .0) (div-fits binary64 (count n ⊕ two) _)) a (u .0) (u .1)
+
+  -- ---- the means
+  -- with a target that is finite, and with one that is not
+  module _ (i : ℕ) (l : i < n) (a : Range 622 (2 ^ 674) (2 ^ 1074) α) where
+    abbrev t : Float
+    t = pull limit n (found P n x) (exps P n x) .target
+
+    part : Moved k 385 385 1128 (pow2Scaled ((one ⊖ α) ⊗ nth (found P n x .mean) i) (exps P n x i)) (pow2Scaled ((one ⊖ α) ⊗ nth (found P n x .mean) i) (exps P n y i))
+    part =
+        let rest = moved-sub (moved-weaken 622 674 1074 (lit≤ tt) (lit≤ tt) (lit≤ tt) one-moved) (still 674 1074 a) (lit≤ tt) in
+        let q = moved-mul rest (still 930 1087 (μ-range small r i l)) 426 426 1088 (lit≤ tt) (lit≤ tt) (lit≤ tt) (lit≤ tt) .range in
+        let c = exponent-small small r i l (p .above i l) in
+        let j = exps P n x i in
+        let z = (one ⊖ α) ⊗ nth (m' .mean) i in
+        record {
+          range = scaled-range 1088 j 40 41 q (c .0) (c .1) (lit≤ tt) (lit≤ tt);
+          copy = ap (pow2Scaled z) (grows small r i l (p .above i l)) ∙ scaled-copy j (pos k) z (q .fit) (fits-move 1088 z q j (omega arith) (omega arith)) (fits-move 1088 z q (j +ℤ pos k) (unfold over under in omega (arith, plus j (pos k), one-side (j +ℤ pos k))) (unfold over under in omega (arith, plus j (pos k), one-side (j +ℤ pos k))));
+        }
+
+    mean-finite : AtLeast 400 t → T (isFinite t) → (t' : Float) → t' ≡ shift (pos k) t → pow2Scaled ((one ⊖ α) ⊗ nth (found P n x .mean) i) (exps P n y i) ⊕ α ⊗ t' ≡ shift (pos k) (pow2Scaled ((one ⊖ α) ⊗ nth (found P n x .mean) i) (exps P n x i) ⊕ α ⊗ t)
+    mean-finite b F t' e =
+        let w : Moved k 622 674 (2091 - k) t t' = record { range = target-range b F; copy = e } in
+        let q = rw (zero-add k) at (moved-mul (still 674 1074 a) w 170 170 (2091 - k) (lit≤ tt) (lit≤ tt) (omega arith) (omega arith)) in
+        moved-add (moved-weaken 170 170 (2091 - k) (lit≤ tt) (lit≤ tt) (omega arith) part) q (omega arith) .copy
+
+    mean-endless : (T (isFinite t) → ⊥) → (t' : Float) → t' ≡ shift (pos k) t → pow2Scaled ((one ⊖ α) ⊗ nth (found P n x .mean) i) (exps P n y i) ⊕ α ⊗ t' ≡ shift (pos k) (pow2Scaled ((one ⊖ α) ⊗ nth (found P n x .mean) i) (exps P n x i) ⊕ α ⊗ t)
+    mean-endless F t' e =
+        let z = α ⊗ t in
+        let G : T (isFinite z) → ⊥ = λ g. F (mul-finite α t g .1) in
+        let u = pow2Scaled ((one ⊖ α) ⊗ nth (m' .mean) i) (exps P n x i) in
+        let v = pow2Scaled ((one ⊖ α) ⊗ nth (m' .mean) i) (exps P n y i) in
+        let fu = part .range .finite in
+        let fv : T (isFinite v) = rw (part .copy, isFinite-shift (pos k) u) fu in
+        ap (λ (s : Float). v ⊕ α ⊗ s) (e ∙ unmoved t F) ∙ absorbs v z fv G ∙ sym (unmoved z G) ∙ ap (shift (pos k)) (sym (absorbs u z fu G))
+      where
+        unmoved : (z : Float) → (T (isFinite z) → ⊥) → shift (pos k) z ≡ z
+        unmoved nan g = unfold shift in refl
+        unmoved (inf s) g = unfold shift in refl
+        unmoved (fin s c w) g = absurd (g (unfold isFinite in tt))
+
+        absorbs : (x z : Float) → T (isFinite x) → (T (isFinite z) → ⊥) → x ⊕ z ≡ z
+        absorbs x nan f g = add-nan x
+        absorbs nan (inf s) f g = unfold isFinite in absurd f
+        absorbs (inf r) (inf s) f g = unfold isFinite in absurd f
+        absorbs (fin r c w) (inf s) f g = unfold add in refl
+        absorbs x (fin s c w) f g = absurd (g (unfold isFinite in tt))
+
+  pub means-moved : AtLeast 400 α → AtLeast 400 (pull limit n (found P n x) (exps P n x) .target) → AtLeast 400 (pull limit n (found P n x) (exps P n y) .target) → (i : ℕ) → i < n
+      → pulled (pull limit n (found P n x) (exps P n y)) (nth (found P n x .mean) i) (exps P n y i) ≡ shift (pos k) (pulled (pull limit n (found P n x) (exps P n x)) (nth (found P n x .mean) i) (exps P n x i))
+  unfolding pulled
+  means-moved a b c i l =
+      let t' = pull limit n m' f .target in
+      let μ = nth (m' .mean) i in
+      ap (λ (z : Float). pow2Scaled ((one ⊖ z) ⊗ μ) (exps P n y i) ⊕ z ⊗ t') intensity-same ∙ go (intensity-range a)
+    where
+      t : Float
+      t = pull limit n (found P n x) (exps P n x) .target
+
+      decide : (b : Bool) → isFinite t ≡ b → T (isFinite t) ⊎ (T (isFinite t) → ⊥)
+      decide true e = inl (rw e tt)
+      decide false e = inr (λ f. subst T e f)
+
+      go : (α ≡ nan) ⊎ Range 622 (2 ^ 674) (2 ^ 1074) α → pow2Scaled ((one ⊖ α) ⊗ nth (found P n x .mean) i) (exps P n y i) ⊕ α ⊗ pull limit n (found P n x) (exps P n y) .target ≡ shift (pos k) (pow2Scaled ((one ⊖ α) ⊗ nth (found P n x .mean) i) (exps P n x i) ⊕ α ⊗ pull limit n (found P n x) (exps P n x) .target)
+      go (inr q) = elim (decide (isFinite t) refl) [ inl F ↦ mean-finite i l q b F (pull limit n m' f .target) (target-moved b c) | inr F ↦ mean-endless i l q F (pull limit n m' f .target) (target-moved b c) ]
+      go (inl q) = nothing (pow2Scaled ((one ⊖ α) ⊗ nth (m' .mean) i) (exps P n y i)) (pull limit n m' f .target) ∙ sym (shift-nan (pos k)) ∙ ap (shift (pos k)) (sym (nothing (pow2Scaled ((one ⊖ α) ⊗ nth (m' .mean) i) (exps P n x i)) (pull limit n m' e .target)))
+        where
+          nothing : (u z : Float) → u ⊕ α ⊗ z ≡ nan
+          nothing u z = ap (λ (s : Float). u ⊕ s ⊗ z) q ∙ unfold mul in add-nan u
