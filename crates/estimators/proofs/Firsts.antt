@@ -1,5 +1,5 @@
 -- Laws of `first`, the first refusal of a list of checks. Assumes nothing.
-use mathlib.Core.Path.{_≡_, refl}
+use mathlib.Core.Path.{_≡_, refl, ap, _∙_}
 use mathlib.Core.Bool.{Bool, true, false}
 use Prim.Native.Nat.{ℕ}
 use native.Mathlib.Omega.{arith}
@@ -18,6 +18,10 @@ unfolding first
 first-back (refuses c) ys = refl
 first-back passes ys = let e = first-alone (first ys) in rw (← e)
 
+-- one check before later ones, as the code joins them
+pub first-join : (ys : List Check) {x y a b : Check} → x ≡ y → a ≡ first ys → b ≡ first (x ∷ a ∷ []) → b ≡ first (y ∷ ys)
+first-join ys {x} {y} {a} {b} ex ea e = e ∙ ap (λ (x : Check). first (x ∷ a ∷ [])) ex ∙ ap (λ (a : Check). first (y ∷ a ∷ [])) ea ∙ first-back y ys
+
 -- earlier checks as one
 pub first-front : (xs ys : List Check) → first (xs ++ ys) ≡ first (first xs ∷ ys)
 unfolding first
@@ -30,3 +34,11 @@ pub first-passes : (b : Bool) (c : Refusal) (ys : List Check) → first (when b 
 unfolding first
 first-passes false c ys e = (refl, e)
 first-passes true c ys e = let z : _≡_ {A = ℕ} 0 1 = cc in absurd (omega arith)
+
+pub first-rest : (x : Check) (ys : List Check) → first (x ∷ ys) ≡ passes → first ys ≡ passes
+unfolding first
+first-rest passes ys e = e
+first-rest (refuses c) ys e = let z : _≡_ {A = ℕ} 0 1 = cc in absurd (omega arith)
+
+pub passes-not : {c : Refusal} → passes ≡ refuses c → ⊥
+passes-not e = let z : _≡_ {A = ℕ} 0 1 = cc in absurd (omega arith)

@@ -7,6 +7,9 @@ pub mod Mirror
 pub mod Halves
 pub mod Firsts
 pub mod Opened
+pub mod Estimated
+pub mod LedoitWolfCall
+pub mod Shapes
 pub mod Entries
 pub mod Largest
 pub mod LedoitWolf
@@ -19,3 +22,6 @@ pub mod Gathered
 pub mod Constant
 pub mod Grams
 pub mod InUnits
+pub mod Room
+pub mod MomentsExt
+pub mod SteinCalls

@@ -18,3 +18,4 @@ pub mod Order
 pub mod Checks
 pub mod Opening
 pub mod Calls
+pub mod Estimated

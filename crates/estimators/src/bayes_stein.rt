@@ -1,27 +1,39 @@
 // The Bayes-Stein mean of Jorion (expected_returns.rs, `bayes_stein_mean`; methods/mod.rs, `correlation`).
 ghost use mathlib.Core.Path.{_≡_};
+ghost use mathlib.Core.List.{List};
 ghost use Prim.Native.Nat.{ℕ, _*_, _≤_, _<_};
-ghost use lib.IntN.{natAbs};
-ghost use lib.ListN.{length};
+ghost use lib.IntN.{pos, natAbs};
+ghost use lib.ListN.{length, getD};
+ghost use lib.Ieee.{Float};
 ghost use Rattle.leaves.specs.Numbers.{_⊘_};
 ghost use Rattle.leaves.specs.Loops.{tab, nth};
-ghost use Rattle.matrix.specs.Limits.{maxSide};
+ghost use Rattle.matrix.specs.Limits.{maxSide, maxSweeps};
 ghost use Rattle.matrix.specs.Matrix.{Matrix, at, rows};
 ghost use Rattle.matrix.specs.Jacobi.{Decomposition};
+ghost use Rattle.matrix.specs.Inner.{decomposed};
 ghost use Rattle.estimators.specs.Refusals as Refusals;
 ghost use Rattle.estimators.specs.Sample as Sample;
 ghost use Rattle.estimators.specs.LedoitWolf.{deviationOf};
 ghost use Rattle.estimators.specs.BayesStein as BayesStein;
 ghost use Rattle.estimators.specs.Checks.{checked};
 ghost use Rattle.estimators.specs.Gather.{Exponents, twoExponents};
-ghost use Rattle.estimators.specs.Stein.{pullOf, pulledBy, Pulls};
+ghost use Rattle.estimators.specs.Held.{momentsOf, held};
+ghost use Rattle.estimators.specs.Calls.{answered};
+ghost use Rattle.estimators.specs.Stein.{pullOf, pulledBy, Pulls, byCorrelations, byDecomposition, bayesSteinOf};
+use crate::Answer;
 use crate::Refusal;
 use crate::checks::Check;
+use crate::checks::first;
+use crate::checks::when;
 use crate::forms::distance;
 use crate::forms::ratio;
 use crate::gather::gather_means;
 use crate::gather::gather_ones;
+use crate::moments::Moments;
+use crate::targets::put_volatilities;
 use leaves::scaling::pow2_scaled;
+use matrix::jacobi::Outcome;
+use matrix::jacobi::decompose;
 
 // The first asset with a volatility of at most 1e-10 of its largest return.
 pub(crate) fn constant_asset(volatilities: &[f64], n: usize, sizes: &[f64]) -> Check
@@ -132,5 +144,114 @@ fn pull(
         &mut scaled[..n],
         &mut p[..n],
         &mut q[..n],
+    )
+}
+
+// The volatilities and the correlations, with 9 by the one and 14 by the other.
+fn correlate(
+    covariance: &[f64],
+    n: usize,
+    sizes: &[f64],
+    volatilities: &mut [f64],
+    out: &mut [f64],
+) -> Check
+    requires { ⌜ (length (now covariance) ≡ n * n) × (length (now sizes) ≡ n) × (length (now volatilities) ≡ n) × (length (now out) ≡ n * n) ⌝ }
+    ensures { λ r. ⌜ (now (volatilities .exit) ≡ tab n (deviationOf (at (now (covariance .entry)) n))) × (now (out .exit) ≡ rows n n (BayesStein.correlation (at (now (covariance .entry)) n))) × (checked r ≡ Refusals.first (byCorrelations n (nth (now (sizes .entry))) (at (now (covariance .entry)) n) (at (now (out .exit)) n))) ⌝ }
+{
+    put_volatilities(covariance, n, volatilities);
+    put_correlations(covariance, volatilities, n, out);
+    let constant = constant_asset(volatilities, n, sizes);
+    let finite = matrix::places::all_finite(out, n, n);
+    first(constant, when(!finite, Refusal::Singular))
+}
+
+// 14 by the decomposition `d`, with these values.
+fn judge(d: Outcome, values: &[f64], n: usize) -> Check
+    requires { ⌜ (0 < n) × (length (now values) ≡ n) ⌝ }
+    ensures { λ r. ⌜ ((vectors : List Float) → checked r ≡ Refusals.first (byDecomposition n (decomposed (d .found) (now (values .entry)) vectors (d .sweeps) (d .rotations)))) ⌝ }
+{
+    let found = d.found;
+    if !found {
+        return Check::Refuses(Refusal::Singular);
+    }
+    when(is_singular(values), Refusal::Singular)
+}
+
+// The means moved towards the target, each out of its unit.
+fn put_pulled(means: &[f64], exponents: &[i32], intensity: f64, target: f64, out: &mut [f64])
+    requires { ⌜ (length (now means) ≡ length (now out)) × (length (now exponents) ≡ length (now out)) × Exponents (now exponents) ⌝ }
+    ensures { λ _. ⌜ now (out .exit) ≡ tab (length (now (out .entry))) (λ (i : ℕ). BayesStein.pulled (pullOf intensity target) (nth (now (means .entry)) i) (getD (now (exponents .entry)) i (pos 0))) ⌝ }
+{
+    let mut i = 0;
+    while i < out.len() {
+        out[i] = pow2_scaled((1.0 - intensity) * means[i], exponents[i]) + intensity * target;
+        i += 1;
+    }
+}
+
+// `shrink`, with four slices to reckon in.
+fn shrink_in(
+    means: &[f64],
+    covariance: &[f64],
+    n: usize,
+    periods: f64,
+    exponents: &[i32],
+    sizes: &[f64],
+    limit: usize,
+    volatilities: &mut [f64],
+    correlations: &mut [f64],
+    values: &mut [f64],
+    vectors: &mut [f64],
+    out: &mut [f64],
+) -> Answer
+    requires { ⌜ (0 < n) × (n ≤ maxSide) × (limit ≤ maxSweeps) × (length (now means) ≡ n) × (length (now covariance) ≡ n * n) × (length (now exponents) ≡ n) × Exponents (now exponents) × (length (now sizes) ≡ n) × (length (now volatilities) ≡ n) × (length (now correlations) ≡ n * n) × (length (now values) ≡ n) × (length (now vectors) ≡ n * n) × (length (now out) ≡ n) ⌝ }
+    ensures { λ r. ⌜ answered r (now (out .exit)) ≡ bayesSteinOf n limit (momentsOf (now (means .entry)) (now (covariance .entry)) periods) (λ (i : ℕ). getD (now (exponents .entry)) i (pos 0)) (nth (now (sizes .entry))) (now (out .entry)) ⌝ }
+{
+    let constant = correlate(covariance, n, sizes, volatilities, correlations);
+    if let Check::Refuses(refusal) = constant {
+        return Answer::Refused(refusal);
+    }
+    let d = decompose(correlations, n, limit, values, vectors);
+    let singular = judge(d, values, n);
+    if let Check::Refuses(refusal) = singular {
+        return Answer::Refused(refusal);
+    }
+    let w = pull(means, volatilities, exponents, n, periods, values, vectors);
+    put_pulled(means, exponents, w.intensity, w.target, out);
+    Answer::Shrunk(w.intensity, w.target, d.sweeps, d.rotations)
+}
+
+// The answer from the moments in the units 2^exponents, and the sizes of the largest returns in them.
+pub(crate) fn shrink(
+    m: Moments,
+    n: usize,
+    exponents: &[i32],
+    sizes: &[f64],
+    limit: usize,
+    out: &mut [f64],
+) -> Answer
+    requires { ⌜ (0 < n) × (n ≤ maxSide) × (limit ≤ maxSweeps) × (length (now exponents) ≡ n) × Exponents (now exponents) × (length (now sizes) ≡ n) × (length (now out) ≡ n) ⌝ }
+    ensures { λ r. ⌜ answered r (now (out .exit)) ≡ bayesSteinOf n limit (held n m) (λ (i : ℕ). getD (now (exponents .entry)) i (pos 0)) (nth (now (sizes .entry))) (now (out .entry)) ⌝ }
+{
+    let size = n * n;
+    let mean = m.mean;
+    let covariance = m.covariance;
+    let mut volatilities = [0.0; matrix::MAX_SIDE];
+    let mut correlations = [0.0; matrix::MAX_SIDE * matrix::MAX_SIDE];
+    let mut values = [0.0; matrix::MAX_SIDE];
+    let mut vectors = [0.0; matrix::MAX_SIDE * matrix::MAX_SIDE];
+    shrink_in(
+        &mean[..n],
+        &covariance[..size],
+        n,
+        m.periods,
+        exponents,
+        sizes,
+        limit,
+        &mut volatilities[..n],
+        &mut correlations[..size],
+        &mut values[..n],
+        &mut vectors[..size],
+        out,
     )
 }

@@ -82,7 +82,7 @@ fn divide(xs: &[f64], volatilities: &[f64], out: &mut [f64])
 }
 
 // Each number in its unit, over 2^e.
-fn scale(exponents: &[i32], e: i32, out: &mut [f64])
+pub(crate) fn scale(exponents: &[i32], e: i32, out: &mut [f64])
     requires { ⌜ (length (now exponents) ≡ length (now out)) × Exponents (now exponents) × (natAbs e ≤ twoExponents) ⌝ }
     ensures { λ _. ⌜ now (out .exit) ≡ BayesStein.gathered (length (now (out .entry))) (nth (now (out .entry))) (λ (i : ℕ). negℤ (getD (now (exponents .entry)) i (pos 0))) e ⌝ }
 {

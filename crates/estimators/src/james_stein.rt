@@ -13,6 +13,10 @@ ghost use Rattle.matrix.specs.Matrix.{at};
 ghost use Rattle.matrix.specs.Jacobi.{Decomposition};
 ghost use Rattle.estimators.specs.Held.{momentsOf, held, maxExponent};
 ghost use Rattle.estimators.specs.JamesStein as JamesStein;
+ghost use Rattle.estimators.specs.Calls.{answered};
+ghost use Rattle.estimators.specs.Stein.{jamesSteinOf};
+use crate::Answer;
+use crate::Refusal;
 use crate::moments::Moments;
 use crate::moments::exponent;
 use leaves::scaling::pow2_scaled;
@@ -127,4 +131,47 @@ fn put_means(means: &[f64], intensity: f64, target: f64, exponent: i32, out: &mu
         out[i] = pow2_scaled(m + intensity * (target - m), exponent);
         i += 1;
     }
+}
+
+// `pull` of the moments, in arrays of the largest size.
+fn pull_held(m: Moments, n: usize, target: f64, limit: usize) -> Pulled
+    requires { ⌜ (0 < n) × (n ≤ maxSide) × (limit ≤ maxSweeps) ⌝ }
+    ensures { λ r. ⌜ ((d : Decomposition) → d ≡ JamesStein.decomposeUneven limit n (JamesStein.unevenness n (nth (held n m .mean)) target) (at (held n m .covariance) n) → (r .found ≡ d .found) × (r .intensity ≡ JamesStein.jamesSteinIntensity n (held n m) target d) × (r .sweeps ≡ d .sweeps) × (r .rotations ≡ d .rotations)) ⌝ }
+{
+    let size = n * n;
+    let mean = m.mean;
+    let covariance = m.covariance;
+    let mut values = [0.0; matrix::MAX_SIDE];
+    let mut vectors = [0.0; matrix::MAX_SIDE * matrix::MAX_SIDE];
+    pull(
+        &mean[..n],
+        &covariance[..size],
+        n,
+        m.periods,
+        target,
+        limit,
+        &mut values[..n],
+        &mut vectors[..size],
+    )
+}
+
+// The answer from the moments in units of 2^exponent.
+pub(crate) fn shrink(m: Moments, n: usize, exponent: i32, limit: usize, out: &mut [f64]) -> Answer
+    requires { ⌜ (0 < n) × (n ≤ maxSide) × (limit ≤ maxSweeps) × (length (now out) ≡ n) ⌝ }
+    ensures { λ r. ⌜ answered r (now (out .exit)) ≡ jamesSteinOf n limit (held n m) exponent (now (out .entry)) ⌝ }
+{
+    let target = grand_mean(m, n);
+    let p = pull_held(m, n, target, limit);
+    let found = p.found;
+    if !found {
+        return Answer::Refused(Refusal::Singular);
+    }
+    let mean = m.mean;
+    put_means(&mean[..n], p.intensity, target, exponent, out);
+    Answer::Shrunk(
+        p.intensity,
+        pow2_scaled(target, exponent),
+        p.sweeps,
+        p.rotations,
+    )
 }

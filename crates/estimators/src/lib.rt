@@ -2,8 +2,11 @@
 mod adjusted;
 mod base;
 mod bayes_stein;
+pub mod calls;
 mod checks;
 mod columns;
+mod covariance;
+mod expected_returns;
 mod forms;
 mod gather;
 mod given;

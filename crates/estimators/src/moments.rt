@@ -3,7 +3,7 @@ ghost use mathlib.Core.Path.{_≡_};
 ghost use Prim.Native.Nat.{ℕ, _+_, _*_, _≤_, _<_};
 ghost use lib.IntN.{pos, natAbs};
 ghost use lib.ListN.{length, getD};
-ghost use Rattle.leaves.specs.Loops.{tab};
+ghost use Rattle.leaves.specs.Loops.{tab, nth};
 ghost use Rattle.leaves.specs.Scaling.{binaryExponent};
 ghost use Rattle.matrix.specs.Limits.{maxSide};
 ghost use Rattle.matrix.specs.Matrix.{at, rows};
@@ -71,4 +71,13 @@ pub(crate) fn of_returns(r: &[f64], n: usize, periods: usize, exponents: &[i32])
         covariance: covariance,
         periods: std::num::nearest_u64_to_f64(periods as u64),
     }
+}
+
+// All assets' over one power of two.
+pub(crate) fn moments_over(r: &[f64], n: usize, periods: usize, exponent: i32) -> Moments
+    requires { ⌜ (0 < n) × (length (now r) ≡ periods * n) × (n ≤ maxSide) × (1 ≤ periods) × (natAbs exponent ≤ maxExponent) ⌝ }
+    ensures { λ m. ⌜ held n m ≡ moments periods n (Sample.scaled (λ (i : ℕ). exponent) (at (now (r .entry)) n)) ⌝ }
+{
+    let exponents = [exponent; matrix::MAX_SIDE];
+    of_returns(r, n, periods, &exponents[..n])
 }

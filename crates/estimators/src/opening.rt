@@ -76,3 +76,13 @@ pub(crate) fn check_returns(r: &[f64], n: usize, periods: usize, out: &mut [f64]
         Refusal::CovarianceNotFinite,
     )
 }
+
+// 5, sample 6.
+pub(crate) fn check_opened(returns: &[f64], n: usize, periods: usize) -> Check
+    requires { ⌜ (length (now returns) ≡ periods * n) × (n ≤ maxSide) × (1 ≤ periods) ⌝ }
+    ensures { λ k. ⌜ checked k ≡ Refusals.first (Opening.byReturns periods n (at (now (returns .entry)) n)) ⌝ }
+{
+    let mut sample = [0.0; matrix::MAX_SIDE * matrix::MAX_SIDE];
+    let size = n * n;
+    check_returns(returns, n, periods, &mut sample[..size])
+}

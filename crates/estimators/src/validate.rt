@@ -40,7 +40,7 @@ pub(crate) fn is_given(estimate: Estimate) -> bool
 }
 
 // Finite and at least 0, as -0 is.
-fn bad_regularization(regularization: Regularization) -> Check
+pub(crate) fn bad_regularization(regularization: Regularization) -> Check
     ensures { λ r. ⌜ checked r ≡ Order.badRegularization regularization ⌝ }
 {
     match regularization {
@@ -53,7 +53,7 @@ fn bad_regularization(regularization: Regularization) -> Check
 }
 
 // In [0, 1].
-fn bad_shrinkage(shrinkage: Shrinkage) -> Check
+pub(crate) fn bad_shrinkage(shrinkage: Shrinkage) -> Check
     ensures { λ r. ⌜ checked r ≡ Order.badShrinkage shrinkage ⌝ }
 {
     match shrinkage {
@@ -67,7 +67,7 @@ fn bad_shrinkage(shrinkage: Shrinkage) -> Check
 }
 
 // Ledoit-Wolf with another estimate.
-fn not_the_sample(shrinkage: Shrinkage, estimate: Estimate) -> Check
+pub(crate) fn not_the_sample(shrinkage: Shrinkage, estimate: Estimate) -> Check
     ensures { λ r. ⌜ checked r ≡ Order.notTheSample shrinkage estimate ⌝ }
 {
     match shrinkage {

@@ -1,0 +1,184 @@
+-- The two Stein calls where shapes and lengths pass and the answer slice has n numbers: by the checks of the returns and of the sweep limit, and then by
+-- the moments. Assumes nothing.
+use mathlib.Core.Path.{_≡_, refl, sym, ap, _∙_}
+use mathlib.Core.Bool.{not}
+use mathlib.Core.List.{List, [], _∷_, _++_}
+use mathlib.Core.Option.{Option}
+use Prim.Native.Nat.{ℕ, _≤_, _<_}
+use native.Mathlib.Omega.{arith}
+use borrow.Author.Tests.{ltb-false}
+use lib.Dec.{ltb}
+use lib.IntN.{ℤ, pos, negℤ, _-ℤ_}
+use lib.ListN.{length, getD}
+use lib.Ieee.{Float}
+use Rattle.leaves.specs.Loops.{tab, nth}
+use Rattle.leaves.specs.Scaling.{binaryExponent, pow2Scaled}
+use Rattle.leaves.specs.Root.{sqrt}
+use Rattle.leaves.proofs.Whole.{over, under, minus, same}
+use Rattle.leaves.proofs.Loops.{tab-ext}
+use Rattle.matrix.specs.Limits.{maxSweeps}
+use Rattle.matrix.specs.Matrix.{Matrix, at, rows, amax, allFinite}
+use Rattle.matrix.specs.Jacobi.{Decomposition, decompose}
+use Rattle.estimators.specs.Refusals as Refusals
+use Rattle.estimators.specs.Refusals.{passes, refuses, when, whenSome, first}
+use Rattle.estimators.specs.Sample.{largest, scaled, constantAsset}
+use Rattle.estimators.specs.Moments.{Moments, moments}
+use Rattle.estimators.specs.JamesStein.{grandMean, unevenness, decomposeUneven, jamesSteinIntensity, towards}
+use Rattle.estimators.specs.BayesStein.{correlation, bayesStein, gathered, pulled, Pull}
+use Rattle.estimators.specs.Order.{sweepLimit, jamesSteinOrder, bayesSteinOrder}
+use Rattle.estimators.specs.Opening.{Shaped, byReturns}
+use Rattle.estimators.specs.Checks.{checked}
+use Rattle.estimators.specs.Calls.{answered, settle, jamesSteinMean, bayesSteinMean}
+use Rattle.estimators.specs.Stein.{byCorrelations, byDecomposition, jamesSteinOf, bayesSteinOf, bayesSteinFrom}
+use Rattle.estimators.specs.declared.Refusal.{Refusal}
+use Rattle.estimators.specs.declared.Refusal.the-variants.{ZeroVariance, Singular, BadSetting}
+use Rattle.estimators.specs.declared.Field.the-variants.{SweepLimitField}
+use Rattle.estimators.specs.declared.Answer.{Answer}
+use Rattle.estimators.specs.declared.Answer.the-variants.{Refused, Shrunk}
+use Rattle.estimators.specs.declared.checks.Check.{Check}
+use Rattle.estimators.specs.declared.checks.Check.the-variants.{Passes, Refuses}
+use Rattle.estimators.proofs.Stored.{tab-nth}
+use Rattle.estimators.proofs.Firsts.{first-alone, first-front, first-passes}
+use Rattle.estimators.proofs.Constant.{constant-ext}
+use Rattle.estimators.proofs.Opened.{answerOf, shaped}
+
+second-passes : (x y : Refusals.Check) → first (x ∷ y ∷ []) ≡ passes → first (y ∷ []) ≡ passes
+unfolding first
+second-passes passes y e = e
+second-passes (refuses c) y e = let z : _≡_ {A = ℕ} 0 1 = cc in absurd (omega arith)
+
+-- `bad` is the first refusal of the two checks
+module _ (r : List Float) (n T limit : ℕ) (slice : List Float) (shape : Shaped (length r) n T) (long : length slice ≡ n) (bad : Check) (opened limited : Refusals.Check)
+    (is-opened : opened ≡ first (byReturns T n (at r n))) (is-limited : limited ≡ sweepLimit limit) (is-bad : checked bad ≡ first (opened ∷ limited ∷ [])) where
+  both : checked bad ≡ first (first (byReturns T n (at r n)) ∷ sweepLimit limit ∷ [])
+  both = is-bad ∙ (λ t. first (is-opened t ∷ is-limited t ∷ []))
+
+  pub within : bad ≡ Passes → limit ≤ maxSweeps
+  unfolding sweepLimit
+  within h =
+      let e = second-passes (first (byReturns T n (at r n))) (sweepLimit limit) (sym both ∙ ap checked h) in
+      ltb-false maxSweeps limit (first-passes (ltb maxSweeps limit) (BadSetting SweepLimitField) [] e .0)
+
+  settled : (rest : List Refusals.Check) (a : Answer) (f : ℕ → Float) → settle (first (checked bad ∷ rest)) slice (answered a (tab n f)) ≡ answerOf r n T n slice (sweepLimit limit ∷ rest) a f slice
+  settled rest a f =
+      shaped r n T n slice (sweepLimit limit ∷ rest) a f shape long
+      ((λ t. first (both t ∷ rest)) ∙ sym (first-front (first (byReturns T n (at r n)) ∷ sweepLimit limit ∷ []) rest) ∙ sym (first-front (byReturns T n (at r n)) (sweepLimit limit ∷ rest)))
+
+  refused : {c : Refusal} → bad ≡ Refuses c → (rest : List Refusals.Check) (a : Answer) (f : ℕ → Float) → answered (Refused c) slice ≡ answerOf r n T n slice (sweepLimit limit ∷ rest) a f slice
+  unfolding first settle
+  refused h rest a f = (λ t. settle (first (checked (sym h t) ∷ rest)) slice (answered a (tab n f))) ∙ settled rest a f
+
+  accepted : bad ≡ Passes → (rest : List Refusals.Check) (a : Answer) (f : ℕ → Float) → settle (first rest) slice (answered a (tab n f)) ≡ answerOf r n T n slice (sweepLimit limit ∷ rest) a f slice
+  unfolding first
+  accepted h rest a f = (λ t. settle (first (checked (sym h t) ∷ rest)) slice (answered a (tab n f))) ∙ settled rest a f
+
+  -- ---- James-Stein
+
+  abbrev eⱼ : ℤ
+  eⱼ = binaryExponent (amax T n (at r n))
+
+  abbrev mⱼ : Moments
+  mⱼ = moments T n (scaled (λ i. eⱼ) (at r n))
+
+  abbrev μⱼ : Float
+  μⱼ = grandMean n (nth (mⱼ .mean))
+
+  abbrev dⱼ : Decomposition
+  dⱼ = decomposeUneven limit n (unevenness n (nth (mⱼ .mean)) μⱼ) (at (mⱼ .covariance) n)
+
+  abbrev αⱼ : Float
+  αⱼ = jamesSteinIntensity n mⱼ μⱼ dⱼ
+
+  abbrev answerⱼ : Answer
+  answerⱼ = Shrunk αⱼ (pow2Scaled μⱼ eⱼ) (dⱼ .sweeps) (dⱼ .rotations)
+
+  abbrev numberⱼ : ℕ → Float
+  numberⱼ i = pow2Scaled (towards αⱼ μⱼ (nth (mⱼ .mean) i)) eⱼ
+
+  pub james-stein-refused : {c : Refusal} → bad ≡ Refuses c → answered (Refused c) slice ≡ jamesSteinMean r n T limit slice
+  unfolding jamesSteinMean jamesSteinOrder
+  james-stein-refused h = refused h (when (not (dⱼ .found)) Singular ∷ []) answerⱼ numberⱼ
+
+  pub james-stein-accepted : bad ≡ Passes → (m : Moments) (e : ℤ) → m ≡ moments T n (scaled (λ i. e) (at r n)) → e ≡ eⱼ → jamesSteinOf n limit m e slice ≡ jamesSteinMean r n T limit slice
+  unfolding jamesSteinMean jamesSteinOrder
+  james-stein-accepted h m e is-m is-e =
+      ap (λ (m : Moments). jamesSteinOf n limit m e slice) is-m
+      ∙ ap (λ (e : ℤ). jamesSteinOf n limit (moments T n (scaled (λ i. e) (at r n))) e slice) is-e
+      ∙ ap (λ (k : Refusals.Check). settle k slice (answered answerⱼ (tab n numberⱼ))) (first-alone (when (not (dⱼ .found)) Singular))
+      ∙ accepted h (when (not (dⱼ .found)) Singular ∷ []) answerⱼ numberⱼ
+
+  -- ---- Bayes-Stein
+
+  abbrev e : ℕ → ℤ
+  e i = getD (tab n (λ i. binaryExponent (largest T (at r n) i))) i (pos 0)
+
+  abbrev m : Moments
+  m = moments T n (scaled e (at r n))
+
+  abbrev C : Matrix
+  C = at (rows n n (correlation (at (m .covariance) n))) n
+
+  abbrev d : Decomposition
+  d = decompose limit n C
+
+  abbrev w : Pull
+  w = bayesStein n (m .periods) (nth (m .mean)) (at (m .covariance) n) e d
+
+  abbrev rest : List Refusals.Check
+  rest = byCorrelations n (λ i. pow2Scaled (largest T (at r n) i) (negℤ (e i))) (at (m .covariance) n) C ++ byDecomposition n d
+
+  abbrev answer : Answer
+  answer = Shrunk (w .intensity) (w .target) (d .sweeps) (d .rotations)
+
+  abbrev number : ℕ → Float
+  number i = pulled w (nth (m .mean) i) (e i)
+
+  pub bayes-stein-refused : {c : Refusal} → bad ≡ Refuses c → answered (Refused c) slice ≡ bayesSteinMean r n T limit slice
+  unfolding bayesSteinMean bayesSteinOrder
+  bayes-stein-refused h = refused h rest answer number
+
+  pub bayes-stein-accepted : bad ≡ Passes → bayesSteinFrom n T limit (at r n) slice ≡ bayesSteinMean r n T limit slice
+  unfolding bayesSteinMean bayesSteinOrder
+  bayes-stein-accepted h = accepted h rest answer number
+
+-- ---- the sizes and exponents of Bayes-Stein, as lists
+
+-- the sizes count below n alone
+size-ext : (n limit : ℕ) (m : Moments) (e : ℕ → ℤ) (s s′ : ℕ → Float) (slice : List Float) → ((i : ℕ) → i < n → s i ≡ s′ i) → bayesSteinOf n limit m e s slice ≡ bayesSteinOf n limit m e s′ slice
+unfolding constantAsset
+size-ext n limit m e s s′ slice h =
+    let Σ = at (m .covariance) n in
+    let C = at (rows n n (correlation Σ)) n in
+    let d = decompose limit n C in
+    let w = bayesStein n (m .periods) (nth (m .mean)) Σ e d in
+    ap
+    (λ (o : Option ℕ). settle (first (whenSome o ZeroVariance ∷ when (not (allFinite n n C)) Singular ∷ byDecomposition n d)) slice
+    (answered (Shrunk (w .intensity) (w .target) (d .sweeps) (d .rotations)) (tab n (λ i. pulled w (nth (m .mean) i) (e i)))))
+    (constant-ext n (λ i. sqrt (Σ i i)) (λ i. sqrt (Σ i i)) s s′ (λ i b. refl) h)
+
+minus-zero : (z : ℤ) → z -ℤ pos 0 ≡ z
+unfolding over under
+minus-zero z = same (z -ℤ pos 0) z (omega (arith, minus z (pos 0)))
+
+-- from the largest returns, their exponents, the moments over those and the largest returns over them
+module _ (n T limit : ℕ) (x : Matrix) (slice sizes over : List Float) (es : List ℤ) (is-sizes : sizes ≡ tab n (largest T x)) (is-es : es ≡ tab n (λ i. binaryExponent (nth sizes i))) where
+  abbrev unit : ℕ → ℤ
+  unit i = getD es i (pos 0)
+
+  at-size : (i : ℕ) → i < n → nth sizes i ≡ largest T x i
+  at-size i b = ap (λ (l : List Float). nth l i) is-sizes ∙ tab-nth (largest T x) n i b
+
+  exponents : es ≡ tab n (λ i. binaryExponent (largest T x i))
+  exponents = is-es ∙ tab-ext (λ i. binaryExponent (nth sizes i)) (λ i. binaryExponent (largest T x i)) n (λ i b. ap binaryExponent (at-size i b))
+
+  at-over : over ≡ gathered n (nth sizes) (λ i. negℤ (unit i)) (pos 0) → (i : ℕ) → i < n → nth over i ≡ pow2Scaled (largest T x i) (negℤ (unit i))
+  unfolding gathered
+  at-over is-over i b =
+      ap (λ (l : List Float). nth l i) is-over ∙ tab-nth (λ i. pow2Scaled (nth sizes i) (negℤ (unit i) -ℤ pos 0)) n i b
+      ∙ (λ t. pow2Scaled (at-size i b t) (minus-zero (negℤ (unit i)) t))
+
+  pub bayes-stein-lists : (m : Moments) → m ≡ moments T n (scaled unit x) → over ≡ gathered n (nth sizes) (λ i. negℤ (unit i)) (pos 0) → bayesSteinOf n limit m unit (nth over) slice ≡ bayesSteinFrom n T limit x slice
+  bayes-stein-lists m is-m is-over =
+      ap (λ (m : Moments). bayesSteinOf n limit m unit (nth over) slice) is-m
+      ∙ size-ext n limit (moments T n (scaled unit x)) unit (nth over) (λ i. pow2Scaled (largest T x i) (negℤ (unit i))) slice (at-over is-over)
+      ∙ ap (λ (l : List ℤ). let e : ℕ → ℤ = λ i. getD l i (pos 0) in bayesSteinOf n limit (moments T n (scaled e x)) e (λ i. pow2Scaled (largest T x i) (negℤ (e i))) slice) exponents

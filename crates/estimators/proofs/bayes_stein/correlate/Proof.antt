@@ -1,0 +1,60 @@
+-- `estimators::bayes_stein::correlate` meets its contract: the correlations by the volatilities are those of the definition.
+use mathlib.Core.Path.{_≡_, ap, _∙_}
+use mathlib.Core.Bool.{not}
+use mathlib.Core.List.{List, [], _∷_}
+use Prim.Native.Nat.{ℕ, _<_}
+use lib.Ieee.{Float}
+use borrow.Author.Needs.{needs}
+use Rattle.leaves.specs.Numbers.{_⊘_}
+use Rattle.leaves.specs.Loops.{tab, nth}
+use Rattle.matrix.specs.Matrix.{Matrix, at, rows}
+use Rattle.matrix.proofs.Stored.{rows-ext}
+use Rattle.estimators.specs.Refusals.{when, first}
+use Rattle.estimators.specs.LedoitWolf.{deviationOf}
+use Rattle.estimators.specs.BayesStein.{correlation}
+use Rattle.estimators.specs.declared.Refusal.the-variants.{Singular}
+use Rattle.estimators.proofs.Stored.{tab-nth}
+use Rattle.estimators.proofs.bayes_stein.correlate.Statement.{statement}
+use Rattle.estimators.proofs.bayes_stein.correlate.Tie as tie
+
+correlated : (n : ℕ) (Σ : Matrix) (v out : List Float) → v ≡ tab n (deviationOf Σ) → out ≡ rows n n (λ i j. Σ i j ⊘ nth v i ⊘ nth v j) → out ≡ rows n n (correlation Σ)
+unfolding correlation
+correlated n Σ v out ev eo = eo ∙ rows-ext n n (λ i j. Σ i j ⊘ nth v i ⊘ nth v j) (correlation Σ) (λ i j hi hj t. Σ i j ⊘ root i hi t ⊘ root j hj t)
+  where
+    root : (i : ℕ) → i < n → nth v i ≡ deviationOf Σ i
+    root i h = ap (λ (l : List Float). nth l i) ev ∙ tab-nth (deviationOf Σ) n i h
+
+put-volatilities-requires : tie.Need-put-volatilities-requires
+put-volatilities-requires c κs = search needs
+
+put-correlations-requires : tie.Need-put-correlations-requires
+put-correlations-requires c κs = search needs
+
+constant-asset-requires : tie.Need-constant-asset-requires
+constant-asset-requires c κs = search needs
+
+all-finite-requires : tie.Need-all-finite-requires
+all-finite-requires c κs = search needs
+
+when-requires : tie.Need-when-requires
+when-requires c κs = search needs
+
+first-requires : tie.Need-first-requires
+first-requires c κs = search needs
+
+same-length : tie.Need-same-length
+same-length c = search needs
+
+same-length-2 : tie.Need-same-length-2
+same-length-2 c = search needs
+
+returns : tie.Need-returns
+returns c =
+    let C = c .before .before .before .before .before .before .before .before .put-correlations in
+    let D = c .before .before .before .before .before .before .before .before .before .before .before .before .before .put-volatilities in
+    let a = c .before .before .before .before .before .before .before .before .before .before .before .before .before .before .before .before .before .before .before .args in
+    let constant = c .before .before .before .before .constant-asset .ensures (at (a .covariance .now) (a .n)) (D .ensures) in
+    (D .ensures, correlated (a .n) (at (a .covariance .now) (a .n)) _ _ (D .ensures) (C .ensures), c .first .ensures ∙ (λ t. first (constant t ∷ (c .before .when .ensures ∙ (λ u. when (not (c .before .before .all-finite .ensures u)) Singular)) t ∷ [])))
+
+pub correlate-spec : {M : Type 1} → statement M
+correlate-spec = tie.close (tie.spec put-volatilities-requires put-correlations-requires constant-asset-requires all-finite-requires when-requires first-requires same-length same-length-2 returns)

@@ -1,0 +1,164 @@
+-- `estimators::bayes_stein::shrink_in` meets its contract: each return is the case of `settle` that the checks leave.
+use mathlib.Core.Path.{_≡_, sym, ap, _∙_}
+use mathlib.Core.List.{List, _∷_, _++_}
+use Prim.Native.Nat.{ℕ}
+use lib.IntN.{ℤ, pos}
+use lib.ListN.{length, getD}
+use lib.Ieee.{Float}
+use borrow.Author.Needs.{needs}
+use Rattle.leaves.specs.Loops.{tab, nth}
+use Rattle.leaves.proofs.Loops.{length-tab}
+use Rattle.matrix.specs.Matrix.{at, rows}
+use Rattle.matrix.specs.Jacobi.{Decomposition, decompose}
+use Rattle.estimators.specs.Refusals as Refusals
+use Rattle.estimators.specs.Refusals.{first}
+use Rattle.estimators.specs.LedoitWolf.{deviationOf}
+use Rattle.estimators.specs.BayesStein.{correlation, Pull, bayesStein, pulled}
+use Rattle.estimators.specs.Checks.{checked}
+use Rattle.estimators.specs.Held.{momentsOf}
+use Rattle.estimators.specs.Calls.{Answered, answered, settle}
+use Rattle.estimators.specs.Stein.{pullOf, Pulls, byCorrelations, byDecomposition, bayesSteinOf}
+use Rattle.estimators.specs.declared.Refusal.{Refusal}
+use Rattle.estimators.specs.declared.Answer.the-variants.{Refused, Shrunk}
+use Rattle.estimators.specs.declared.checks.Check.{Check}
+use Rattle.estimators.specs.declared.checks.Check.the-variants.{Passes, Refuses}
+use Rattle.estimators.proofs.Firsts.{first-front}
+use Rattle.estimators.proofs.bayes_stein.shrink_in.Statement.{statement}
+use Rattle.estimators.proofs.bayes_stein.shrink_in.Tie as tie
+
+-- μ and Σ are the moments, v and C the volatilities and correlations found
+module _ (n limit : ℕ) (μ Σ : List Float) (T : Float) (es : List ℤ) (size : ℕ → Float) (slice v C : List Float) (constant : Check)
+    (is-v : v ≡ tab n (deviationOf (at Σ n))) (is-C : C ≡ rows n n (correlation (at Σ n))) (is-constant : checked constant ≡ first (byCorrelations n size (at Σ n) (at C n))) where
+  abbrev e : ℕ → ℤ
+  e i = getD es i (pos 0)
+
+  abbrev outcome : Pull → ℕ → ℕ → Answered
+  outcome w sweeps rotations = answered (Shrunk (w .intensity) (w .target) sweeps rotations) (tab n (λ i. pulled w (nth μ i) (e i)))
+
+  abbrev accepts : List Float → Answered
+  accepts C = let d = decompose limit n (at C n) in outcome (bayesStein n T (nth μ) (at Σ n) e d) (d .sweeps) (d .rotations)
+
+  abbrev checks : List Float → List Refusals.Check
+  checks C = byCorrelations n size (at Σ n) (at C n) ++ byDecomposition n (decompose limit n (at C n))
+
+  abbrev Answers : Answered → Type 0
+  Answers a = a ≡ bayesSteinOf n limit (momentsOf μ Σ T) e size slice
+
+  -- the answer by the correlations as they are stored
+  stored : Answers (settle (first (checks C)) slice (accepts C))
+  stored = ap (λ (C : List Float). settle (first (checks C)) slice (accepts C)) is-C
+
+  -- the first check, with the others after it
+  front : first (checked constant ∷ byDecomposition n (decompose limit n (at C n))) ≡ first (checks C)
+  front = (λ t. first (is-constant t ∷ byDecomposition n (decompose limit n (at C n)))) ∙ sym (first-front (byCorrelations n size (at Σ n) (at C n)) (byDecomposition n (decompose limit n (at C n))))
+
+  refused : {c : Refusal} → constant ≡ Refuses c → Answers (answered (Refused c) slice)
+  unfolding first settle
+  refused h = (λ t. settle (first (checked (sym h t) ∷ byDecomposition n (decompose limit n (at C n)))) slice (accepts C)) ∙ (λ t. settle (front t) slice (accepts C)) ∙ stored
+
+  -- d is the decomposition found
+  module _ (h : constant ≡ Passes) (d : Decomposition) (is-d : d ≡ decompose limit n (at C n)) (singular : Check) (is-singular : checked singular ≡ first (byDecomposition n d)) where
+    back : checked singular ≡ first (checks C)
+    unfolding first
+    back = is-singular ∙ (λ t. first (checked (sym h t) ∷ byDecomposition n (is-d t))) ∙ front
+
+    singular-refused : {c : Refusal} → singular ≡ Refuses c → Answers (answered (Refused c) slice)
+    unfolding settle
+    singular-refused g = (λ t. settle (checked (sym g t)) slice (accepts C)) ∙ (λ t. settle (back t) slice (accepts C)) ∙ stored
+
+    accepted : singular ≡ Passes → (α μ₀ : Float) (out : List Float) → Pulls n μ v es T (d .values) (d .vectors) α μ₀ → out ≡ tab n (λ i. pulled (pullOf α μ₀) (nth μ i) (e i))
+        → Answers (answered (Shrunk α μ₀ (d .sweeps) (d .rotations)) out)
+    unfolding settle
+    accepted g α μ₀ out pulls is-out =
+        let w = pulls (at Σ n) (decompose limit n (at C n)) is-v (λ t. sym is-d t .values) (λ t. sym is-d t .vectors) in
+        (λ t. settle (checked (sym g t)) slice (answered (Shrunk α μ₀ (d .sweeps) (d .rotations)) (is-out t)))
+        ∙ (λ t. settle (back t) slice (outcome (w t) (is-d t .sweeps) (is-d t .rotations)))
+        ∙ stored
+
+correlate-requires : tie.Need-correlate-requires
+correlate-requires c κs = search needs
+
+enum-known-constant : tie.Need-enum-known-constant
+enum-known-constant c = search needs
+
+same-length : tie.Need-same-length
+same-length c = search needs
+
+same-length-2 : tie.Need-same-length-2
+same-length-2 c = search needs
+
+returns : tie.Need-returns
+returns c =
+    let a = c .before .before .before .before .before .before .before .before .before .before .before .before .before .before .before .before .before .before .args in
+    let k = c .before .before .before .before .before .before .before .correlate .ensures in
+    refused (a .n) (a .limit) (a .means .now) (a .covariance .now) (a .periods) (a .exponents .now) (nth (a .sizes .now)) (a .out .now) _ _ _ (k .0) (k .1) (k .2) (c .before .constant .given .1)
+
+enum-told : tie.Need-enum-told
+enum-told c = search needs
+
+decompose-requires : tie.Need-decompose-requires
+decompose-requires c κs = search needs
+
+judge-requires : tie.Need-judge-requires
+judge-requires c κs = search needs
+
+enum-known-singular : tie.Need-enum-known-singular
+enum-known-singular c = search needs
+
+same-length-3 : tie.Need-same-length-3
+same-length-3 c = search needs
+
+same-length-4 : tie.Need-same-length-4
+same-length-4 c = search needs
+
+same-length-5 : tie.Need-same-length-5
+same-length-5 c = search needs
+
+same-length-6 : tie.Need-same-length-6
+same-length-6 c = search needs
+
+returns-2 : tie.Need-returns-2
+returns-2 c =
+    let a = c .before .before .before .before .before .before .before .before .before .before .before .before .before .before .before .before .before .before .before .before .before .before .before .before .before .before .before .before .before .before .args in
+    let k = c .before .before .before .before .before .before .before .before .before .before .before .before .before .before .before .before .before .before .before .correlate .ensures in
+    let d = c .before .before .before .before .before .before .before .before .before .decompose in
+    singular-refused (a .n) (a .limit) (a .means .now) (a .covariance .now) (a .periods) (a .exponents .now) (nth (a .sizes .now)) (a .out .now) _ _ _ (k .0) (k .1) (k .2) (c .before .before .before .before .before .before .before .before .before .before .before .before .before .enum-told .given .1) _ (d .ensures) _ (c .before .before .before .judge .ensures _) (c .before .singular .given .1)
+
+enum-told-2 : tie.Need-enum-told-2
+enum-told-2 c = search needs
+
+pull-requires : tie.Need-pull-requires
+pull-requires c κs =
+    let s = c .before .before .before .before .before .before .before .before .before .before .before .before .before .before .before .before .before .before .before .before .before .before .before .before .before .before .before .before .before .before .before .before in
+    let p = s .pre in
+    (p .1, p .3, ap length (c .before .before .before .before .before .before .before .before .before .before .before .before .before .before .before .before .before .before .before .before .before .correlate .ensures .0) ∙ length-tab _ _, p .5, p .6, search (needs, p .10), search (needs, p .11))
+
+put-pulled-requires : tie.Need-put-pulled-requires
+put-pulled-requires c κs = let p = c .before .before .before .before .before .before .before .before .before .before .before .before .before .before .before .before .before .before .before .before .before .before .before .before .before .before .before .before .before .before .before .before .before .before .pre in (p .3 ∙ sym (p .12), p .5 ∙ sym (p .12), p .6)
+
+same-length-7 : tie.Need-same-length-7
+same-length-7 c = let s = c .before .before .before .before .before .before .before .before .before .before .before .before .before .before .before .before .before .before .before .before .before .before .before .before .before .before .before .before .before .before .before .before .before .before .before .before .before in ap length (c .before .before .before .before .before .before .before .before .before .before .before .before .before .before .before .before .before .before .before .before .before .before .before .before .before .before .correlate .ensures .0) ∙ length-tab (deviationOf (at (s .args .covariance .now) (s .args .n))) (s .args .n) ∙ sym (s .pre .8)
+
+same-length-8 : tie.Need-same-length-8
+same-length-8 c = search needs
+
+same-length-9 : tie.Need-same-length-9
+same-length-9 c = search needs
+
+same-length-10 : tie.Need-same-length-10
+same-length-10 c = search needs
+
+same-length-11 : tie.Need-same-length-11
+same-length-11 c = search needs
+
+returns-3 : tie.Need-returns-3
+returns-3 c =
+    let s = c .before .before .before .before .before .before .before .before .before .before .before .before .before .before .before .before .before .before .before .before .before .before .before .before .before .before .before .before .before .before .before .before .before .before .before .before .before in
+    let a = s .args in
+    let k = c .before .before .before .before .before .before .before .before .before .before .before .before .before .before .before .before .before .before .before .before .before .before .before .before .before .before .correlate .ensures in
+    let d = c .before .before .before .before .before .before .before .before .before .before .before .before .before .before .before .before .decompose in
+    let w = c .before .before .before .before .pull in
+    accepted (a .n) (a .limit) (a .means .now) (a .covariance .now) (a .periods) (a .exponents .now) (nth (a .sizes .now)) (a .out .now) _ _ _ (k .0) (k .1) (k .2) (c .before .before .before .before .before .before .before .before .before .before .before .before .before .before .before .before .before .before .before .before .enum-told .given .1) _ (d .ensures) _ (c .before .before .before .before .before .before .before .before .before .before .judge .ensures _) (c .before .before .before .before .before .before .before .before .enum-told2 .given .1) (w .result .intensity) (w .result .target) _ (w .ensures) (rw (s .pre .12) at (c .before .before .put-pulled .ensures))
+
+pub shrink-in-spec : {M : Type 1} → statement M
+shrink-in-spec = tie.close (tie.spec correlate-requires enum-known-constant same-length same-length-2 returns enum-told decompose-requires judge-requires enum-known-singular same-length-3 same-length-4 same-length-5 same-length-6 returns-2 enum-told-2 pull-requires put-pulled-requires same-length-7 same-length-8 same-length-9 same-length-10 same-length-11 returns-3)

@@ -1,0 +1,72 @@
+-- `estimators::covariance::finish_in` meets its contract: the answer is copied where its checks pass.
+use mathlib.Core.Path.{sym, ap, _∙_}
+use Rattle.matrix.specs.Matrix.{at}
+use Rattle.estimators.specs.Checks.{checked}
+use Rattle.estimators.proofs.Estimated.{estimate-checked, finished-refused, finished-accepted}
+use borrow.Author.Needs.{needs}
+use Rattle.estimators.proofs.covariance.finish_in.Statement.{statement}
+use Rattle.estimators.proofs.covariance.finish_in.Tie as tie
+
+is-adjusted-requires : tie.Need-is-adjusted-requires
+is-adjusted-requires c κs = search needs
+
+adjust-requires : tie.Need-adjust-requires
+adjust-requires c κs = search needs
+
+no-variance-requires : tie.Need-no-variance-requires
+no-variance-requires c κs = search needs
+
+check-answer-requires : tie.Need-check-answer-requires
+check-answer-requires c κs = search needs
+
+first-requires : tie.Need-first-requires
+first-requires c κs = search needs
+
+enum-known-bad : tie.Need-enum-known-bad
+enum-known-bad c = search needs
+
+same-length : tie.Need-same-length
+same-length c = search needs
+
+returns : tie.Need-returns
+returns c =
+    let a = c .before .before .before .before .before .before .before .before .before .before .before .before .before .before .before .before .args in
+    finished-refused (a .settings) (a .intensity) (a .periods) (a .n) (at (a .r .now) (a .n)) (a .sweeps) (a .rotations) (a .b .now) (a .out .now)
+    (ap checked (sym (c .before .bad .given .1)) ∙ (estimate-checked (a .settings) (a .intensity) (a .periods) (a .n) (at (a .r .now) (a .n)) (a .sweeps) (a .rotations) (a .b .now) (a .out .now) (c .before .before .before .before .before .before .before .before .before .before .before .is-adjusted .ensures) (c .before .before .before .before .before .before .before .before .before .adjust .ensures) (c .before .before .before .before .before .before .no-variance .ensures) (c .before .before .before .before .check-answer .ensures) (c .before .before .before .first .ensures)))
+
+enum-told : tie.Need-enum-told
+enum-told c = search needs
+
+copy-requires : tie.Need-copy-requires
+copy-requires c κs = search needs
+
+same-length-2 : tie.Need-same-length-2
+same-length-2 c = search needs
+
+same-length-3 : tie.Need-same-length-3
+same-length-3 c = search needs
+
+returns-2 : tie.Need-returns-2
+returns-2 c =
+    let a = c .before .before .before .before .before .before .before .before .before .before .before .before .before .before .before .before .before .before .before .before .args in
+    finished-accepted (a .settings) (a .intensity) (a .periods) (a .n) (at (a .r .now) (a .n)) (a .sweeps) (a .rotations) (a .b .now) (a .out .now)
+    (ap checked (sym (c .before .before .before .before .before .enum-told .given .1)) ∙ (estimate-checked (a .settings) (a .intensity) (a .periods) (a .n) (at (a .r .now) (a .n)) (a .sweeps) (a .rotations) (a .b .now) (a .out .now) (c .before .before .before .before .before .before .before .before .before .before .before .before .before .before .before .is-adjusted .ensures) (c .before .before .before .before .before .before .before .before .before .before .before .before .before .adjust .ensures) (c .before .before .before .before .before .before .before .before .before .before .no-variance .ensures) (c .before .before .before .before .before .before .before .before .check-answer .ensures) (c .before .before .before .before .before .before .before .first .ensures)))
+    (c .before .before .copy .ensures ∙ c .before .before .before .before .before .before .before .before .before .before .before .before .before .adjust .ensures)
+
+pub finish-in-spec : {M : Type 1} → statement M
+finish-in-spec =
+    tie.close
+    (tie.spec
+    is-adjusted-requires
+    adjust-requires
+    no-variance-requires
+    check-answer-requires
+    first-requires
+    enum-known-bad
+    same-length
+    returns
+    enum-told
+    copy-requires
+    same-length-2
+    same-length-3
+    returns-2)

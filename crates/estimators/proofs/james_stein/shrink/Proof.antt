@@ -1,0 +1,91 @@
+-- `estimators::james_stein::shrink` meets its contract: each return is the case of `settle` that the test picks.
+use mathlib.Core.Path.{_≡_, refl, sym, ap, _∙_}
+use mathlib.Core.Bool.{Bool, true, false, not}
+use mathlib.Core.List.{List}
+use Prim.Native.Nat.{ℕ}
+use lib.IntN.{ℤ}
+use lib.ListN.{length}
+use lib.Seq.{length-take-le}
+use lib.Ieee.{Float}
+use mir.Facts.{toZ-ofZ}
+use borrow.Author.Needs.{needs}
+use Rattle.leaves.specs.Loops.{tab, nth}
+use Rattle.leaves.specs.Scaling.{pow2Scaled}
+use Rattle.matrix.specs.Limits.{maxSide}
+use Rattle.matrix.specs.Matrix.{at}
+use Rattle.matrix.specs.Jacobi.{Decomposition}
+use Rattle.estimators.specs.Refusals.{when}
+use Rattle.estimators.specs.Moments.{Moments}
+use Rattle.estimators.specs.Held.{held}
+use Rattle.estimators.specs.JamesStein.{grandMean, unevenness, decomposeUneven, jamesSteinIntensity, towards}
+use Rattle.estimators.specs.Calls.{Answered, answered, settle}
+use Rattle.estimators.specs.Stein.{jamesSteinOf}
+use Rattle.estimators.specs.declared.Refusal.the-variants.{Singular}
+use Rattle.estimators.specs.declared.Answer.the-variants.{Refused, Shrunk}
+use Rattle.estimators.proofs.Room.{vector-room}
+use Rattle.estimators.proofs.james_stein.shrink.Statement.{statement}
+use Rattle.estimators.proofs.james_stein.shrink.Tie as tie
+
+module _ (n limit : ℕ) (m : Moments) (e : ℤ) (slice : List Float) where
+  abbrev taken-apart : Float → Decomposition
+  taken-apart μ₀ = decomposeUneven limit n (unevenness n (nth (m .mean)) μ₀) (at (m .covariance) n)
+
+  abbrev outcome : Float → Float → ℕ → ℕ → Answered
+  outcome α μ₀ sweeps rotations = answered (Shrunk α (pow2Scaled μ₀ e) sweeps rotations) (tab n (λ i. pow2Scaled (towards α μ₀ (nth (m .mean) i)) e))
+
+  -- the answer, with the target as it stands in the code
+  abbrev from : Float → Answered
+  from μ₀ = let d = taken-apart μ₀ in settle (when (not (d .found)) Singular) slice (outcome (jamesSteinIntensity n m μ₀ d) μ₀ (d .sweeps) (d .rotations))
+
+  module _ (μ₀ : Float) (is-μ₀ : μ₀ ≡ grandMean n (nth (m .mean))) (found : Bool) (α : Float) (sweeps rotations : ℕ)
+      (says : (d : Decomposition) → d ≡ taken-apart μ₀ → (found ≡ d .found) × (α ≡ jamesSteinIntensity n m μ₀ d) × (sweeps ≡ d .sweeps) × (rotations ≡ d .rotations)) where
+    settled : settle (when (not found) Singular) slice (outcome α μ₀ sweeps rotations) ≡ jamesSteinOf n limit m e slice
+    settled = let s = says (taken-apart μ₀) refl in (λ t. settle (when (not (s .0 t)) Singular) slice (outcome (s .1 t) μ₀ (s .2 t) (s .3 t))) ∙ ap from is-μ₀
+
+    refused : not found ≡ true → answered (Refused Singular) slice ≡ jamesSteinOf n limit m e slice
+    unfolding settle
+    refused h = (λ t. settle (when (sym h t) Singular) slice (outcome α μ₀ sweeps rotations)) ∙ settled
+
+    accepted : not found ≡ false → (target : Float) (out : List Float) → target ≡ pow2Scaled μ₀ e → out ≡ tab n (λ i. pow2Scaled (towards α μ₀ (nth (m .mean) i)) e)
+        → answered (Shrunk α target sweeps rotations) out ≡ jamesSteinOf n limit m e slice
+    unfolding settle
+    accepted h target out is-target is-out = (λ t. settle (when (sym h t) Singular) slice (answered (Shrunk α (is-target t) sweeps rotations) (is-out t))) ∙ settled
+
+grand-mean-requires : tie.Need-grand-mean-requires
+grand-mean-requires c κs = search needs
+
+pull-held-requires : tie.Need-pull-held-requires
+pull-held-requires c κs = search needs
+
+returns : tie.Need-returns
+returns c =
+    let a = c .before .before .before .before .args in
+    let p = c .before .pull-held in
+    refused (a .n) (a .limit) (held (a .n) (a .m)) (a .exponent) (a .out .now) (c .before .before .grand-mean .result) (c .before .before .grand-mean .ensures) (p .result .found) (p .result .intensity) (p .result .sweeps) (p .result .rotations) (p .ensures) (c .if1 .taken)
+
+array-share-prefix-mean : tie.Need-array-share-prefix-mean
+array-share-prefix-mean c = let s = c .before .before .before .before .before in let l : length (s .args .m .mean) ≡ maxSide = search needs in vector-room (s .args .m .mean) l (s .pre .1)
+
+slice-aggregate-put-means : tie.Need-slice-aggregate-put-means
+slice-aggregate-put-means c = let s = c .before .before .before .before .before .before in let l : length (s .args .m .mean) ≡ maxSide = search needs in sym (length-take-le _ _ (vector-room (s .args .m .mean) l (s .pre .1)))
+
+put-means-requires : tie.Need-put-means-requires
+put-means-requires c κs = let s = c .before .before .before .before .before .before .before in let l : length (s .args .m .mean) ≡ maxSide = search needs in length-take-le _ _ (vector-room (s .args .m .mean) l (s .pre .1)) ∙ sym (s .pre .3)
+
+pow2-scaled-requires : tie.Need-pow2-scaled-requires
+pow2-scaled-requires c κs = search needs
+
+same-length : tie.Need-same-length
+same-length c = search needs
+
+returns-2 : tie.Need-returns-2
+returns-2 c =
+    let s = c .before .before .before .before .before .before .before .before .before .before .before in
+    let a = s .args in
+    let g = c .before .before .before .before .before .before .before .before .before .grand-mean in
+    let p = c .before .before .before .before .before .before .before .before .pull-held in
+    let k = toZ-ofZ (s .fits .exponent) in
+    accepted (a .n) (a .limit) (held (a .n) (a .m)) (a .exponent) (a .out .now) (g .result) (g .ensures) (p .result .found) (p .result .intensity) (p .result .sweeps) (p .result .rotations) (p .ensures) (c .before .before .before .before .before .before .before .if1 .left) _ _ (rw k at (c .pow2-scaled .ensures)) (rw (k, s .pre .3) at (c .before .before .before .put-means .ensures))
+
+pub shrink-spec : {M : Type 1} → statement M
+shrink-spec = tie.close (tie.spec grand-mean-requires pull-held-requires returns array-share-prefix-mean slice-aggregate-put-means put-means-requires pow2-scaled-requires same-length returns-2)

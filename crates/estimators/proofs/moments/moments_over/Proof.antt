@@ -1,0 +1,43 @@
+-- `estimators::moments::moments_over` meets its contract: `of_returns`, with the same exponent for every asset.
+use mathlib.Core.Path.{sym, ap, _∙_}
+use native.Mathlib.Omega.{arith}
+use lib.IntN.{pos, negℤ, natAbs}
+use lib.Seq.{length-take-le}
+use mir.Syntax.{w32}
+use mir.Val.{toZ, ofZ}
+use borrow.Author.Needs.{needs}
+use Rattle.leaves.specs.Scaling.{pow2Scaled}
+use Rattle.matrix.specs.Limits.{maxSide}
+use Rattle.matrix.specs.Matrix.{at}
+use Rattle.estimators.specs.Sample.{scaled}
+use Rattle.estimators.proofs.Exponents.{read}
+use Rattle.estimators.proofs.Gathered.{part-at}
+use Rattle.estimators.proofs.MomentsExt.{moments-ext}
+use Rattle.estimators.proofs.moments.moments_over.Statement.{statement}
+use Rattle.estimators.proofs.moments.moments_over.Tie as tie
+
+array-share-prefix-exponents : tie.Need-array-share-prefix-exponents
+array-share-prefix-exponents c = search needs
+
+slice-aggregate-of-returns : tie.Need-slice-aggregate-of-returns
+slice-aggregate-of-returns c = sym (length-take-le _ _ (c .before .before .pre .2))
+
+of-returns-requires : tie.Need-of-returns-requires
+of-returns-requires c κs =
+    let a = c .before .before .args in
+    let p = c .before .before .pre in
+    let k = read (a .exponent) (omega (arith, p .4)) in
+    let h = length-take-le _ _ (p .2) in
+    (p .0, p .1, p .2, p .3, h, λ i l. omega (arith, p .4, ap natAbs (part-at (toZ w32 (ofZ w32 (a .exponent))) maxSide (a .n) (p .2) (pos 0) i (rw h at l) ∙ k)))
+
+returns : tie.Need-returns
+unfolding scaled
+returns c =
+    let a = c .before .before .before .args in
+    let p = c .before .before .before .pre in
+    let k = read (a .exponent) (omega (arith, p .4)) in
+    c .of-returns .ensures
+    ∙ moments-ext (a .periods) (a .n) _ _ (λ t i b j. pow2Scaled (at (a .r .now) (a .n) t i) (negℤ ((part-at (toZ w32 (ofZ w32 (a .exponent))) maxSide (a .n) (p .2) (pos 0) i b ∙ k) j)))
+
+pub moments-over-spec : {M : Type 1} → statement M
+moments-over-spec = tie.close (tie.spec array-share-prefix-exponents slice-aggregate-of-returns of-returns-requires returns)

@@ -1,0 +1,113 @@
+// The three means, on returns and an answer of the right shape (expected_returns.rs).
+ghost use mathlib.Core.Path.{_≡_};
+ghost use Prim.Native.Nat.{_≤_};
+ghost use lib.ListN.{length};
+ghost use Rattle.matrix.specs.Limits.{maxSweeps};
+ghost use Rattle.matrix.specs.Matrix.{at};
+ghost use Rattle.estimators.specs.Opening.{Shaped};
+ghost use Rattle.estimators.specs.Calls as Calls;
+ghost use Rattle.estimators.specs.Calls.{answered};
+ghost use Rattle.estimators.specs.Stein.{bayesSteinFrom};
+use crate::Answer;
+use crate::bayes_stein;
+use crate::checks::Check;
+use crate::checks::first;
+use crate::gather::scale;
+use crate::james_stein;
+use crate::moments::exponent;
+use crate::moments::moments_over;
+use crate::moments::of_returns;
+use crate::opening::check_opened;
+use crate::sample::largest;
+use crate::scales::put_exponents;
+use crate::validate::bad_sweep_limit;
+use crate::weighted;
+
+pub(crate) fn exponentially_weighted_mean(
+    returns: &[f64],
+    n: usize,
+    periods: usize,
+    half_life: f64,
+    out: &mut [f64],
+) -> Answer
+    requires { ⌜ Shaped (length (now returns)) n periods × (length (now out) ≡ n) ⌝ }
+    ensures { λ r. ⌜ answered r (now (out .exit)) ≡ Calls.exponentiallyWeightedMean (now (returns .entry)) n periods «half_life» (now (out .entry)) ⌝ }
+{
+    let opened = check_opened(returns, n, periods);
+    let bad = first(opened, weighted::check_half_life(half_life));
+    if let Check::Refuses(refusal) = bad {
+        return Answer::Refused(refusal);
+    }
+    let l = weighted::log_decay(half_life);
+    weighted::mean_of(l, returns, n, periods, out);
+    Answer::Mean
+}
+
+// All returns over one power of two near the largest.
+pub(crate) fn james_stein_mean(
+    returns: &[f64],
+    n: usize,
+    periods: usize,
+    limit: usize,
+    out: &mut [f64],
+) -> Answer
+    requires { ⌜ Shaped (length (now returns)) n periods × (length (now out) ≡ n) ⌝ }
+    ensures { λ r. ⌜ answered r (now (out .exit)) ≡ Calls.jamesSteinMean (now (returns .entry)) n periods limit (now (out .entry)) ⌝ }
+{
+    let opened = check_opened(returns, n, periods);
+    let bad = first(opened, bad_sweep_limit(limit));
+    if let Check::Refuses(refusal) = bad {
+        return Answer::Refused(refusal);
+    }
+    let e = exponent(matrix::entries::amax(returns, periods, n));
+    let m = moments_over(returns, n, periods, e);
+    james_stein::shrink(m, n, e, limit, out)
+}
+
+// Each asset's returns over a power of two near its largest. `sizes` and `exponents` are to reckon in.
+fn bayes_stein_in(
+    returns: &[f64],
+    n: usize,
+    periods: usize,
+    limit: usize,
+    sizes: &mut [f64],
+    exponents: &mut [i32],
+    out: &mut [f64],
+) -> Answer
+    requires { ⌜ Shaped (length (now returns)) n periods × (limit ≤ maxSweeps) × (length (now sizes) ≡ n) × (length (now exponents) ≡ n) × (length (now out) ≡ n) ⌝ }
+    ensures { λ r. ⌜ answered r (now (out .exit)) ≡ bayesSteinFrom n periods limit (at (now (returns .entry)) n) (now (out .entry)) ⌝ }
+{
+    largest(returns, n, periods, sizes);
+    put_exponents(sizes, exponents);
+    let m = of_returns(returns, n, periods, exponents);
+    scale(exponents, 0, sizes);
+    bayes_stein::shrink(m, n, exponents, sizes, limit, out)
+}
+
+pub(crate) fn bayes_stein_mean(
+    returns: &[f64],
+    n: usize,
+    periods: usize,
+    limit: usize,
+    out: &mut [f64],
+) -> Answer
+    requires { ⌜ Shaped (length (now returns)) n periods × (length (now out) ≡ n) ⌝ }
+    ensures { λ r. ⌜ answered r (now (out .exit)) ≡ Calls.bayesSteinMean (now (returns .entry)) n periods limit (now (out .entry)) ⌝ }
+{
+    let opened = check_opened(returns, n, periods);
+    let bad = first(opened, bad_sweep_limit(limit));
+    if let Check::Refuses(refusal) = bad {
+        return Answer::Refused(refusal);
+    }
+    let mut sizes = [0.0; matrix::MAX_SIDE];
+    let mut exponents = [0; matrix::MAX_SIDE];
+    bayes_stein_in(
+        returns,
+        n,
+        periods,
+        limit,
+        &mut sizes[..n],
+        &mut exponents[..n],
+        out,
+    )
+}
