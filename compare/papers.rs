@@ -1,16 +1,26 @@
-// Marks the papers of papers/ with the copy. Each answer goes beside its paper.
+// Marks the papers of papers/ with the copy. Each answer goes beside its paper, and all papers and
+// all answers, one after another in the order of their names, to the program `replay_papers`: as its
+// input, each paper after its length in two bytes, and as what it must write.
 
 use reference::exam::exam;
 use std::fs;
 use std::io;
-use std::path::PathBuf;
+use std::path::{Path, PathBuf};
 
 fn main() -> io::Result<()> {
+    let (mut input, mut output) = (Vec::new(), Vec::new());
     for path in papers()? {
         let file = bytes(&fs::read_to_string(&path)?);
-        fs::write(path.with_extension("answer"), exam(&file))?;
+        let text = exam(&file);
+        fs::write(path.with_extension("answer"), &text)?;
+        let length = u16::try_from(file.len()).expect("a length of two bytes");
+        input.extend(length.to_le_bytes());
+        input.extend(file);
+        output.extend(text);
     }
-    Ok(())
+    let replay = Path::new("crates/replay_papers");
+    fs::write(replay.join("stdin"), input)?;
+    fs::write(replay.join("stdout"), output)
 }
 
 fn papers() -> io::Result<Vec<PathBuf>> {
