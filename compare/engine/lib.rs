@@ -1,5 +1,6 @@
 // The engine's exports, from its static library, as functions over slices. A slice crosses as a
 // pointer and then a length.
 
+pub mod exam;
 pub mod jacobi;
 pub mod leaves;

@@ -1,4 +1,5 @@
 // The engine with C linkage, over flat numbers and slices.
+pub mod exam;
 pub mod jacobi;
 pub mod leaf;
 mod report;
