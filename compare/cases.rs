@@ -1,9 +1,11 @@
 // Document 01's twelve cases as the copy computes them, held to the values that it states, and
 // then the corners where document 01 and the source meet. Ends with 1 if one differs.
 
+mod case6;
 mod corners;
 
 use reference::covariance::{Estimate, Settings};
+use reference::exam::exam;
 use reference::expected_returns::exponential_weights;
 use reference::input::{Call, Input};
 use reference::leaves::{binary_exponent, pow2, pow2_scaled, sqrt, LN_2};
@@ -71,6 +73,8 @@ fn covariances(table: &mut Table) {
     let rows = |settings| Input::covariance(&[1.0, 2.0, 3.0, 6.0], 2, settings).told();
     let should_be = "2 4 4 8, intensity 0, sweeps 0, rotations 0";
     table.line("6. sample", &rows(sample), should_be);
+    let printed = exam(&case6::PAPER) == case6::TEXT;
+    table.line("6. printed", &printed.to_string(), "true");
     let should_be = "3 4 4 9, intensity 0, sweeps 0, rotations 0";
     table.line(
         "7. regularization 1",

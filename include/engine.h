@@ -101,6 +101,13 @@ uint32_t engine_bayes_stein_mean(
     size_t limit,
     double *answer, size_t answer_len, double numbers[2], size_t wholes[2]);
 
+/* ---- The exam program (document 01, 'The exam program')
+
+   Marks a question file: writes the answer's text to the front of out, and returns how many bytes
+   that is. An out that is too short takes the text's beginning; 8,192 bytes are always enough. */
+
+size_t exam_mark(const uint8_t *paper, size_t paper_len, uint8_t *out, size_t out_len);
+
 /* ---- The decomposition
 
    a = V diag(values) V', for a symmetric matrix of `side` at most 32, in at most `limit` sweeps, at

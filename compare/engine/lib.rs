@@ -2,5 +2,6 @@
 // pointer and then a length.
 
 pub mod calls;
+pub mod exam;
 pub mod jacobi;
 pub mod leaves;

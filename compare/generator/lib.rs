@@ -5,6 +5,7 @@ mod damage;
 pub mod given;
 pub mod matrices;
 pub mod pairs;
+pub mod papers;
 pub mod random;
 pub mod returns;
 mod settings;

@@ -5,6 +5,7 @@
 pub mod calls;
 pub mod covariance;
 pub mod eigen;
+pub mod exam;
 pub mod expected_returns;
 pub mod flat;
 pub mod input;
@@ -13,6 +14,7 @@ pub mod matrix;
 pub mod methods;
 pub mod refusal;
 pub mod returns;
+pub mod screen;
 
 /// The most assets, or the largest side of a given matrix.
 pub const MOST_ASSETS: usize = 32;

@@ -1,0 +1,47 @@
+// Compares what the copy prints of drawn question files with what the engine prints, byte for byte.
+// Prints a line for each outcome with how many files had it, and ends with 1 if they ever differ.
+// Argument: how many files.
+
+mod case6;
+
+use engine::exam::mark;
+use generator::papers::draw_paper;
+use generator::random::Random;
+use reference::exam::{exam, outcome};
+
+fn main() {
+    let files: usize = match std::env::args().nth(1) {
+        Some(word) => word.parse().expect("a whole number"),
+        None => 200_000,
+    };
+    let random = Random::new(9);
+    let mut counts = [0usize; 16];
+    let mut different = differs(&case6::PAPER, case6::TEXT) as usize;
+    for _ in 0..files {
+        let file = draw_paper(&random);
+        let text = exam(&file);
+        counts[outcome(&text)] += 1;
+        different += differs(&file, &text) as usize;
+    }
+    println!("accepted   {:>8}", counts[0]);
+    for (number, count) in counts.iter().enumerate().skip(1) {
+        println!("refused {number:>2} {count:>8}");
+    }
+    println!("differences: {different}");
+    if different > 0 {
+        std::process::exit(1);
+    }
+}
+
+/// Whether the engine prints another text, or writes behind it.
+fn differs(file: &[u8], text: &[u8]) -> bool {
+    const UNTOUCHED: u8 = 0xA5;
+    let mut out = [UNTOUCHED; 8192];
+    let count = mark(file, &mut out);
+    let same = out[..count] == *text && out[count..].iter().all(|&b| b == UNTOUCHED);
+    if !same {
+        println!("{file:02X?}: copy {:?}", String::from_utf8_lossy(text));
+        println!("    engine {:?}", String::from_utf8_lossy(&out[..count]));
+    }
+    !same
+}

@@ -1,0 +1,157 @@
+// Question files of document 01, 'The exam program': drawn inputs as authors would write them down,
+// with or without the records that may be left out, and such files damaged byte by byte.
+
+use crate::random::Random;
+use crate::{draw, Shapes};
+use reference::covariance::{Estimate, Shrinkage, Target};
+use reference::exam::{FILE_ASSETS, FILE_PERIODS};
+use reference::input::{Call, Input};
+
+const SHAPES: Shapes = Shapes {
+    assets: 1..=FILE_ASSETS,
+    periods: 2..=FILE_PERIODS,
+};
+
+/// Few periods, so that damage often strikes a setting or a count.
+const SHORT: Shapes = Shapes {
+    assets: 1..=3,
+    periods: 2..=4,
+};
+
+/// A file whose numbers or counts may be damaged, and then its bytes.
+pub fn draw_paper(random: &Random) -> Vec<u8> {
+    let shapes = if random.chance(40) { &SHAPES } else { &SHORT };
+    let mut input = draw(random, shapes);
+    if random.chance(4) {
+        // Still as many returns as the counts say.
+        match random.below(2) {
+            0 => input.n = 0,
+            _ => input.t = random.below(2),
+        }
+        input.returns.truncate(input.n * input.t);
+    }
+    let mut file = write(random, &input);
+    if random.chance(35) {
+        for _ in 0..random.pick(&[1, 1, 1, 2, 4]) {
+            damage(random, &mut file);
+        }
+    }
+    file
+}
+
+/// The records of an input, in the order of the file. A limit that no byte holds is left out, and
+/// so is a limit of 100 sometimes.
+fn write(random: &Random, input: &Input) -> Vec<u8> {
+    let mut file = vec![1];
+    file.extend((input.n as u16).to_le_bytes());
+    file.extend((input.t as u16).to_le_bytes());
+    numbers(&mut file, 2, &input.returns);
+    match &input.call {
+        Call::AdjustedCovariance {
+            settings, given, ..
+        } => {
+            let is_given = matches!(settings.estimate, Estimate::Given);
+            let limit = is_given.then_some(settings.limit);
+            if let Some(ridge) = settings.regularization {
+                numbers(&mut file, 3, &[ridge]);
+            }
+            match settings.shrinkage {
+                Shrinkage::Unshrunk => {}
+                Shrinkage::Fixed(intensity) => numbers(&mut file, 4, &[intensity]),
+                Shrinkage::LedoitWolf(target) => file.extend([5, target_byte(target)]),
+            }
+            match settings.estimate {
+                Estimate::Sample => {}
+                Estimate::Weighted(half_life) => numbers(&mut file, 6, &[half_life]),
+                Estimate::Semi => file.push(7),
+                Estimate::SemiBelow(threshold) => numbers(&mut file, 8, &[threshold]),
+                Estimate::Given => numbers(&mut file, 9, given),
+            }
+            with_question(random, &mut file, limit, 0);
+        }
+        Call::LedoitWolf(target) => {
+            file.extend([5, target_byte(*target)]);
+            with_question(random, &mut file, None, 0);
+        }
+        Call::ExponentiallyWeightedMean { half_life } => {
+            numbers(&mut file, 6, &[*half_life]);
+            with_question(random, &mut file, None, 1);
+        }
+        Call::JamesSteinMean { limit } => with_question(random, &mut file, Some(*limit), 2),
+        Call::BayesSteinMean { limit } => with_question(random, &mut file, Some(*limit), 3),
+    }
+    file
+}
+
+fn numbers(file: &mut Vec<u8>, kind: u8, numbers: &[f64]) {
+    for x in numbers {
+        file.push(kind);
+        file.extend(x.to_le_bytes());
+    }
+}
+
+fn target_byte(target: Target) -> u8 {
+    match target {
+        Target::ConstantVariance => 0,
+        Target::ConstantCorrelation => 1,
+    }
+}
+
+fn with_question(random: &Random, file: &mut Vec<u8>, limit: Option<usize>, question: u8) {
+    match limit.map(u8::try_from) {
+        Some(Ok(limit)) if limit != 100 || random.chance(50) => file.extend([10, limit]),
+        _ => {}
+    }
+    file.extend([11, question]);
+}
+
+/// A byte changed, a piece cut out, put in or repeated, the end cut off, or a last record changed.
+fn damage(random: &Random, file: &mut Vec<u8>) {
+    if file.is_empty() {
+        file.push(random.pick(&BYTES));
+        return;
+    }
+    let len = file.len();
+    // Counts and settings stand near the two ends.
+    let near = random.below(len.min(12));
+    let at = random.pick(&[random.below(len), near, len - 1 - near]);
+    let piece = random.pick(&[1, 2, 5, 9, 18]).min(len - at);
+    match random.below(10) {
+        0 | 1 => file[at] = random.pick(&BYTES),
+        2 => file[at] ^= 1 << random.below(8),
+        3 => {
+            file.drain(at..at + piece);
+        }
+        4 => file.truncate(at),
+        5 => file.insert(at, random.pick(&BYTES)),
+        6 => {
+            let copied = file[at..at + piece].to_vec();
+            file.splice(at..at, copied);
+        }
+        7 => file.push(random.pick(&BYTES)),
+        8 => {
+            // A setting more, or one where its question takes none.
+            let record = random.pick(&RECORDS);
+            file.splice(
+                len.saturating_sub(2)..len.saturating_sub(2),
+                record.iter().copied(),
+            );
+        }
+        _ => file[len - 1] = random.pick(&[0, 1, 2, 3, 4, 255]),
+    }
+}
+
+const BYTES: [u8; 16] = [0, 1, 2, 3, 4, 5, 6, 7, 8, 9, 10, 11, 12, 100, 101, 255];
+
+/// A record of each setting.
+const RECORDS: [&[u8]; 9] = [
+    &[3, 0, 0, 0, 0, 0, 0, 0, 0],
+    &[4, 0, 0, 0, 0, 0, 0, 0xE0, 0x3F],
+    &[5, 0],
+    &[5, 2],
+    &[6, 0, 0, 0, 0, 0, 0, 0, 0x40],
+    &[7],
+    &[8, 0, 0, 0, 0, 0, 0, 0, 0],
+    &[9, 0, 0, 0, 0, 0, 0, 0xF0, 0x3F],
+    &[10, 3],
+];

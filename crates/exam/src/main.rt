@@ -1,0 +1,9 @@
+// Reads a question file from standard input and prints its answer. A paper is never as long as the buffer: an input that fills it is
+// malformed, whatever stands behind.
+fn main() {
+    let mut paper = io::large_buffer();
+    let n = io::read_full(0, &mut paper);
+    let mut text = [0u8; 8192];
+    let k = paper::mark(&paper[..n], &mut text);
+    io::write_all(1, &text[..k]);
+}

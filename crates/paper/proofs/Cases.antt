@@ -1,0 +1,148 @@
+-- Question files and screen numbers, by computation: case 6 of document 01 with the text that document 01 prints, files that are no questions, and the corners
+-- of the screen number. Assumes nothing.
+use mathlib.Core.Path.{_≡_, refl}
+use mathlib.Core.Bool.{true, false}
+use mathlib.Core.List.{List, [], _∷_, _++_}
+use Prim.Native.Nat.{ℕ}
+use lib.IntN.{pos, negsuc}
+use lib.Ieee.{Float, nan, inf, fin, binary64, add, sub, mul, div, lt, le, eq, fits, ofInt, ofBits, toBits, round, size}
+use Rattle.leaves.specs.Numbers.{isFinite, abs, larger}
+use Rattle.leaves.specs.Loops.{loop, sumTo, amaxTo, firstTo, tab, fill}
+use Rattle.leaves.specs.Shift.{shift}
+use Rattle.leaves.specs.Root.{root, sticky, halfExponent, radicand, sqrt}
+use Rattle.matrix.specs.Matrix.{rows, trace, amax, firstEntry, allFinite}
+use Rattle.matrix.specs.Jacobi.{unturned}
+use Rattle.estimators.specs.Refusals.{first}
+use Rattle.estimators.specs.Sample.{mean, deviation, gram, covariance, largest, constantAsset}
+use Rattle.estimators.specs.Adjusted.{decompositionOf, base, intensity, shrunk, regularized, adjusted, isAdjusted}
+use Rattle.estimators.specs.Order.{notFinite, opening, ofGiven, badRegularization, badShrinkage, badEstimate, notTheSample, noCorrelation, noVariance, ofSettings, adjustedOrder}
+use Rattle.estimators.specs.Calls.{settle, adjustedCovariance}
+use Rattle.paper.specs.declared.screen.Shown.the-variants.{Big, Number}
+use Rattle.paper.specs.Text.{glyph, digits, unpadded}
+use Rattle.paper.specs.Screen.{shownAs, shown, shownText, screenText}
+use Rattle.paper.specs.Answer.{refused, bitsText, lineText, linesText, outcome, outcomeText}
+use Rattle.paper.specs.Grammar.{kinds, placeIn, little, starts, taken, sheet}
+use Rattle.paper.specs.Rules.{outline, present, shapeFits, settingsFit, takes, wellFormed, malformed, question, readPaper}
+use Rattle.paper.specs.Marking.{estimateOf, shrinkageOf, regularizationOf, limitOf, settingsOf, targetOf, asked, columns, answerOf, examined, marking}
+
+-- 01 0200 0200 | 02 000000000000F03F | 02 0000000000000040 | 02 0000000000000840 | 02 0000000000001840 | 0B 00
+abbrev case-6 : List ℕ
+case-6 =
+    0x01 ∷ 0x02 ∷ 0x00 ∷ 0x02 ∷ 0x00 ∷
+    0x02 ∷ 0x00 ∷ 0x00 ∷ 0x00 ∷ 0x00 ∷ 0x00 ∷ 0x00 ∷ 0xF0 ∷ 0x3F ∷
+    0x02 ∷ 0x00 ∷ 0x00 ∷ 0x00 ∷ 0x00 ∷ 0x00 ∷ 0x00 ∷ 0x00 ∷ 0x40 ∷
+    0x02 ∷ 0x00 ∷ 0x00 ∷ 0x00 ∷ 0x00 ∷ 0x00 ∷ 0x00 ∷ 0x08 ∷ 0x40 ∷
+    0x02 ∷ 0x00 ∷ 0x00 ∷ 0x00 ∷ 0x00 ∷ 0x00 ∷ 0x00 ∷ 0x18 ∷ 0x40 ∷
+    0x0B ∷ 0x00 ∷
+    []
+
+-- ok 2 2
+-- 0 0 4000000000000000 2.0000
+-- 0 1 4010000000000000 4.0000
+-- 1 0 4010000000000000 4.0000
+-- 1 1 4020000000000000 8.0000
+abbrev text-6 : List ℕ
+text-6 =
+    111 ∷ 107 ∷ 32 ∷ 50 ∷ 32 ∷ 50 ∷ 10 ∷
+    48 ∷ 32 ∷ 48 ∷ 32 ∷ 52 ∷ 48 ∷ 48 ∷ 48 ∷ 48 ∷ 48 ∷ 48 ∷ 48 ∷ 48 ∷ 48 ∷ 48 ∷ 48 ∷ 48 ∷ 48 ∷ 48 ∷ 48 ∷ 32 ∷ 50 ∷ 46 ∷ 48 ∷ 48 ∷ 48 ∷ 48 ∷ 10 ∷
+    48 ∷ 32 ∷ 49 ∷ 32 ∷ 52 ∷ 48 ∷ 49 ∷ 48 ∷ 48 ∷ 48 ∷ 48 ∷ 48 ∷ 48 ∷ 48 ∷ 48 ∷ 48 ∷ 48 ∷ 48 ∷ 48 ∷ 48 ∷ 32 ∷ 52 ∷ 46 ∷ 48 ∷ 48 ∷ 48 ∷ 48 ∷ 10 ∷
+    49 ∷ 32 ∷ 48 ∷ 32 ∷ 52 ∷ 48 ∷ 49 ∷ 48 ∷ 48 ∷ 48 ∷ 48 ∷ 48 ∷ 48 ∷ 48 ∷ 48 ∷ 48 ∷ 48 ∷ 48 ∷ 48 ∷ 48 ∷ 32 ∷ 52 ∷ 46 ∷ 48 ∷ 48 ∷ 48 ∷ 48 ∷ 10 ∷
+    49 ∷ 32 ∷ 49 ∷ 32 ∷ 52 ∷ 48 ∷ 50 ∷ 48 ∷ 48 ∷ 48 ∷ 48 ∷ 48 ∷ 48 ∷ 48 ∷ 48 ∷ 48 ∷ 48 ∷ 48 ∷ 48 ∷ 48 ∷ 32 ∷ 56 ∷ 46 ∷ 48 ∷ 48 ∷ 48 ∷ 48 ∷ 10 ∷
+    []
+
+-- what a computed case unfolds
+unfoldable computed : ℕ
+unfolding marking examined readPaper sheet kinds taken starts little outline wellFormed shapeFits settingsFit takes present placeIn answerOf columns asked settingsOf estimateOf shrinkageOf regularizationOf targetOf limitOf adjustedCovariance settle first adjustedOrder opening ofGiven ofSettings notFinite badRegularization badShrinkage badEstimate notTheSample noCorrelation noVariance isAdjusted decompositionOf unturned base covariance gram deviation mean largest constantAsset intensity adjusted shrunk regularized rows trace amax firstEntry allFinite loop sumTo amaxTo firstTo tab fill isFinite abs larger sqrt root sticky halfExponent radicand shift add sub mul div lt le eq ofInt ofBits round size outcome outcomeText linesText lineText shownText shown shownAs digits unpadded glyph toBits
+computed = 0
+
+pub marking-6 : marking case-6 ≡ text-6
+unfolding computed
+marking-6 = refl
+
+-- ---- files that are questions or not. A shape of n assets and T periods, and a last record that asks question q
+
+abbrev shape : ℕ → ℕ → List ℕ
+shape n T = 1 ∷ n ∷ 0 ∷ T ∷ 0 ∷ []
+
+abbrev ask : ℕ → List ℕ
+ask q = 11 ∷ q ∷ []
+
+-- kind b with the number 0
+abbrev zero-of : ℕ → List ℕ
+zero-of b = b ∷ 0 ∷ 0 ∷ 0 ∷ 0 ∷ 0 ∷ 0 ∷ 0 ∷ 0 ∷ []
+
+abbrev refusal : ℕ → List ℕ
+refusal k = outcomeText (refused k)
+
+pub record Malformed : Type 0 where
+  pub nothing : readPaper [] ≡ malformed
+  pub truncated : readPaper (shape 0 2 ++ 11 ∷ []) ≡ malformed
+  pub after-11 : readPaper (shape 0 2 ++ ask 0 ++ 0 ∷ []) ≡ malformed
+  pub no-shape : readPaper (ask 0) ≡ malformed
+  pub no-question : readPaper (shape 0 2) ≡ malformed
+  pub twice : readPaper (shape 0 2 ++ zero-of 3 ++ zero-of 3 ++ ask 0) ≡ malformed
+  pub falling : readPaper (shape 0 2 ++ zero-of 4 ++ zero-of 3 ++ ask 0) ≡ malformed
+  pub unknown : readPaper (shape 0 2 ++ 12 ∷ 0 ∷ [] ++ ask 0) ≡ malformed
+  pub nine-assets : readPaper (shape 9 0 ++ ask 0) ≡ malformed
+  pub periods-129 : readPaper (shape 0 129 ++ ask 0) ≡ malformed
+  pub too-few-returns : readPaper (shape 1 2 ++ zero-of 2 ++ ask 0) ≡ malformed
+  pub given-of-none : readPaper (shape 0 2 ++ zero-of 9 ++ ask 0) ≡ malformed
+  pub two-shrinkages : readPaper (shape 0 2 ++ zero-of 4 ++ 5 ∷ 0 ∷ [] ++ ask 0) ≡ malformed
+  pub two-estimates : readPaper (shape 0 2 ++ zero-of 6 ++ 7 ∷ [] ++ ask 0) ≡ malformed
+  pub target-2 : readPaper (shape 0 2 ++ 5 ∷ 2 ∷ [] ++ ask 0) ≡ malformed
+  pub question-4 : readPaper (shape 0 2 ++ ask 4) ≡ malformed
+  pub limit-alone : readPaper (shape 0 2 ++ 10 ∷ 5 ∷ [] ++ ask 0) ≡ malformed
+  pub no-half-life : readPaper (shape 0 2 ++ ask 1) ≡ malformed
+  pub weighted-and-more : readPaper (shape 0 2 ++ zero-of 3 ++ zero-of 6 ++ ask 1) ≡ malformed
+  pub stein-and-more : readPaper (shape 0 2 ++ zero-of 3 ++ ask 2) ≡ malformed
+
+pub malformed-files : Malformed
+unfolding computed
+malformed-files = record {
+  nothing = refl;
+  truncated = refl;
+  after-11 = refl;
+  no-shape = refl;
+  no-question = refl;
+  twice = refl;
+  falling = refl;
+  unknown = refl;
+  nine-assets = refl;
+  periods-129 = refl;
+  too-few-returns = refl;
+  given-of-none = refl;
+  two-shrinkages = refl;
+  two-estimates = refl;
+  target-2 = refl;
+  question-4 = refl;
+  limit-alone = refl;
+  no-half-life = refl;
+  weighted-and-more = refl;
+  stein-and-more = refl;
+}
+
+-- well-formed files that the engine refuses; a malformed one is refused before that
+pub record Refused : Type 0 where
+  pub no-assets : marking (shape 0 128 ++ ask 0) ≡ refusal 1
+  pub one-period : marking (shape 1 1 ++ zero-of 2 ++ ask 0) ≡ refusal 3
+  pub zero-variance : marking (shape 1 2 ++ zero-of 2 ++ zero-of 2 ++ ask 0) ≡ refusal 9
+  pub malformed-first : marking (shape 0 129 ++ ask 0) ≡ refusal 15
+
+pub refused-files : Refused
+unfolding computed
+refused-files = record { no-assets = refl; one-period = refl; zero-variance = refl; malformed-first = refl }
+
+-- ---- the screen number
+
+pub record Screens : Type 0 where
+  -- 2 ^ -20 and 1.99999
+  pub truncates : (screenText (fin false 1 (negsuc 19)) ≡ 48 ∷ 46 ∷ 48 ∷ 48 ∷ 48 ∷ 48 ∷ []) × (screenText (ofBits binary64 0x3FFF_FFF5_8368_2B2F) ≡ 49 ∷ 46 ∷ 57 ∷ 57 ∷ 57 ∷ 57 ∷ [])
+  -- -2 ^ -20 and -0.5
+  pub minus : (screenText (fin true 1 (negsuc 19)) ≡ 48 ∷ 46 ∷ 48 ∷ 48 ∷ 48 ∷ 48 ∷ []) × (screenText (fin true 1 (negsuc 0)) ≡ 45 ∷ 48 ∷ 46 ∷ 53 ∷ 48 ∷ 48 ∷ 48 ∷ [])
+  -- -2 ^ 31, the largest below it in size, NaN and an infinity
+  pub large : (shown (fin true 1 (pos 31)) ≡ Big) × (shown (ofBits binary64 0xC1DF_FFFF_FFFF_FFFF) ≡ Number true 21474836479999) × (shown nan ≡ Big) × (shown (inf false) ≡ Big)
+  pub nan-bits : bitsText nan ≡ 55 ∷ 70 ∷ 70 ∷ 56 ∷ 48 ∷ 48 ∷ 48 ∷ 48 ∷ 48 ∷ 48 ∷ 48 ∷ 48 ∷ 48 ∷ 48 ∷ 48 ∷ 48 ∷ []
+
+pub screens : Screens
+unfolding computed
+screens = record { truncates = (refl, refl); minus = (refl, refl); large = (refl, refl, refl, refl); nan-bits = refl }

@@ -1,0 +1,193 @@
+-- How long a question file and what is printed of it can be: a file has at most 9,840 bytes, and the text at most 8,192, so that a program may lend
+-- buffers of that size. Assumes nothing.
+use mathlib.Core.Path.{_≡_, refl, sym, ap, _∙_}
+use mathlib.Core.Bool.{Bool, true, false, _&&_, cond}
+use mathlib.Core.List.{List, [], _∷_, _++_}
+use Prim.Native.Nat.{ℕ, zero, suc, _+_, _-_, _*_, _/_, _%_, _≤_, _<_}
+use native.Mathlib.Omega.{arith}
+use lib.ListN.{length, take, drop, replicate, length-append, length-drop, length-replicate}
+use lib.Seq.{take-at}
+use lib.Dec.{eqb}
+use lib.Ieee.{Float}
+use borrow.Author.Tests.{eqb-true, eqb-false, ne-eqb}
+use Rattle.leaves.specs.Numbers.{zero⁺}
+use Rattle.leaves.proofs.Loops.{length-fill}
+use Rattle.estimators.specs.Refusals.{Check, passes, refuses}
+use Rattle.estimators.specs.Calls.{Answered, settle, adjustedCovariance, exponentiallyWeightedMean, jamesSteinMean, bayesSteinMean}
+use Rattle.estimators.specs.declared.Answer.{Answer}
+use Rattle.estimators.specs.declared.Answer.the-variants.{Refused, Covariance, Intensity, Mean, Shrunk}
+use Rattle.estimators.specs.declared.Settings.{Settings}
+use Rattle.paper.specs.declared.kinds.Kind.{Kind}
+use Rattle.paper.specs.declared.rules.Outline.{Outline}
+use Rattle.paper.specs.declared.screen.Shown.{Shown}
+use Rattle.paper.specs.declared.screen.Shown.the-variants.{Big, Number}
+use Rattle.paper.specs.Text.{Out, out, write, digits, unpadded, decimal}
+use Rattle.paper.specs.Screen.{shown, shownText}
+use Rattle.paper.specs.Answer.{Outcome, refused, ok, lineText, linesText, outcome, outcomeText}
+use Rattle.paper.specs.Grammar.{starts, body, none, more, taken, sheet, kinds}
+use Rattle.paper.specs.Rules.{outline, value, assets, periods, wellFormed, malformed, question, readPaper}
+use Rattle.paper.specs.Marking.{asked, columns, answerOf, floats, examined, marking}
+use Rattle.paper.proofs.Digits.{digits-length}
+use Rattle.paper.proofs.Writes.{write-room}
+use Rattle.paper.proofs.Outlines.{sizes}
+use Rattle.paper.proofs.Marks.{asked-0, asked-1, asked-2, asked-3, answer-fits}
+
+-- ---- a file
+
+-- a kind's records take at most m bodies' bytes
+taken-bytes : (k : Kind) (m : ℕ) (bs : List ℕ) → length bs ≤ m * (k .body + 1) + length (taken k m bs .rest)
+unfolding taken
+taken-bytes k zero bs = omega arith
+taken-bytes k (suc m) bs = go (starts k bs) (taken-bytes k m (drop (k .body + 1) bs))
+  where
+    sum : (m q l r : ℕ) → l - q ≤ m * q + r → l ≤ suc m * q + r
+    sum m q l r h = omega arith
+
+    go : (t : Bool) → length (drop (k .body + 1) bs) ≤ m * (k .body + 1) + length (taken k m (drop (k .body + 1) bs) .rest)
+        → length bs ≤ suc m * (k .body + 1) + length (cond t (more (body k bs) (taken k m (drop (k .body + 1) bs))) (none bs) .rest)
+    go true h = sum m (k .body + 1) (length bs) _ (rw length-drop at h)
+    go false h = omega arith
+
+bytes-of : List Kind → ℕ
+bytes-of [] = 0
+bytes-of (k ∷ ks) = k .most * (k .body + 1) + bytes-of ks
+
+sheet-bytes : (ks : List Kind) (bs : List ℕ) → length bs ≤ bytes-of ks + length (sheet ks bs .rest)
+unfolding sheet bytes-of
+sheet-bytes [] bs = omega arith
+sheet-bytes (k ∷ ks) bs = omega (arith, taken-bytes k (k .most) bs, sheet-bytes ks (taken k (k .most) bs .rest))
+
+-- a longer file is no question
+pub too-long : (bs : List ℕ) → 9840 < length bs → readPaper bs ≡ malformed
+unfolding readPaper kinds bytes-of
+too-long bs h = rw (ne-eqb (length (sheet kinds bs .rest)) 0 (λ e. omega (arith, sheet-bytes kinds bs)))
+
+-- ---- a text
+
+unpadded-length : (l : List ℕ) → length (unpadded l) ≤ length l
+unfolding unpadded
+unpadded-length [] = omega arith
+unpadded-length (d ∷ []) = omega arith
+unpadded-length (d ∷ e ∷ l) = go (eqb d 48) (unpadded-length (e ∷ l))
+  where
+    go : (t : Bool) → length (unpadded (e ∷ l)) ≤ length (e ∷ l) → length (cond t (unpadded (e ∷ l)) (d ∷ e ∷ l)) ≤ length (d ∷ e ∷ l)
+    go true h = omega arith
+    go false h = omega arith
+
+decimal-length : (n : ℕ) → length (decimal n) ≤ 20
+decimal-length n = omega (arith, unpadded-length (digits 10 20 n), digits-length 10 20 n)
+
+shown-length : (s : Shown) → length (shownText s) ≤ 26
+unfolding shownText
+shown-length Big = omega arith
+shown-length (Number m u) = simp (length-append, digits-length) (omega (arith, sign m, decimal-length (u / 10000)))
+  where
+    sign : (m : Bool) → length {A = ℕ} (cond m (45 ∷ []) []) ≤ 1
+    sign true = omega arith
+    sign false = omega arith
+
+line-length : (i j : ℕ) (x : Float) → length (lineText i j x) ≤ 86
+unfolding lineText
+line-length i j x = simp (length-append, digits-length) (omega (arith, decimal-length i, decimal-length j, shown-length (shown x)))
+
+lines-length : (c k : ℕ) (xs : List Float) → length (linesText c k xs) ≤ 86 * length xs
+unfolding linesText
+lines-length c k [] = omega arith
+lines-length c k (x ∷ xs) = rw length-append (omega (arith, line-length (k / c) (k % c) x, lines-length c (suc k) xs))
+
+abbrev entries : Outcome → ℕ
+entries (refused k) = 0
+entries (ok n c xs) = length xs
+
+outcome-length : (a : Outcome) → entries a ≤ 64 → length (outcomeText a) ≤ 8192
+unfolding outcomeText
+outcome-length (refused k) h = simp length-append (omega (arith, decimal-length k))
+outcome-length (ok n c xs) h = simp length-append (omega (arith, decimal-length n, decimal-length c, lines-length c 0 xs))
+
+-- ---- the engine's answer is as long as its slice
+
+settled : (c : Check) (slice : List Float) (a : Answered) → length (a .slice) ≡ length slice → length (settle c slice a .slice) ≡ length slice
+unfolding settle
+settled (refuses r) slice a h = refl
+settled passes slice a h = h
+
+module _ (r : List Float) (n T : ℕ) (slice : List Float) where
+  covariance-length : (s : Settings) (g : List Float) (side : ℕ) → n * n ≤ length slice → length (adjustedCovariance r n T s g side slice .slice) ≡ length slice
+  unfolding adjustedCovariance
+  covariance-length s g side h = settled _ slice _ (length-fill _ (n * n) slice h)
+
+  module _ (h : n ≤ length slice) where
+    weighted-length : (l : Float) → length (exponentiallyWeightedMean r n T l slice .slice) ≡ length slice
+    unfolding exponentiallyWeightedMean
+    weighted-length l = settled _ slice _ (length-fill _ n slice h)
+
+    james-stein-length : (l : ℕ) → length (jamesSteinMean r n T l slice .slice) ≡ length slice
+    unfolding jamesSteinMean
+    james-stein-length l = settled _ slice _ (length-fill _ n slice h)
+
+    bayes-stein-length : (l : ℕ) → length (bayesSteinMean r n T l slice .slice) ≡ length slice
+    unfolding bayesSteinMean
+    bayes-stein-length l = settled _ slice _ (length-fill _ n slice h)
+
+asked-length : (q : ℕ) (o : Outline) (r g slice : List Float) → assets o * columns q (assets o) ≤ length slice → length (asked q o r g slice .slice) ≡ length slice
+unfolding columns
+asked-length q o r g slice h = zeroth (eqb q 0) refl
+  where
+    n : ℕ
+    n = assets o
+
+    second : (t : Bool) → eqb q 2 ≡ t → eqb q 0 ≡ false → eqb q 1 ≡ false → n ≤ length slice → length (asked q o r g slice .slice) ≡ length slice
+    second true e z w l = rw (← asked-2 q o r g slice n (periods o) refl refl _ refl (eqb-false q 0 z) (eqb-false q 1 w) (eqb-true q 2 e)) (james-stein-length r n (periods o) slice l _)
+    second false e z w l = rw (← asked-3 q o r g slice n (periods o) refl refl _ refl (eqb-false q 0 z) (eqb-false q 1 w) (eqb-false q 2 e)) (bayes-stein-length r n (periods o) slice l _)
+
+    first : (t : Bool) → eqb q 1 ≡ t → eqb q 0 ≡ false → n ≤ length slice → length (asked q o r g slice .slice) ≡ length slice
+    first true e z l = rw (← asked-1 q o r g slice n (periods o) refl refl _ refl (eqb-false q 0 z) (eqb-true q 1 e)) (weighted-length r n (periods o) slice l _)
+    first false e z l = second (eqb q 2) refl z e l
+
+    zeroth : (t : Bool) → eqb q 0 ≡ t → length (asked q o r g slice .slice) ≡ length slice
+    zeroth true e = rw (← asked-0 q o r g slice n (periods o) refl refl _ refl (eqb-true q 0 e)) (covariance-length r n (periods o) slice _ g n (rw e at h))
+    zeroth false e = first (eqb q 1) refl e (omega (arith, rw e at h))
+
+-- ---- what is printed
+
+outcome-entries : (n c : ℕ) (a : Answer) (xs : List Float) → entries (outcome n c a xs) ≤ length xs
+unfolding outcome
+outcome-entries n c (Refused r) xs = omega arith
+outcome-entries n c (Covariance δ sweeps rotations) xs = omega arith
+outcome-entries n c (Intensity δ) xs = omega arith
+outcome-entries n c Mean xs = omega arith
+outcome-entries n c (Shrunk α target sweeps rotations) xs = omega arith
+
+answer-entries : (o : Outline) (r g : List Float) → wellFormed o ≡ true → entries (answerOf o r g) ≤ 64
+unfolding answerOf
+answer-entries o r g e =
+    let n = assets o in
+    let q = value o 11 in
+    let c = columns q n in
+    let slice = replicate (n * c) zero⁺ in
+    let a = asked q o r g slice in
+    let blank : length slice ≡ n * c = length-replicate (n * c) zero⁺ in
+    omega (arith, outcome-entries n c (a .answer) (a .slice), asked-length q o r g slice (omega arith), answer-fits o n q c refl (sizes o e .assets-few) refl refl)
+
+pub text-length : (paper : List ℕ) → length (marking paper) ≤ 8192
+unfolding marking examined readPaper
+text-length paper = go (eqb (length (sheet kinds paper .rest)) 0) (wellFormed (outline (sheet kinds paper .lists))) refl
+  where
+    go : (a b : Bool) → wellFormed (outline (sheet kinds paper .lists)) ≡ b → length (outcomeText (examined (cond (a && b) (question (sheet kinds paper .lists)) malformed))) ≤ 8192
+    go true true e = outcome-length _ (answer-entries (outline (sheet kinds paper .lists)) _ _ e)
+    go true false e = outcome-length (refused 15) (omega arith)
+    go false b e = outcome-length (refused 15) (omega arith)
+
+-- what `mark` leaves at the front of a buffer with room is the whole text
+pub whole-text : (paper s v : List ℕ) (n : ℕ) → 8192 ≤ length s → out v n ≡ write (out s 0) (marking paper) → (take n v ≡ marking paper) × (n ≡ length (marking paper))
+whole-text paper s v n h e =
+    let t = marking paper in
+    let w : out v n ≡ out (take 0 s ++ t ++ drop (0 + length t) s) (0 + length t) = e ∙ write-room t s 0 (omega (arith, text-length paper)) in
+    let count : n ≡ length t = ap place w ∙ omega arith in
+    (rw (ap buffer w) (take-at t (drop (0 + length t) s) n (sym count)), count)
+  where
+    place : Out → ℕ
+    place (out v n) = n
+
+    buffer : Out → List ℕ
+    buffer (out v n) = v

@@ -1,0 +1,147 @@
+-- The screen number from a float's bits. What is shown of a finite float is told by any fraction that equals its size (`shown-value`). The bits give
+-- q * 2 ^ k / 2 ^ 1074, whose ten-thousandths are q * 625 / 2 ^ (1070 - k), in 64 bits. Assumes nothing.
+use mathlib.Core.Path.{_≡_, refl, sym, ap, _∙_, subst}
+use mathlib.Core.Logic.{inl, inr}
+use mathlib.Core.Bool.{Bool, true, false, not, _&&_, cond}
+use Prim.Native.Nat.{ℕ, zero, suc, _+_, _-_, _*_, _/_, _%_, _^_, _≤_, _<_}
+use native.Mathlib.Nat.{mul-assoc, mul-comm, mul-left-comm, mul-right-comm, mul-le-mul-right, mul-lt-mul-of-pos-right, le-of-mul-le-mul-right, eq-or-lt-of-le, le-of-suc-le-suc, not-suc-le-zero, le-trans, lt-of-lt-of-le, div-eq-of-lt, le-of-eq}
+use native.Mathlib.Omega.{arith}
+use lib.Dec.{leb, eqb, T}
+use lib.Pow.{pow-add, pow-pos, pow-mono}
+use lib.Ieee.{Float, nan, inf, fin, binary64, up, down, odd, ofFields, ofBits, toBits, fits, ne, isNan}
+use lib.Ieee.Bits.{ofBits-toBits}
+use lib.Ieee.Compare.{differs-from-itself, nan-differs}
+use lib.Ieee.Exact.{HasValue, odd-sign}
+use lib.Ieee.Fits.{down-pos}
+use lib.Ieee.Nearest.{div-same}
+use borrow.Author.Tests.{leb-true, leb-false, le-leb, lt-leb, eq-eqb, ne-eqb}
+use Rattle.paper.specs.declared.screen.Shown.{Shown}
+use Rattle.paper.specs.declared.screen.Shown.the-variants.{Big, Number}
+use Rattle.paper.specs.Screen.{truncated, shownAs, shown}
+
+-- ---- equal fractions are shown alike
+
+same-leb : (a b c d : ℕ) → (a ≤ b → c ≤ d) → (c ≤ d → a ≤ b) → leb a b ≡ leb c d
+same-leb a b c d f g = go (leb a b) (leb c d) refl refl
+  where
+    go : (s t : Bool) → leb a b ≡ s → leb c d ≡ t → s ≡ t
+    go true true e h = refl
+    go false false e h = refl
+    go true false e h = sym (le-leb c d (f (leb-true a b e))) ∙ h
+    go false true e h = sym e ∙ le-leb a b (g (leb-true c d h))
+
+shown-same : (s : Bool) (a b c d : ℕ) → 0 < b → 0 < d → a * d ≡ c * b → shownAs s a b ≡ shownAs s c d
+unfolding shownAs
+shown-same s a b c d B D e = rw (
+  div-same (a * 10000) b (c * 10000) d B D (mul-right-comm a 10000 d ∙ ap (λ (x : ℕ). x * 10000) e ∙ mul-right-comm c b 10000),
+  same-leb (2 ^ 31 * b) a (2 ^ 31 * d) c (across b d a c B e) (across d b c a D (sym e)),
+)
+  where
+    across : (b d a c : ℕ) → 0 < b → a * d ≡ c * b → 2 ^ 31 * b ≤ a → 2 ^ 31 * d ≤ c
+    across b d a c B e h = le-of-mul-le-mul-right (le-trans (le-of-eq (mul-right-comm (2 ^ 31) d b)) (le-trans (mul-le-mul-right d h) (le-of-eq e))) B
+
+shown-value : (x : Float) (s : Bool) (a c : ℕ) → 0 < c → HasValue x s a c → shown x ≡ shownAs s a c
+unfolding shown
+shown-value nan s a c C v = absurd v
+shown-value (inf t) s a c C v = absurd v
+shown-value (fin t m e) s a c C v = ap (λ (b : Bool). shownAs b (m * up e) (down e)) (v .0) ∙ shown-same s (m * up e) (down e) a c (down-pos e) C (v .1)
+
+-- ---- q * 2 ^ k / 2 ^ l
+
+truncated-is : (q k l d : ℕ) → l ≡ d + (4 + k) → truncated (q * 2 ^ k) (2 ^ l) ≡ q * 625 / 2 ^ d
+truncated-is q k l d e =
+    div-same (q * 2 ^ k * 10000) (2 ^ l) (q * 625) (2 ^ d) (pow-pos l) (pow-pos d)
+    (shuffle q (2 ^ d) (2 ^ k) ∙ ap (λ (x : ℕ). q * 625 * x) (ap (λ (x : ℕ). 2 ^ d * x) (sym (pow-add 2 4 k)) ∙ sym (pow-add 2 d (4 + k)) ∙ ap (λ (x : ℕ). 2 ^ x) (sym e)))
+  where
+    shuffle : (q a b : ℕ) → q * b * 10000 * a ≡ q * 625 * (a * (16 * b))
+    shuffle q a b = omega arith
+
+shown-as-big : (s : Bool) (q k l p : ℕ) → 2 ^ p ≤ q → 31 + l ≤ p + k → shownAs s (q * 2 ^ k) (2 ^ l) ≡ Big
+unfolding shownAs
+shown-as-big s q k l p h g = rw (le-leb (2 ^ 31 * 2 ^ l) (q * 2 ^ k) reaches)
+  where
+    reaches : 2 ^ 31 * 2 ^ l ≤ q * 2 ^ k
+    reaches = le-trans (le-of-eq (sym (pow-add 2 31 l))) (le-trans (pow-mono g) (le-trans (le-of-eq (pow-add 2 p k)) (mul-le-mul-right (2 ^ k) h)))
+
+shown-as-number : (s : Bool) (q k l p d : ℕ) → q < 2 ^ p → p + k ≤ 31 + l → l ≡ d + (4 + k)
+    → shownAs s (q * 2 ^ k) (2 ^ l) ≡ Number (not (eqb (q * 625 / 2 ^ d) 0) && s) (q * 625 / 2 ^ d)
+unfolding shownAs
+shown-as-number s q k l p d h g e = rw (lt-leb (2 ^ 31 * 2 ^ l) (q * 2 ^ k) stays, truncated-is q k l d e)
+  where
+    stays : q * 2 ^ k < 2 ^ 31 * 2 ^ l
+    stays = lt-of-lt-of-le (mul-lt-mul-of-pos-right h (pow-pos k)) (le-trans (le-of-eq (sym (pow-add 2 p k))) (le-trans (pow-mono g) (le-of-eq (pow-add 2 31 l))))
+
+-- ---- a float's sign s, exponent field x and fraction t
+
+of-zero : (s : Bool) (t : ℕ) → ofFields binary64 s 0 t ≡ odd 53 s t 0 1074
+unfolding ofFields
+of-zero s t = refl
+
+of-suc : (s : Bool) (x t : ℕ) → suc x < 2047 → ofFields binary64 s (suc x) t ≡ odd 53 s (4503599627370496 + t) x 1074
+unfolding ofFields
+of-suc s x t h = rw (ne-eqb (suc x) 2047 (λ e. omega arith))
+
+-- what odd stands for, shown
+shown-odd : (s : Bool) (q k : ℕ) → shown (odd 53 s q k 1074) ≡ shownAs s (q * 2 ^ k) (2 ^ 1074)
+shown-odd s q k = shown-value (odd 53 s q k 1074) s (q * 2 ^ k) (2 ^ 1074) (pow-pos 1074) (odd-sign 53 s q k 1074)
+
+shown-ones : (s : Bool) (x t : ℕ) → suc x ≡ 2047 → shown (ofFields binary64 s (suc x) t) ≡ Big
+unfolding ofFields shown
+shown-ones s x t e = rw (eq-eqb (suc x) 2047 e) (either (eqb t 0))
+  where
+    either : (b : Bool) → shown (cond b (inf s) nan) ≡ Big
+    either true = refl
+    either false = refl
+
+shown-large : (s : Bool) (x t : ℕ) → x < 2048 → 1053 < x → shown (ofFields binary64 s x t) ≡ Big
+shown-large s zero t h l = absurd (not-suc-le-zero l)
+shown-large s (suc x) t h l = elim (eq-or-lt-of-le (le-of-suc-le-suc h)) [
+  | inl e ↦ shown-ones s x t e
+  | inr g ↦ ap shown (of-suc s x t g) ∙ shown-odd s (4503599627370496 + t) x ∙ shown-as-big s (4503599627370496 + t) x 1074 52 (omega arith) (omega arith)
+]
+
+shown-small : (s : Bool) (x t u : ℕ) → t < 4503599627370496 → x ≤ 1053 → (x ≡ 0 → u ≡ t * 625 / 2 ^ 1070)
+    → ((x ≡ 0 → ⊥) → u ≡ (4503599627370496 + t) * 625 / 2 ^ (1071 - x))
+    → shown (ofFields binary64 s x t) ≡ Number (not (eqb u 0) && s) u
+shown-small s zero t u h l z n = ap shown (of-zero s t) ∙ shown-odd s t 0 ∙ rw (z refl) (shown-as-number s t 0 1074 53 1070 (omega arith) (omega arith) refl)
+shown-small s (suc x) t u h l z n =
+    ap shown (of-suc s x t (omega arith)) ∙ shown-odd s (4503599627370496 + t) x
+    ∙ rw (n (λ e. omega arith)) (shown-as-number s (4503599627370496 + t) x 1074 53 (1071 - suc x) (omega arith) (omega arith) (omega arith))
+
+-- ---- the tests of the code, on the bits b of x
+
+fields : (b : ℕ) → ofBits binary64 b ≡ ofFields binary64 (leb 9223372036854775808 b) (b % 9223372036854775808 / 4503599627370496) (b % 4503599627370496)
+unfolding ofBits
+fields b = refl
+
+pub shown-nan : (x : Float) → ne x x ≡ true → Big ≡ shown x
+unfolding shown
+shown-nan x e = rw (differs-from-itself x (subst T (sym e) tt))
+
+module _ (x : Float) (good : fits binary64 x ≡ true) where
+  abbrev bits : ℕ
+  bits = toBits binary64 x
+
+  abbrev exponent : ℕ
+  exponent = bits % 9223372036854775808 / 4503599627370496
+
+  abbrev fraction : ℕ
+  fraction = bits % 4503599627370496
+
+  shown-bits : shown x ≡ shown (ofFields binary64 (leb 9223372036854775808 bits) exponent fraction)
+  shown-bits = ap shown (sym (ofBits-toBits binary64 x (subst T (sym good) tt)) ∙ fields bits)
+
+  pub shown-big : 1053 < exponent → Big ≡ shown x
+  shown-big h = sym (shown-bits ∙ shown-large (leb 9223372036854775808 bits) exponent fraction (omega arith) h)
+
+  pub shown-units : (u : ℕ) → exponent ≤ 1053 → (exponent ≡ 0 → u ≡ fraction * 625 / 2 ^ 1070)
+      → ((exponent ≡ 0 → ⊥) → u ≡ (4503599627370496 + fraction) * 625 / 2 ^ (1071 - exponent))
+      → shown x ≡ Number (not (eqb u 0) && leb 9223372036854775808 bits) u
+  shown-units u h z n = shown-bits ∙ shown-small (leb 9223372036854775808 bits) exponent fraction u (omega arith) h z n
+
+-- m * 625 is below 2 ^ 64
+pub units-none : (m d : ℕ) → m < 9007199254740992 → 63 < d → 0 ≡ m * 625 / 2 ^ d
+units-none m d h g = sym (div-eq-of-lt (lt-of-lt-of-le (fit m h) (pow-mono g)))
+  where
+    fit : (m : ℕ) → m < 9007199254740992 → m * 625 < 2 ^ 64
+    fit m h = omega arith

@@ -1,0 +1,33 @@
+-- `paper::floats::float` meets its contract: the patterns above an infinity's are those of NaN.
+use mathlib.Core.Path.{_≡_, refl, sym, _∙_, subst}
+use mathlib.Core.Bool.{true, not}
+use Prim.Native.Nat.{ℕ, _%_, _≤_, _<_}
+use lib.Dec.{T}
+use lib.Ieee.{Float, nan, inf, fin, binary64, div, ofBits, nanBits, isNan}
+use lib.Ieee.Bits.{nanBits-is, nanBits-above}
+use borrow.Author.Tests.{lt-ltb, le-ltb}
+use borrow.Author.Needs.{needs}
+use Rattle.paper.proofs.floats.float.Statement.{statement}
+use Rattle.paper.proofs.floats.float.Tie as tie
+
+nan-pattern : (n : ℕ) → 0x7FF0_0000_0000_0000 < n % 0x8000_0000_0000_0000 → nan ≡ ofBits binary64 n
+unfolding isNan
+nan-pattern n h = sym (is-nan (ofBits binary64 n) (sym (nanBits-is binary64 n) ∙ nanBits-above binary64 n ∙ lt-ltb _ _ h))
+  where
+    is-nan : (x : Float) → isNan x ≡ true → x ≡ nan
+    is-nan nan e = refl
+    is-nan (inf s) e = absurd (subst T (sym e) tt)
+    is-nan (fin s m d) e = absurd (subst T (sym e) tt)
+
+float-from-bits-result : tie.Need-float-from-bits-result
+float-from-bits-result c = rw (nanBits-above binary64 (c .before .args .bits), le-ltb _ _ (c .if1 .left)) tt
+
+returns : tie.Need-returns
+unfolding div ofBits
+returns c = nan-pattern _ (c .if1 .taken)
+
+returns-2 : tie.Need-returns-2
+returns-2 c = search needs
+
+pub float-spec : {M : Type 1} → statement M
+float-spec = tie.close (tie.spec float-from-bits-result returns returns-2)

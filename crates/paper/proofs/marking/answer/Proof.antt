@@ -1,0 +1,53 @@
+-- `paper::marking::answer` meets its contract: the slice that is lent is as long as the answer, and zero.
+use mathlib.Core.Path.{_≡_, refl, sym, ap, _∙_}
+use Prim.Native.Nat.{_*_, _≤_}
+use native.Mathlib.Nat.{mul-zero}
+use native.Mathlib.Omega.{arith}
+use lib.ListN.{replicate}
+use lib.Seq.{length-take-le}
+use lib.Ieee.{binary64, ofBits}
+use borrow.Author.Needs.{needs}
+use Rattle.paper.specs.Text.{write}
+use Rattle.paper.specs.Answer.{outcomeText}
+use Rattle.paper.proofs.Marks.{answer-fits, answer-is}
+use Rattle.paper.proofs.marking.answer.Statement.{statement}
+use Rattle.paper.proofs.marking.answer.Tie as tie
+
+assets-requires : tie.Need-assets-requires
+assets-requires c κs = search needs
+
+value-requires : tie.Need-value-requires
+value-requires c κs = search needs
+
+columns-requires : tie.Need-columns-requires
+columns-requires c κs = search needs
+
+fits : (c : tie.After-columns) → c .before .before .assets .result * c .columns .result ≤ 64
+fits c =
+    let b = c .before .before .before .before .before .before in
+    answer-fits (b .args .o) _ _ _ (c .before .before .assets .ensures) (b .pre) (c .before .value .ensures) (c .columns .ensures)
+
+mul-size : tie.Need-mul-size
+mul-size c = let h = fits c in omega arith
+
+array-borrow-prefix-entries : tie.Need-array-borrow-prefix-entries
+array-borrow-prefix-entries c = fits c
+
+slice-aggregate-put-asked : tie.Need-slice-aggregate-put-asked
+slice-aggregate-put-asked c = sym (length-take-le _ (replicate 64 (ofBits binary64 0)) (fits (c .before)))
+
+put-asked-requires : tie.Need-put-asked-requires
+put-asked-requires c κs e = rw (e, mul-zero)
+
+same-length : tie.Need-same-length
+same-length c = search needs
+
+returns : tie.Need-returns
+returns c =
+    let k = c .before .before .before .before .before .before in
+    let a = k .before .before in
+    let b = a .before .before .before .before in
+    c .before .before .before .put-asked .ensures ∙ ap (write _) (ap outcomeText (answer-is (b .args .o) _ _ _ (a .assets .ensures) (b .pre) (k .before .value .ensures) (k .columns .ensures) _ _))
+
+pub answer-spec : {M : Type 1} → statement M
+answer-spec = tie.close (tie.spec assets-requires value-requires columns-requires mul-size array-borrow-prefix-entries slice-aggregate-put-asked put-asked-requires same-length returns)

@@ -1,0 +1,58 @@
+// The kinds of record that a question file has, in the order of the file.
+ghost use mathlib.Core.Path.{_≡_};
+ghost use Prim.Native.Nat.{_<_};
+ghost use lib.ListN.{length, getD};
+ghost use Rattle.paper.specs.Grammar as Grammar;
+
+pub const MAX_ASSETS: usize = 8;
+
+pub const MAX_PERIODS: usize = 128;
+
+// The most returns and the most given entries of a file.
+pub const RETURNS: usize = MAX_PERIODS * MAX_ASSETS;
+
+pub const ENTRIES: usize = MAX_ASSETS * MAX_ASSETS;
+
+// How many kinds there are, and the most records of a file.
+pub const KINDS: usize = 11;
+
+pub const RECORDS: usize = RETURNS + ENTRIES + 9;
+
+// A kind's byte, the length of its body, and how many records of it a file may have.
+pub struct Kind {
+    pub byte: u8,
+    pub body: usize,
+    pub most: usize,
+}
+
+const BYTES: [u8; KINDS] = [1, 2, 3, 4, 5, 6, 7, 8, 9, 10, 11];
+
+const BODIES: [usize; KINDS] = [4, 8, 8, 8, 1, 8, 0, 8, 8, 1, 1];
+
+const MOSTS: [usize; KINDS] = [1, RETURNS, 1, 1, 1, 1, 1, 1, ENTRIES, 1, 1];
+
+pub fn kind_at(i: usize) -> Kind
+    requires { ⌜ i < length Grammar.kinds ⌝ }
+    ensures { λ r. ⌜ r ≡ getD Grammar.kinds i Grammar.missing ⌝ }
+{
+    Kind {
+        byte: BYTES[i],
+        body: BODIES[i],
+        most: MOSTS[i],
+    }
+}
+
+// Where the kind of a byte stands; behind all others where there is no such kind.
+pub fn place(byte: u8) -> usize
+    ensures { λ r. ⌜ r ≡ Grammar.placeIn Grammar.kinds byte ⌝ }
+{
+    let mut i = 0;
+    while i < KINDS {
+        let k = kind_at(i);
+        if k.byte == byte {
+            return i;
+        }
+        i += 1;
+    }
+    i
+}

@@ -1,0 +1,35 @@
+// Question files and printed answers: bytes in, bytes out.
+mod answer;
+mod floats;
+mod kinds;
+mod marking;
+mod reader;
+mod rules;
+mod screen;
+mod settings;
+mod text;
+
+ghost use mathlib.Core.Path.{_≡_};
+ghost use Rattle.paper.specs.Text.{out as into, write, Counts};
+ghost use Rattle.paper.specs.Marking.{marking};
+use crate::answer::put_refused;
+use crate::kinds::RECORDS;
+use crate::marking::examine;
+use crate::reader::read;
+
+// Marks a question file: writes what is printed of it to the front of `out`, and answers how many bytes that is.
+// An `out` that is too short takes the text's beginning; 8,192 bytes are always enough.
+pub fn mark(paper: &[u8], out: &mut [u8]) -> usize
+    ensures { λ r. ⌜ into (now (out .exit)) r ≡ write (into (now (out .entry)) 0) (marking (now (paper .entry))) ⌝ }
+    ensures { λ r. ⌜ Counts r (now (out .exit)) ⌝ }
+{
+    let mut numbers = [0u64; RECORDS];
+    let p = read(paper, &mut numbers);
+    let ok = p.ok;
+    let outline = p.outline;
+    if ok {
+        examine(outline, &numbers, out)
+    } else {
+        put_refused(15, out, 0)
+    }
+}

@@ -1,0 +1,151 @@
+// Which files are questions. The rules look at an outline of the file.
+ghost use mathlib.Core.Path.{_≡_};
+ghost use lib.ListN.{getD};
+ghost use Rattle.paper.specs.Grammar.{kinds, placeIn};
+ghost use Rattle.paper.specs.Rules as Rules;
+use crate::kinds::KINDS;
+use crate::kinds::MAX_ASSETS;
+use crate::kinds::MAX_PERIODS;
+use crate::kinds::place;
+
+// Of each kind, in the order of the file, how many records there are and the first body, 0 where there is none.
+pub struct Outline {
+    pub counts: [u64; KINDS],
+    pub firsts: [u64; KINDS],
+}
+
+// What a list that has a number for each kind has for one.
+fn entry(list: [u64; KINDS], kind: u8) -> u64
+    ensures { λ r. ⌜ r ≡ getD list (placeIn kinds kind) 0 ⌝ }
+{
+    let p = place(kind);
+    if p < KINDS { list[p] } else { 0 }
+}
+
+pub fn count(o: Outline, kind: u8) -> u64
+    ensures { λ r. ⌜ r ≡ Rules.count o kind ⌝ }
+{
+    let counts = o.counts;
+    entry(counts, kind)
+}
+
+pub fn has(o: Outline, kind: u8) -> bool
+    ensures { λ r. ⌜ r ≡ Rules.has o kind ⌝ }
+{
+    count(o, kind) != 0
+}
+
+pub fn value(o: Outline, kind: u8) -> u64
+    ensures { λ r. ⌜ r ≡ Rules.value o kind ⌝ }
+{
+    let firsts = o.firsts;
+    entry(firsts, kind)
+}
+
+pub fn assets(o: Outline) -> u64
+    ensures { λ r. ⌜ r ≡ Rules.assets o ⌝ }
+{
+    value(o, 1) % 65536
+}
+
+pub fn periods(o: Outline) -> u64
+    ensures { λ r. ⌜ r ≡ Rules.periods o ⌝ }
+{
+    value(o, 1) / 65536
+}
+
+// How many of the listed kinds come.
+fn present(o: Outline, kinds: &[u8]) -> usize
+    ensures { λ r. ⌜ r ≡ Rules.present o (now (kinds .entry)) ⌝ }
+{
+    let mut n = 0;
+    let mut i = 0;
+    while i < kinds.len() {
+        if has(o, kinds[i]) {
+            n += 1;
+        }
+        i += 1;
+    }
+    n
+}
+
+fn shape_fits(o: Outline) -> bool
+    ensures { λ r. ⌜ r ≡ Rules.shapeFits o ⌝ }
+{
+    let n = assets(o);
+    let t = periods(o);
+    if count(o, 1) != 1 {
+        return false;
+    }
+    if n > MAX_ASSETS as u64 {
+        return false;
+    }
+    if t > MAX_PERIODS as u64 {
+        return false;
+    }
+    if count(o, 2) != t * n {
+        return false;
+    }
+    let given = count(o, 9);
+    if given == 0 {
+        return true;
+    }
+    given == n * n
+}
+
+const SETTINGS: [u8; 8] = [3, 4, 5, 6, 7, 8, 9, 10];
+
+const SHRINKAGES: [u8; 2] = [4, 5];
+
+const ESTIMATES: [u8; 4] = [6, 7, 8, 9];
+
+const LIMIT: [u8; 1] = [10];
+
+fn settings_fit(o: Outline) -> bool
+    ensures { λ r. ⌜ r ≡ Rules.settingsFit o ⌝ }
+{
+    if present(o, &SHRINKAGES) > 1 {
+        return false;
+    }
+    if present(o, &ESTIMATES) > 1 {
+        return false;
+    }
+    value(o, 5) <= 1
+}
+
+// Whether the settings are those that question q takes.
+fn takes(q: u64, o: Outline) -> bool
+    ensures { λ r. ⌜ r ≡ Rules.takes q o ⌝ }
+{
+    if q == 0 {
+        if has(o, 10) {
+            return has(o, 9);
+        }
+        return true;
+    }
+    if q == 1 {
+        if has(o, 6) {
+            return present(o, &SETTINGS) == 1;
+        }
+        return false;
+    }
+    if q > 3 {
+        return false;
+    }
+    present(o, &SETTINGS) == present(o, &LIMIT)
+}
+
+pub fn well_formed(o: Outline) -> bool
+    ensures { λ r. ⌜ r ≡ Rules.wellFormed o ⌝ }
+{
+    if !shape_fits(o) {
+        return false;
+    }
+    if !settings_fit(o) {
+        return false;
+    }
+    if count(o, 11) != 1 {
+        return false;
+    }
+    takes(value(o, 11), o)
+}

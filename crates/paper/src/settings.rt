@@ -1,0 +1,93 @@
+// The engine's settings, from what was read.
+ghost use mathlib.Core.Path.{_≡_};
+ghost use Rattle.paper.specs.Rules as Rules;
+ghost use Rattle.paper.specs.Marking as Marking;
+use crate::floats::float;
+use crate::rules::Outline;
+use crate::rules::has;
+use crate::rules::value;
+use estimators::Estimate;
+use estimators::Regularization;
+use estimators::Settings;
+use estimators::Shrinkage;
+use estimators::Target;
+
+// The number of a kind.
+pub fn number_of(o: Outline, kind: u8) -> f64
+    ensures { λ r. ⌜ r ≡ Marking.float (Rules.value o kind) ⌝ }
+{
+    float(value(o, kind))
+}
+
+fn target(byte: u64) -> Target
+    ensures { λ r. ⌜ r ≡ Marking.targetOf byte ⌝ }
+{
+    if byte == 0 {
+        Target::ConstantVariance
+    } else {
+        Target::ConstantCorrelation
+    }
+}
+
+fn estimate(o: Outline) -> Estimate
+    ensures { λ r. ⌜ r ≡ Marking.estimateOf o ⌝ }
+{
+    if has(o, 6) {
+        return Estimate::Weighted(number_of(o, 6));
+    }
+    if has(o, 7) {
+        return Estimate::Semi;
+    }
+    if has(o, 8) {
+        return Estimate::SemiBelow(number_of(o, 8));
+    }
+    if has(o, 9) {
+        return Estimate::Given;
+    }
+    Estimate::Sample
+}
+
+fn shrinkage(o: Outline) -> Shrinkage
+    ensures { λ r. ⌜ r ≡ Marking.shrinkageOf o ⌝ }
+{
+    if has(o, 4) {
+        return Shrinkage::Fixed(number_of(o, 4));
+    }
+    if has(o, 5) {
+        return Shrinkage::LedoitWolf(target(value(o, 5)));
+    }
+    Shrinkage::Unshrunk
+}
+
+fn regularization(o: Outline) -> Regularization
+    ensures { λ r. ⌜ r ≡ Marking.regularizationOf o ⌝ }
+{
+    if has(o, 3) {
+        return Regularization::Ridge(number_of(o, 3));
+    }
+    Regularization::Unregularized
+}
+
+pub fn limit(o: Outline) -> usize
+    ensures { λ r. ⌜ r ≡ Marking.limitOf o ⌝ }
+{
+    if has(o, 10) {
+        return value(o, 10) as usize;
+    }
+    100
+}
+
+pub fn settings(o: Outline) -> Settings
+    ensures { λ r. ⌜ r ≡ Marking.settingsOf o ⌝ }
+{
+    let estimate = estimate(o);
+    let shrinkage = shrinkage(o);
+    let regularization = regularization(o);
+    let limit = limit(o);
+    Settings {
+        estimate,
+        shrinkage,
+        regularization,
+        limit,
+    }
+}
