@@ -1,23 +1,21 @@
 -- What the test of a guessed root says. Where n * 2 ^ 56 has something over the square of 4 p - 2, and less than 32 p, its root lies between the two middles
 -- that part p from its neighbours, in units of 4; so 8 p is twice that root, rounded to 53 digits (`nearest-is`). Assumes nothing.
-use mathlib.Core.Path.{_≡_, refl, sym, ap, _∙_, subst}
+use mathlib.Core.Path.{_≡_, refl, sym, ap, _∙_}
 use mathlib.Core.Logic.{⊎-elim}
 use Prim.Native.Nat.{ℕ, _+_, _*_, _-_, _%_, _≤_, _<_}
-use native.Mathlib.Nat.{le-antisymm, lt-irrefl}
+use native.Mathlib.Nat.{le-antisymm}
 use native.Mathlib.Omega.{arith}
-use mathlib.Core.Bool.{Bool, Bool·beq, true, false, not, cond, _||_}
+use mathlib.Core.Bool.{Bool, true, false, not, cond}
 use lib.Dec.{T, eqb}
 use lib.IntN.{pos}
-use borrow.Author.Tests.{eqb-true, ltb-true, le-ltb}
-use mir.Facts.{and-yes, or-yes, eqb-yes}
-use lib.Ieee.{Float, nan, inf, fin, binary64, fits, lt, eq, round, ofInt, units, isNan, nanBits}
+use borrow.Author.Tests.{eqb-true, le-ltb}
+use lib.Ieee.{Float, nan, inf, fin, binary64, lt, round, ofInt, units, isNan, nanBits}
 use lib.Ieee.Bits.{nanBits-above}
-use Rattle.leaves.specs.Numbers.{zero⁺, isFinite}
+use Rattle.leaves.specs.Numbers.{zero⁺}
 use Rattle.leaves.specs.Root.{root, sticky}
 use Rattle.leaves.proofs.Whole.{le-or-lt}
-use Rattle.leaves.proofs.Zero.{no, not-above}
+use Rattle.leaves.proofs.Zero.{no}
 use Rattle.leaves.proofs.Roots.{Whole, root-below, root-over, root-under, square-plus}
-use Rattle.leaves.proofs.Units.{Val, sign, mag, mag-val, zero-val, lt-val, eq-val, val-unique}
 use Rattle.leaves.proofs.Sqrts.{sticky-in}
 use Rattle.leaves.proofs.SqrtLaws.{eighth, eighth-error, round-56}
 
@@ -35,28 +33,10 @@ sticky-from n r g rest a b e h true q = (⊎-elim (λ (l : g + 1 ≤ r). omega a
     apart s = let i : g * g ≡ n = ap (λ (x : ℕ). x * x) (sym s) ∙ eqb-true (r * r) n q in omega (arith, e, h, i)
 
 -- 8 p keeps its digits
-eights : (p : ℕ) → (4503599627370496 ≤ p) × (p < 9007199254740992) → round binary64 false (8 * p) 1 ≡ units binary64 false p 1077
+pub eights : (p : ℕ) → (4503599627370496 ≤ p) × (p < 9007199254740992) → round binary64 false (8 * p) 1 ≡ units binary64 false p 1077
 eights p d =
     let e = eighth-error (8 * p) in
     round-56 (8 * p) (omega (arith, d)) (omega (arith, d)) ∙ ap (λ (q : ℕ). units binary64 false q 1077) (le-antisymm (omega (arith, e)) (omega (arith, e)))
-
--- equal floats of the format that are above 0 are the same
-equal-is : (x y : Float) (u : ℕ) → T (fits binary64 x) → T (fits binary64 y) → 0 < u → Val x false u → eq x y ≡ true → y ≡ x
-unfolding eq isFinite
-equal-is nan y u p q l v h = absurd v
-equal-is (inf s) y u p q l v h = absurd v
-equal-is (fin s m e) nan u p q l v h = no h refl
-equal-is (fin s m e) (inf t) u p q l v h = no h refl
-equal-is (fin s m e) (fin t n d) u p q l v h =
-    let y = fin t n d in
-    let w = mag-val y q tt in
-    let both = and-yes (eqb u (mag y)) (Bool·beq false (sign y) || eqb u 0) (subst T (sym (sym (eq-val (fin s m e) y false (sign y) u (mag y) v w) ∙ h)) tt) in
-    let plus : sign y ≡ false = ⊎-elim (unsigned (sign y)) (λ (z : T (eqb u 0)). absurd (lt-irrefl 0 (subst (λ (k : ℕ). 0 < k) (eqb-yes z) l))) (or-yes (Bool·beq false (sign y)) (eqb u 0) (both .1)) in
-    val-unique y (fin s m e) false u q p (subst (λ (k : ℕ). Val y false k) (sym (eqb-yes (both .0))) (subst (λ (b : Bool). Val y b (mag y)) plus w)) v
-  where
-    unsigned : (b : Bool) → T (Bool·beq false b) → b ≡ false
-    unsigned true z = absurd z
-    unsigned false z = refl
 
 module _ (n p rest : ℕ) (small : n < 18014398509481984) (large : 4503599627370496 ≤ n) (digits : (4503599627370496 ≤ p) × (p < 9007199254740992))
     (over : rest + (4 * p - 2) * (4 * p - 2) ≡ n * 72057594037927936) (some : 0 < rest) (few : rest < 32 * p) where
@@ -83,21 +63,7 @@ module _ (n p rest : ℕ) (small : n < 18014398509481984) (large : 4503599627370
       let i = sticky-in N (omega (arith, large)) (omega (arith, small)) in
       eights p digits ∙ ap (λ (q : ℕ). units binary64 false q 1077) (sym (eighth-is (sticky N) (near .0) (near .1))) ∙ sym (round-56 (sticky N) (i .0) (i .1))
 
--- ---- a float above 0 that equals another is the same
-pub equal-above : (x y : Float) → T (fits binary64 x) → T (fits binary64 y) → lt zero⁺ x ≡ true → eq x y ≡ true → y ≡ x
-unfolding lt eq isFinite sign
-equal-above nan y p q l h = no l refl
-equal-above (inf true) y p q l h = no l refl
-equal-above (inf false) nan p q l h = no h refl
-equal-above (inf false) (inf true) p q l h = no h refl
-equal-above (inf false) (inf false) p q l h = refl
-equal-above (inf false) (fin t n d) p q l h = no h refl
-equal-above (fin true m e) y p q l h = no l (not-above m e)
-equal-above (fin false m e) y p q l h =
-    let x = fin false m e in
-    let v : Val x false (mag x) = mag-val x p tt in
-    equal-is x y (mag x) p q (ltb-true 0 (mag x) (sym (lt-val zero⁺ x false false 0 (mag x) (zero-val false (pos 0)) v) ∙ l)) v h
-
+-- ---- a float above 0 is a number
 pub above-number : (x : Float) → lt zero⁺ x ≡ true → T (not (isNan x))
 unfolding lt isNan
 above-number nan h = no h refl

@@ -1,11 +1,11 @@
 // The square root, correctly rounded: guessed in floats, and tested in whole numbers.
 ghost use mathlib.Core.Path.{_≡_};
-ghost use mathlib.Core.Bool.{true};
+ghost use mathlib.Core.Bool.{true, false};
 ghost use Prim.Native.Nat.{_+_, _≤_, _<_, _*_, _^_};
 ghost use lib.IntN.{pos};
-ghost use lib.Ieee.{binary64, ofInt};
+ghost use lib.Ieee.{binary64, inf, lt, ofInt};
+ghost use Rattle.leaves.specs.Numbers.{zero⁺};
 ghost use Rattle.leaves.specs.Root as Root;
-ghost use Rattle.leaves.specs.Scaling as Scaling;
 use crate::parts;
 use crate::scaling::binary_exponent;
 use crate::scaling::pow2_scaled;
@@ -94,21 +94,26 @@ fn is_nearest(n: u64, p: u64) -> bool
     false
 }
 
-// 2 * sqrt(n * 2^56), rounded, times 2^k: as it is guessed, if that is the nearest float, else digit
-// by digit.
-fn rounded_root(guess: f64, n: u64, k: i32) -> f64
-    requires { ⌜ (2 ^ 52 ≤ n) × (n < 2 ^ 54) ⌝ }
-    ensures { λ r. ⌜ r ≡ Scaling.pow2Scaled (ofInt binary64 (pos (Root.sticky (n * 2 ^ 56)))) k ⌝ }
+// Whether the guess is the root of x, by their bits: the root's exponent is half that of x, rounded down,
+// and n is x as a whole number, times 2 where the exponent is odd. Subnormal numbers are left out.
+fn is_root(x: f64, guess: f64) -> bool
+    requires { ⌜ (lt zero⁺ x ≡ true) × (lt x (inf false) ≡ true) ⌝ }
+    ensures { λ r. ⌜ (r ≡ true → guess ≡ Root.sqrt x) ⌝ }
 {
     if guess > 0.0 {
-        let p = f64::to_bits(guess) % 0x10_0000_0000_0000 + 0x10_0000_0000_0000;
-        if is_nearest(n, p) {
-            if guess == pow2_scaled(std::num::nearest_u64_to_f64(8 * p), k) {
-                return guess;
+        let b = f64::to_bits(x);
+        let g = f64::to_bits(guess);
+        let e = b / 0x10_0000_0000_0000;
+        if 0 < e {
+            if g / 0x10_0000_0000_0000 == (e + 1023) / 2 {
+                let n = (b % 0x10_0000_0000_0000 + 0x10_0000_0000_0000) * (2 - e % 2);
+                if is_nearest(n, g % 0x10_0000_0000_0000 + 0x10_0000_0000_0000) {
+                    return true;
+                }
             }
         }
     }
-    pow2_scaled(std::num::nearest_u64_to_f64(root_digits(n)), k)
+    false
 }
 
 // Twice the whole part of the root of n * 2^56, and 1 more where that is no square. Each turn brings
@@ -147,10 +152,15 @@ pub fn sqrt(x: f64) -> f64
     }
     if x > 0.0 {
         if x < 1.0 / 0.0 {
+            let guess = near_root(x);
+            if is_root(x, guess) {
+                return guess;
+            }
             let h = binary_exponent(x) >> 1;
             let y = pow2_scaled(x, 52 - h - h);
             let n = std::num::truncating_f64_to_u64(y);
-            return rounded_root(near_root(x), n, h - 55);
+            let digits = std::num::nearest_u64_to_f64(root_digits(n));
+            return pow2_scaled(digits, h - 55);
         }
     }
     x

@@ -1,12 +1,12 @@
 -- `leaves::root::sqrt` meets its contract. Below, each step of the code in the machine's terms, where a signed number is read back from its bits.
-use mathlib.Core.Path.{_≡_, refl, sym, ap, _∙_, subst}
-use Prim.Native.Nat.{ℕ, zero, suc, _*_, _^_, _≤_, _<_}
+use mathlib.Core.Path.{_≡_, refl, sym, ap, _∙_}
+use Prim.Native.Nat.{ℕ, zero, suc, _*_, _^_, _<_}
 use native.Mathlib.Omega.{arith}
 use mathlib.Core.Bool.{true, false}
 use lib.Dec.{T}
 use lib.IntN.{ℤ, pos, _-ℤ_}
 use lib.Signed.{mag, shrZ}
-use lib.Ieee.{Float, nan, inf, fin, binary64, fits, lt, div, ofBits, ofInt, toUnsigned, round}
+use lib.Ieee.{Float, nan, inf, fin, binary64, lt, div, ofBits, ofInt, toUnsigned, round}
 use mir.Syntax.{w32}
 use mir.Val.{SFits, toZ, ofZ}
 use mir.Facts.{toZ-ofZ}
@@ -15,9 +15,10 @@ use Rattle.leaves.specs.Numbers.{zero⁺}
 use Rattle.leaves.specs.Scaling.{pow2Scaled, binaryExponent}
 use Rattle.leaves.specs.Root.{sticky, halfExponent, radicand, sqrt}
 use Rattle.leaves.proofs.Whole.{over, under, one-side, minus, fits-i32, back-i32}
-use Rattle.leaves.proofs.Laws.{Room, fits→room}
-use Rattle.leaves.proofs.Zero.{no, zero-not-above, zero-not-below, not-below, is-below, is-above}
-use Rattle.leaves.proofs.Sqrts.{halved, scaled, truncated, above, below64, M, M-lt, radicand-is, radicand-in, last}
+use Rattle.leaves.proofs.Laws.{Room}
+use Rattle.leaves.proofs.Zero.{no, zero-not-below, not-below, is-below, is-above}
+use Rattle.leaves.proofs.Sqrts.{halved, scaled, truncated, above, below64, M, M-lt, radicand-is, last}
+use Rattle.leaves.proofs.RootBits.{Place, at, place-of}
 use Rattle.leaves.proofs.root.sqrt.Statement.{statement}
 use Rattle.leaves.proofs.root.sqrt.Tie as tie
 
@@ -25,19 +26,7 @@ use Rattle.leaves.proofs.root.sqrt.Tie as tie
 abbrev rd : ℤ → ℤ
 rd z = toZ w32 (ofZ w32 z)
 
--- ---- the values that the tests let through
-data Place : Float → Type 0 where
-  at : (m : ℕ) (e : ℤ) → Room (suc m) e → Place (fin false (suc m) e)
-
-place : (x : Float) → fits binary64 x ≡ true → lt zero⁺ x ≡ true → lt x (inf false) ≡ true → Place x
-unfolding lt
-place nan t h k = no h refl
-place (inf true) t h k = no h refl
-place (inf false) t h k = no k refl
-place (fin true m e) t h k = no h refl
-place (fin false zero e) t h k = no h (zero-not-above e)
-place (fin false (suc m) e) t h k = at m e (fits→room false m e (subst T (sym t) tt))
-
+-- ---- the values that the tests turn away
 negative : (x : Float) → lt x zero⁺ ≡ true → nan ≡ sqrt x
 unfolding lt sqrt
 negative nan h = no h refl
@@ -116,9 +105,6 @@ module _ (m : ℕ) (e : ℤ) (p : Room (suc m) e) (b : ℤ) (fb : mag b < 2 ^ 31
       n-lt : n < 18014398509481984
       n-lt = rw n-is (M-lt m e p)
 
-      n-ge : 4503599627370496 ≤ n
-      n-ge = omega (arith, n-is, radicand-in m e p, radicand-is m e p)
-
       module _ (w : Float) (is-w : w ≡ ofInt binary64 (pos (sticky (n * 72057594037927936)))) (r : Float) (is-r : r ≡ pow2Scaled w (rd (H -ℤ pos 55))) where
         w-is : w ≡ round binary64 false (sticky (radicand (suc m) e)) 1
         unfolding ofInt
@@ -142,8 +128,8 @@ step-y : {x : Float} → Place x → (b : ℤ) → mag b < 2 ^ 31 → b ≡ bina
 step-y (at m e p) b fb ib y iy = y-in m e p b fb ib y iy
 
 step-n : {x : Float} → Place x → (b : ℤ) → mag b < 2 ^ 31 → b ≡ binaryExponent x → (y : Float) → y ≡ pow2Scaled x (rd (rd (pos 52 -ℤ rd (shrZ (rd b) 2)) -ℤ rd (shrZ (rd b) 2)))
-    → (n : ℕ) → n ≡ toUnsigned 64 y → (4503599627370496 ≤ n) × (n < 18014398509481984)
-step-n (at m e p) b fb ib y iy n i = (n-ge m e p b fb ib y iy n i, n-lt m e p b fb ib y iy n i)
+    → (n : ℕ) → n ≡ toUnsigned 64 y → n < 18014398509481984
+step-n (at m e p) b fb ib y iy n i = n-lt m e p b fb ib y iy n i
 
 step-r : {x : Float} → Place x → (b : ℤ) → mag b < 2 ^ 31 → b ≡ binaryExponent x → (y : Float) → y ≡ pow2Scaled x (rd (rd (pos 52 -ℤ rd (shrZ (rd b) 2)) -ℤ rd (shrZ (rd b) 2)))
     → (n : ℕ) → n ≡ toUnsigned 64 y → (w : Float) → w ≡ ofInt binary64 (pos (sticky (n * 72057594037927936)))
@@ -152,20 +138,30 @@ step-r (at m e p) b fb ib y iy n i w iw r ir = found m e p b fb ib y iy n i w iw
 
 here : (c : tie.Then3) → Place (c .before .before .before .args .x)
 unfolding ofBits div
-here c = place (c .before .before .before .args .x) (c .before .before .before .good .0 .1) (c .before .if2 .taken) (c .if3 .taken)
+here c = place-of (c .before .before .before .args .x) (c .before .before .before .good .0 .1) (c .before .if2 .taken) (c .if3 .taken)
 
 returns : tie.Need-returns
 unfolding ofBits div
 returns c = negative (c .before .args .x) (c .if1 .taken)
 
+near-root-requires : tie.Need-near-root-requires
+near-root-requires c κs = search needs
+
+is-root-requires : tie.Need-is-root-requires
+unfolding ofBits div
+is-root-requires c κs = (c .before .before .if2 .taken, c .before .if3 .taken)
+
+returns-2 : tie.Need-returns-2
+returns-2 c = c .before .is-root .ensures (c .if4 .taken)
+
 binary-exponent-requires : tie.Need-binary-exponent-requires
 binary-exponent-requires c κs = search needs
 
 sub-pow2-scaled : tie.Need-sub-pow2-scaled
-sub-pow2-scaled c = let b = c .binary-exponent in step-1 (here (c .before)) (b .result) (b .ok) (b .ensures)
+sub-pow2-scaled c = let b = c .binary-exponent in step-1 (here (c .before .before .before .before)) (b .result) (b .ok) (b .ensures)
 
 sub-pow2-scaled-2 : tie.Need-sub-pow2-scaled-2
-sub-pow2-scaled-2 c = let b = c .binary-exponent in step-2 (here (c .before)) (b .result) (b .ok) (b .ensures)
+sub-pow2-scaled-2 c = let b = c .binary-exponent in step-2 (here (c .before .before .before .before)) (b .result) (b .ok) (b .ensures)
 
 pow2-scaled-requires : tie.Need-pow2-scaled-requires
 pow2-scaled-requires c κs = search needs
@@ -174,43 +170,63 @@ truncating-f64-to-u64-requires : tie.Need-truncating-f64-to-u64-requires
 truncating-f64-to-u64-requires c κs =
     let y = c .pow2-scaled in
     let b = c .before .binary-exponent in
-    step-y (here (c .before .before)) (b .result) (b .ok) (b .ensures) (y .result) (y .ensures)
+    step-y (here (c .before .before .before .before .before)) (b .result) (b .ok) (b .ensures) (y .result) (y .ensures)
 
-near-root-requires : tie.Need-near-root-requires
-near-root-requires c κs = search needs
+root-digits-requires : tie.Need-root-digits-requires
+root-digits-requires c κs =
+    let n = c .truncating-f64-to-u64 in
+    let y = c .before .pow2-scaled in
+    let b = c .before .before .binary-exponent in
+    step-n (here (c .before .before .before .before .before .before)) (b .result) (b .ok) (b .ensures) (y .result) (y .ensures) (n .result) (n .ensures)
 
-sub-rounded-root : tie.Need-sub-rounded-root
-sub-rounded-root c =
-    let d = c .before .before .before in
+nearest-u64-to-f64-requires : tie.Need-nearest-u64-to-f64-requires
+nearest-u64-to-f64-requires c κs = search needs
+
+sub-pow2-scaled-3 : tie.Need-sub-pow2-scaled-3
+sub-pow2-scaled-3 c =
+    let d = c .before .before .before .before in
     let b = d .binary-exponent in
-    step-3 (here (d .before)) (b .result) (b .ok) (b .ensures)
+    step-3 (here (d .before .before .before .before)) (b .result) (b .ok) (b .ensures)
 
-rounded-root-requires : tie.Need-rounded-root-requires
-rounded-root-requires c κs =
-    let d = c .before in
-    let n = d .truncating-f64-to-u64 in
-    let y = d .before .pow2-scaled in
-    let b = d .before .before .binary-exponent in
-    step-n (here (d .before .before .before)) (b .result) (b .ok) (b .ensures) (y .result) (y .ensures) (n .result) (n .ensures)
-
-returns-2 : tie.Need-returns-2
-returns-2 c =
-    let r = c .rounded-root in
-    let d = c .before .before in
-    let n = d .truncating-f64-to-u64 in
-    let y = d .before .pow2-scaled in
-    let b = d .before .before .binary-exponent in
-    step-r (here (d .before .before .before)) (b .result) (b .ok) (b .ensures) (y .result) (y .ensures) (n .result) (n .ensures) (ofInt binary64 (pos (sticky (n .result * 72057594037927936)))) refl (r .result) (r .ensures)
+pow2-scaled-requires-2 : tie.Need-pow2-scaled-requires-2
+pow2-scaled-requires-2 c κs = search needs
 
 returns-3 : tie.Need-returns-3
-unfolding ofBits div
-returns-3 c = endless (c .before .before .before .args .x) (c .before .if2 .taken) (c .if3 .left)
+returns-3 c =
+    let r = c .pow2-scaled2 in
+    let w = c .before .nearest-u64-to-f64 in
+    let s = c .before .before .root-digits in
+    let d = c .before .before .before in
+    let n = d .truncating-f64-to-u64 in
+    let y = d .before .pow2-scaled in
+    let b = d .before .before .binary-exponent in
+    step-r (here (d .before .before .before .before .before .before)) (b .result) (b .ok) (b .ensures) (y .result) (y .ensures) (n .result) (n .ensures) (w .result) (w .ensures ∙ ap (λ (k : ℕ). ofInt binary64 (pos k)) (s .ensures)) (r .result) (r .ensures)
 
 returns-4 : tie.Need-returns-4
+unfolding ofBits div
+returns-4 c = endless (c .before .before .before .args .x) (c .before .if2 .taken) (c .if3 .left)
+
+returns-5 : tie.Need-returns-5
 unfolding ofBits
-returns-4 c = other (c .before .before .args .x) (c .before .if1 .left) (c .if2 .left)
+returns-5 c = other (c .before .before .args .x) (c .before .if1 .left) (c .if2 .left)
 
 pub sqrt-spec : {M : Type 1} → statement M
 sqrt-spec =
     tie.close
-    (tie.spec returns binary-exponent-requires sub-pow2-scaled sub-pow2-scaled-2 pow2-scaled-requires truncating-f64-to-u64-requires near-root-requires sub-rounded-root rounded-root-requires returns-2 returns-3 returns-4)
+    (tie.spec
+    returns
+    near-root-requires
+    is-root-requires
+    returns-2
+    binary-exponent-requires
+    sub-pow2-scaled
+    sub-pow2-scaled-2
+    pow2-scaled-requires
+    truncating-f64-to-u64-requires
+    root-digits-requires
+    nearest-u64-to-f64-requires
+    sub-pow2-scaled-3
+    pow2-scaled-requires-2
+    returns-3
+    returns-4
+    returns-5)

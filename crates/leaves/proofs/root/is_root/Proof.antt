@@ -1,0 +1,94 @@
+-- `leaves::root::is_root` meets its contract: where all tests hold, `root-is` says it.
+use mathlib.Core.Path.{_≡_, refl, sym, subst}
+use Prim.Native.Nat.{ℕ, suc, _+_, _-_, _*_, _/_, _%_, _≤_, _<_}
+use native.Mathlib.Nat.{mul-le-mul-left, sub-le}
+use native.Mathlib.Omega.{arith}
+use mathlib.Core.Bool.{true, false}
+use lib.Dec.{T}
+use lib.IntN.{pos}
+use lib.Ieee.{Float, fin, binary64, fits, toBits, ofBits, ofInt}
+use lib.Ieee.Bits.{toBits-lt}
+use mir.Facts.{fits-below}
+use borrow.Author.Needs.{needs}
+use Rattle.leaves.specs.Root.{sticky, sqrt}
+use Rattle.leaves.proofs.Zero.{no}
+use Rattle.leaves.proofs.Guessed.{above-number}
+use Rattle.leaves.proofs.Sqrts.{M-lt, radicand-is, radicand-in}
+use Rattle.leaves.proofs.RootBits.{Place, at, place-of, radicand-bits, root-is}
+use Rattle.leaves.proofs.root.is_root.Statement.{statement}
+use Rattle.leaves.proofs.root.is_root.Tie as tie
+
+-- n and p, by the bits of x and of the guess
+abbrev field : ℕ → ℕ
+field b = b / 4503599627370496
+
+abbrev digits : ℕ → ℕ
+digits b = b % 4503599627370496 + 4503599627370496
+
+few : (a t : ℕ) → a < 4503599627370496 → (a + 4503599627370496) * (2 - t) ≤ 18014398509481982
+few a t h = let m = mul-le-mul-left (a + 4503599627370496) (sub-le 2 t) in omega (arith, m, h)
+
+n-in : {x : Float} → Place x → 0 < field (toBits binary64 x) → (4503599627370496 ≤ digits (toBits binary64 x) * (2 - field (toBits binary64 x) % 2)) × (digits (toBits binary64 x) * (2 - field (toBits binary64 x) % 2) < 18014398509481984)
+n-in (at m e r) h =
+    let b = toBits binary64 (fin false (suc m) e) in
+    let i = radicand-bits m e r b refl h in
+    (omega (arith, i, radicand-in m e r, radicand-is m e r), omega (arith, i, M-lt m e r))
+
+is-root : {x : Float} → Place x → (y : Float) → fits binary64 y ≡ true → 0 < field (toBits binary64 x) → field (toBits binary64 y) ≡ (field (toBits binary64 x) + 1023) / 2
+    → (4503599627370496 ≤ digits (toBits binary64 y)) × (digits (toBits binary64 y) < 9007199254740992)
+    × (ofInt binary64 (pos (8 * digits (toBits binary64 y))) ≡ ofInt binary64 (pos (sticky (digits (toBits binary64 x) * (2 - field (toBits binary64 x) % 2) * 72057594037927936))))
+    → y ≡ sqrt x
+is-root (at m e r) y t h f s =
+    root-is m e r (toBits binary64 (fin false (suc m) e)) refl h (digits (toBits binary64 y)) (s .0, s .1) (s .2) y (subst T (sym t) tt) (toBits binary64 y) refl f refl
+
+here : (c : tie.Start) → Place (c .args .x)
+here c = place-of (c .args .x) (c .good .0 .1) (c .pre .0) (c .pre .1)
+
+float-to-bits-b : tie.Need-float-to-bits-b
+float-to-bits-b c = above-number _ (c .before .pre .0)
+
+float-to-bits-g : tie.Need-float-to-bits-g
+unfolding ofBits
+float-to-bits-g c = above-number _ (c .if1 .taken)
+
+add-if3 : tie.Need-add-if3
+add-if3 c = let a = c .before .before in fits-below {n = 5119} tt (omega (arith, toBits-lt binary64 (a .args .x) (subst T (sym (a .good .0 .1)) tt)))
+
+add-n : tie.Need-add-n
+add-n c = search needs
+
+sub-n : tie.Need-sub-n
+sub-n c = search needs
+
+mul-n : tie.Need-mul-n
+mul-n c = fits-below {n = 18014398509481982} tt (few _ _ (omega arith))
+
+add-is-nearest : tie.Need-add-is-nearest
+add-is-nearest c = search needs
+
+is-nearest-requires : tie.Need-is-nearest-requires
+is-nearest-requires c κs = n-in (here (c .before .before .before)) (c .before .if2 .taken)
+
+returns : tie.Need-returns
+returns c =
+    λ h.
+    let k = c .before in
+    let a = k .before .before .before .before in
+    is-root (here a) (a .args .guess) (a .good .1 .0 .1) (k .before .before .if2 .taken) (k .before .if3 .taken) (k .is-nearest .ensures (c .if4 .taken))
+
+returns-2 : tie.Need-returns-2
+returns-2 c = λ h. no h refl
+
+returns-3 : tie.Need-returns-3
+returns-3 c = λ h. no h refl
+
+returns-4 : tie.Need-returns-4
+returns-4 c = λ h. no h refl
+
+returns-5 : tie.Need-returns-5
+returns-5 c = λ h. no h refl
+
+pub is-root-spec : {M : Type 1} → statement M
+is-root-spec =
+    tie.close
+    (tie.spec float-to-bits-b float-to-bits-g add-if3 add-n sub-n mul-n add-is-nearest is-nearest-requires returns returns-2 returns-3 returns-4 returns-5)
