@@ -1,7 +1,6 @@
 // The float leaves of document 01: each is equal, for every input, to a definition of specs/.
 pub mod exponential;
 pub mod numbers;
-mod parts;
 pub mod root;
 pub mod scaling;
 pub mod sums;

@@ -6,7 +6,6 @@ ghost use lib.IntN.{pos};
 ghost use lib.Ieee.{binary64, inf, lt, ofInt};
 ghost use Rattle.leaves.specs.Numbers.{zero⁺};
 ghost use Rattle.leaves.specs.Root as Root;
-use crate::parts;
 use crate::scaling::binary_exponent;
 use crate::scaling::pow2_scaled;
 
@@ -22,9 +21,9 @@ fn near_root(x: f64) -> f64 {
         let z = f64::from_bits(digits + 0x4180_0000_0000_0000);
         let power = bits / 0x20_0000_0000_0000 % 1024 + 0x1f3;
         let scale = f64::from_bits(power * 0x10_0000_0000_0000);
-        let r = f64::from_bits(parts::root(i));
-        let y = f64::from_bits(parts::half_reciprocal(i));
-        let d = z - f64::from_bits(parts::square(i));
+        let r = f64::from_bits(squares::root(i));
+        let y = f64::from_bits(squares::half_reciprocal(i));
+        let d = z - f64::from_bits(squares::square(i));
         let v = d * (y * y);
         let u = v * v;
         let low = (1.0 - v) + u * (2.0 - 5.0 * v);

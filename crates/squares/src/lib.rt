@@ -4,7 +4,7 @@
 // anew at each call. Nothing is promised of the values but that they are numbers: the guess is tested.
 ghost use Prim.Native.Nat.{_<_};
 
-pub(crate) fn root(i: u64) -> u64
+pub fn root(i: u64) -> u64
     ensures { λ r. ⌜ r < 9218868437227405312 ⌝ }
 {
     match i {
@@ -140,7 +140,7 @@ pub(crate) fn root(i: u64) -> u64
     }
 }
 
-pub(crate) fn square(i: u64) -> u64
+pub fn square(i: u64) -> u64
     ensures { λ r. ⌜ r < 9218868437227405312 ⌝ }
 {
     match i {
@@ -276,7 +276,7 @@ pub(crate) fn square(i: u64) -> u64
     }
 }
 
-pub(crate) fn half_reciprocal(i: u64) -> u64
+pub fn half_reciprocal(i: u64) -> u64
     ensures { λ r. ⌜ r < 9218868437227405312 ⌝ }
 {
     match i {
