@@ -24,11 +24,13 @@ fn near_root(x: f64) -> f64 {
         let r = f64::from_bits(squares::root(i));
         let y = f64::from_bits(squares::half_reciprocal(i));
         let d = z - f64::from_bits(squares::square(i));
+        let w = d * (y * scale);
         let v = d * (y * y);
         let u = v * v;
-        let low = (1.0 - v) + u * (2.0 - 5.0 * v);
+        let t = w * u;
+        let low = (w - w * v) + t * (2.0 - 5.0 * v);
         let high = 132.0 * u - (42.0 * v - 14.0);
-        return r * scale + d * (y * scale) * (low + (u * u) * high);
+        return r * scale + (low + t * u * high);
     }
     x
 }
