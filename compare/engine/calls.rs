@@ -33,40 +33,31 @@ unsafe extern "C" {
         numbers: *mut [f64; 2],
         wholes: *mut [usize; 2],
     ) -> u32;
-    fn engine_weighted_mean(
-        returns: *const f64,
-        returns_len: usize,
-        assets: usize,
-        periods: usize,
-        half_life: f64,
-        answer: *mut f64,
-        answer_len: usize,
-        numbers: *mut [f64; 2],
-        wholes: *mut [usize; 2],
-    ) -> u32;
-    fn engine_james_stein_mean(
-        returns: *const f64,
-        returns_len: usize,
-        assets: usize,
-        periods: usize,
-        limit: usize,
-        answer: *mut f64,
-        answer_len: usize,
-        numbers: *mut [f64; 2],
-        wholes: *mut [usize; 2],
-    ) -> u32;
-    fn engine_bayes_stein_mean(
-        returns: *const f64,
-        returns_len: usize,
-        assets: usize,
-        periods: usize,
-        limit: usize,
-        answer: *mut f64,
-        answer_len: usize,
-        numbers: *mut [f64; 2],
-        wholes: *mut [usize; 2],
-    ) -> u32;
 }
+
+// The three means, which differ in the setting that they take.
+macro_rules! means {
+    ($($name:ident($setting:ty)),*) => {
+        unsafe extern "C" {
+            $(fn $name(
+                returns: *const f64,
+                returns_len: usize,
+                assets: usize,
+                periods: usize,
+                setting: $setting,
+                answer: *mut f64,
+                answer_len: usize,
+                numbers: *mut [f64; 2],
+                wholes: *mut [usize; 2],
+            ) -> u32;)*
+        }
+    };
+}
+means!(
+    engine_weighted_mean(f64),
+    engine_james_stein_mean(usize),
+    engine_bayes_stein_mean(usize)
+);
 
 /// What the call reports, and the whole answer slice after it.
 pub fn answered(input: &Input) -> (Flat, Vec<f64>) {
@@ -78,6 +69,23 @@ pub fn answered(input: &Input) -> (Flat, Vec<f64>) {
 /// The call that the input names, on this answer slice.
 pub fn answer_into(input: &Input, answer: &mut [f64]) -> Flat {
     let Input { returns, n, t, .. } = input;
+    macro_rules! mean {
+        ($call:ident, $setting:expr) => {
+            reported(|numbers, wholes| unsafe {
+                $call(
+                    returns.as_ptr(),
+                    returns.len(),
+                    *n,
+                    *t,
+                    $setting,
+                    answer.as_mut_ptr(),
+                    answer.len(),
+                    numbers,
+                    wholes,
+                )
+            })
+        };
+    }
     match &input.call {
         Call::AdjustedCovariance {
             settings,
@@ -91,45 +99,9 @@ pub fn answer_into(input: &Input, answer: &mut [f64]) -> Flat {
             answer,
         ),
         Call::LedoitWolf(target) => ledoit_wolf(returns, (*n, *t), flat_target(*target)),
-        Call::ExponentiallyWeightedMean { half_life } => reported(|numbers, wholes| unsafe {
-            engine_weighted_mean(
-                returns.as_ptr(),
-                returns.len(),
-                *n,
-                *t,
-                *half_life,
-                answer.as_mut_ptr(),
-                answer.len(),
-                numbers,
-                wholes,
-            )
-        }),
-        Call::JamesSteinMean { limit } => reported(|numbers, wholes| unsafe {
-            engine_james_stein_mean(
-                returns.as_ptr(),
-                returns.len(),
-                *n,
-                *t,
-                *limit,
-                answer.as_mut_ptr(),
-                answer.len(),
-                numbers,
-                wholes,
-            )
-        }),
-        Call::BayesSteinMean { limit } => reported(|numbers, wholes| unsafe {
-            engine_bayes_stein_mean(
-                returns.as_ptr(),
-                returns.len(),
-                *n,
-                *t,
-                *limit,
-                answer.as_mut_ptr(),
-                answer.len(),
-                numbers,
-                wholes,
-            )
-        }),
+        Call::ExponentiallyWeightedMean { half_life } => mean!(engine_weighted_mean, *half_life),
+        Call::JamesSteinMean { limit } => mean!(engine_james_stein_mean, *limit),
+        Call::BayesSteinMean { limit } => mean!(engine_bayes_stein_mean, *limit),
     }
 }
 
