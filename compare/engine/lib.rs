@@ -1,4 +1,4 @@
-// The engine's exports, from its static library, as functions over slices. A slice crosses as a
+// The engine's exports, from its static libraries, as functions over slices. A slice crosses as a
 // pointer and then a length.
 
 pub mod calls;

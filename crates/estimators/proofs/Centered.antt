@@ -22,7 +22,7 @@ use Rattle.estimators.specs.declared.Target.the-variants.{ConstantVarian
 use Rattle.estimators.specs.declared.rows.Row.the-variants.{Deviation, Scaled}
 use Rattle.estimators.proofs.Stored.{tab-nth}
 use Rattle.estimators.proofs.Entries.{sum-over-ext, stored}
-use Rattle.estimators.proofs.Halves.{product-comm}
+use Rattle.leaves.proofs.Commutative.{product-comm}
 use Rattle.estimators.proofs.Samples.{unit-none}
 use Rattle.estimators.proofs.Largest.{amax-columns}
 

@@ -1,17 +1,18 @@
 -- Laws of the tables of which half is summed up and mirrored: products commute. Assumes nothing.
-use mathlib.Core.Path.{_≡_, refl, ap, ap₂, _∙_}
+use mathlib.Core.Path.{_≡_, refl, ap, _∙_}
 use mathlib.Core.Bool.{Bool, true, false, cond}
 use mathlib.Core.List.{List}
 use Prim.Native.Nat.{ℕ, _*_, _/_, _%_, _≤_, _<_}
-use native.Mathlib.Nat.{mul-comm, le-trans}
+use native.Mathlib.Nat.{le-trans}
 use native.Mathlib.Omega.{arith}
-use lib.Dec.{eqb, ltb}
-use lib.Ieee.{Float, Format, nan, inf, fin, binary64, up, down, unlike, round, mul}
+use lib.Dec.{ltb}
+use lib.Ieee.{Float}
 use borrow.Author.Tests.{ltb-true, ltb-false}
 use Rattle.leaves.specs.Numbers.{_⊖_, _⊗_, _⊘_, zero⁺, count}
 use Rattle.leaves.specs.Loops.{loop, sumTo, tab, nth}
 use Rattle.matrix.specs.Matrix.{Matrix, at, rows}
 use Rattle.leaves.proofs.Loops.{sum-ext}
+use Rattle.leaves.proofs.Commutative.{product-comm}
 use Rattle.matrix.proofs.Stored.{rows-at, rows-ext}
 use Rattle.estimators.specs.Sample.{gram}
 use Rattle.estimators.specs.LedoitWolf.{variation, covariation}
@@ -21,28 +22,6 @@ use Rattle.estimators.specs.declared.tables.Term.the-variants.{Product, 
 use Rattle.estimators.proofs.Stored.{tab-then}
 use Rattle.estimators.proofs.Sums.{summed, start-low, whole-sum}
 use Rattle.estimators.proofs.Mirror.{mirrored}
-
--- ---- a product commutes
-
-unlike-comm : (s t : Bool) → unlike s t ≡ unlike t s
-unlike-comm true true = refl
-unlike-comm true false = refl
-unlike-comm false true = refl
-unlike-comm false false = refl
-
-pub product-comm : (x y : Float) → x ⊗ y ≡ y ⊗ x
-unfolding mul
-product-comm nan nan = refl
-product-comm nan (inf t) = refl
-product-comm nan (fin t n d) = refl
-product-comm (inf s) nan = refl
-product-comm (inf s) (inf t) = ap inf (unlike-comm s t)
-product-comm (inf s) (fin t n d) = ap (λ (z : Bool). cond (eqb n 0) nan (inf z)) (unlike-comm s t)
-product-comm (fin s m e) nan = refl
-product-comm (fin s m e) (inf t) = ap (λ (z : Bool). cond (eqb m 0) nan (inf z)) (unlike-comm s t)
-product-comm (fin s m e) (fin t n d) =
-    ap (λ (z : Bool). round binary64 z (m * up e * (n * up d)) (down e * down d)) (unlike-comm s t)
-    ∙ ap₂ (λ (a c : ℕ). round binary64 (unlike t s) a c) (mul-comm (m * up e) (n * up d)) (mul-comm (down e) (down d))
 
 -- ---- half of a table
 

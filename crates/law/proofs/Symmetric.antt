@@ -13,7 +13,7 @@ use Rattle.estimators.specs.Semi.{semicovariance, semicovarianceBelow}
 use Rattle.estimators.specs.Adjusted.{isGiven, base}
 use Rattle.estimators.specs.declared.Estimate.{Estimate}
 use Rattle.estimators.specs.declared.Estimate.the-variants.{Sample, Given, Weighted, Semi, SemiBelow}
-use Rattle.estimators.proofs.Halves.{product-comm}
+use Rattle.leaves.proofs.Commutative.{product-comm}
 
 pub gram-symmetric : (P : ℕ) (x : Matrix) (i j : ℕ) → gram P x i j ≡ gram P x j i
 unfolding gram

@@ -1,4 +1,4 @@
--- `capi::jacobi::matrix_decompose` meets its contract: the first test that fails returns 2, and past all five `decompose` is called.
+-- `parts::jacobi::matrix_decompose` meets its contract: the first test that fails returns 2, and past all five `decompose` is called.
 use mathlib.Core.Path.{_≡_, refl}
 use mathlib.Core.Bool.{true, false, cond}
 use mathlib.Core.List.{List, [], _∷_}
@@ -12,9 +12,9 @@ use lib.Ieee.{Float}
 use Rattle.matrix.specs.Limits.{maxSide, maxSweeps}
 use Rattle.matrix.specs.Matrix.{at}
 use Rattle.matrix.specs.Jacobi.{Decomposition, decompose}
-use Rattle.capi.specs.Jacobi.{left, fits, matrixDecompose}
-use Rattle.capi.proofs.jacobi.matrix_decompose.Statement.{statement}
-use Rattle.capi.proofs.jacobi.matrix_decompose.Tie as tie
+use Rattle.parts.specs.Jacobi.{left, fits, matrixDecompose}
+use Rattle.parts.proofs.jacobi.matrix_decompose.Statement.{statement}
+use Rattle.parts.proofs.jacobi.matrix_decompose.Tie as tie
 
 module _ (a : List Float) (n limit : ℕ) (values vectors : List Float) (counts : List ℕ) where
   unfit : fits n limit (length a) (length values) (length vectors) ≡ false → left 2 values vectors counts ≡ matrixDecompose a n limit values vectors counts

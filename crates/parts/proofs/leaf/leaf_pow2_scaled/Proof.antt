@@ -1,10 +1,10 @@
--- `capi::leaf::leaf_pow2_scaled` meets its contract: k is what the machine reads back from its bits.
+-- `parts::leaf::leaf_pow2_scaled` meets its contract: k is what the machine reads back from its bits.
 use mathlib.Core.Path.{ap, _∙_}
 use mir.Facts.{toZ-ofZ}
 use borrow.Author.Needs.{needs}
 use Rattle.leaves.specs.Scaling.{pow2Scaled}
-use Rattle.capi.proofs.leaf.leaf_pow2_scaled.Statement.{statement}
-use Rattle.capi.proofs.leaf.leaf_pow2_scaled.Tie as tie
+use Rattle.parts.proofs.leaf.leaf_pow2_scaled.Statement.{statement}
+use Rattle.parts.proofs.leaf.leaf_pow2_scaled.Tie as tie
 
 pow2-scaled-requires : tie.Need-pow2-scaled-requires
 pow2-scaled-requires c κs = search needs

@@ -1,6 +1,6 @@
 // The decomposition of a symmetric matrix, with C linkage.
 ghost use mathlib.Core.Path.{_≡_};
-ghost use Rattle.capi.specs.Jacobi as Jacobi;
+ghost use Rattle.parts.specs.Jacobi as Jacobi;
 
 // 0: found. 1: not found. 2: the arguments do not fit each other, and nothing is written.
 #[no_mangle]
