@@ -1,3 +1,4 @@
+-- `paper::text::put_digits` meets its contract: the last of the digits that were filled in are those asked for.
 use Rattle.paper.proofs.Digits.{last-digits}
 use mathlib.Core.Path.{_≡_, refl, ap, _∙_}
 use Rattle.paper.specs.Text.{write}
