@@ -1,4 +1,5 @@
--- What stands in each row and column of a stored matrix whose columns, or rows, p and q are turned (`columns-at`, `turned-rows-at`). Assumes nothing.
+-- What stands in each row and column of a stored matrix whose columns p and q are replaced (`rows-all`) or turned (`columns-at`), or whose rows are turned (`turned-rows-at`).
+-- Assumes nothing.
 use mathlib.Core.Path.{_≡_, refl, sym, ap, _∙_}
 use mathlib.Core.Logic.{_⊎_, inl, inr, _≢_}
 use mathlib.Core.Bool.{Bool, true, false, cond}
@@ -63,14 +64,14 @@ module _ (n p q : ℕ) (pq : p < q) (qn : q < n) where
     other-put : (k j : ℕ) → j < n → k ≢ i → at put-row n k j ≡ at v n k j
     other-put k j hj d = looked (k * n + j) ∙ rw (ne-eqb (k * n + j) (i * n + p) (λ e. d (same-row n i k j p hj (lt-trans pq qn) e)), ne-eqb (k * n + j) (i * n + q) (λ e. d (same-row n i k j q hj qn e)))
 
-  -- in each row k of v₀, X and Y of the list as it stands; in the rows below m so far
+  -- X and Y put into the rows below m of v₀, each computed from the list as it then stands
   module _ (v₀ : List Float) (X Y : List Float → ℕ → Float) where
     pub record Rows (m : ℕ) (v : List Float) : Type 0 where
       pub len : length v ≡ n * n
       pub done : (k j : ℕ) → k < n → j < n → k < m → at v n k j ≡ cond (eqb j p) (X v₀ k) (cond (eqb j q) (Y v₀ k) (at v₀ n k j))
       pub left : (k j : ℕ) → k < n → j < n → m ≤ k → at v n k j ≡ at v₀ n k j
 
-    -- what a row is given does not depend on the rows before it
+    -- what a row gets does not depend on the rows before it
     module _ (kept : (m : ℕ) (v : List Float) → m < n → Rows m v → (X v m ≡ X v₀ m) × (Y v m ≡ Y v₀ m)) where
       abbrev put : ℕ → List Float → List Float
       put k v = set (set v (k * n + p) (X v k)) (k * n + q) (Y v k)
