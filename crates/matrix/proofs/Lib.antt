@@ -16,6 +16,7 @@ pub mod Rows
 pub mod Cells
 pub mod Vectors
 pub mod Identity
--- one rotation, and V stored column by column
+-- one rotation, with V stored column by column and A symmetric
 pub mod Rotated
 pub mod Flip
+pub mod Symmetry

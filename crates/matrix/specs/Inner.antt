@@ -1,10 +1,12 @@
 -- Records put together from their parts, as contracts name them, and what only the contracts of private functions cite. Definitions only.
-use Prim.Native.Nat.{ℕ, suc, _+_, _*_}
+use Prim.Native.Nat.{ℕ, suc, _+_, _*_, _<_}
+use mathlib.Core.Path.{_≡_}
 use mathlib.Core.Bool.{Bool, true, false, cond}
 use mathlib.Core.List.{List}
+use lib.Dec.{eqb}
 use lib.ListN.{set}
 use lib.Ieee.{Float}
-use Rattle.leaves.specs.Numbers.{_⊕_, zero⁺}
+use Rattle.leaves.specs.Numbers.{_⊕_, _⊖_, _⊗_, zero⁺}
 use Rattle.leaves.specs.Loops.{loop}
 use Rattle.matrix.specs.Matrix.{Matrix, at, rows, transpose}
 use Rattle.matrix.specs.Rotation.{State, turnColumns, turnRows}
@@ -37,3 +39,16 @@ sumRow n keep f i = loop n (addKept keep f i)
 -- JᵀAJ with 0 where p and q meet
 abbrev pub turnedBoth : ℕ → ℕ → ℕ → Float → Float → List Float → List Float
 turnedBoth n p q c s a = set (set (turnRows n p q c s (turnColumns n p q c s a)) (p * n + q) zero⁺) (q * n + p) zero⁺
+
+-- a square matrix, stored row by row, that is its transpose to the last bit
+abbrev pub Symmetric : ℕ → List Float → Type 0
+Symmetric n a = (i j : ℕ) → i < n → j < n → at a n i j ≡ at a n j i
+
+-- where rows and columns p and q meet: the columns turned, with 0 off the diagonal
+abbrev pub turnedBlock : ℕ → ℕ → ℕ → Float → Float → List Float → List Float
+turnedBlock n p q c s a =
+    set (set (set (set a (p * n + p) (c ⊗ at a n p p ⊖ s ⊗ at a n p q)) (q * n + q) (s ⊗ at a n q p ⊕ c ⊗ at a n q q)) (p * n + q) zero⁺) (q * n + p) zero⁺
+
+-- rows p and q copied to the columns p and q
+abbrev pub mirrored : ℕ → ℕ → ℕ → List Float → Matrix
+mirrored n p q a i j = cond (eqb j p) (at a n p i) (cond (eqb j q) (at a n q i) (at a n i j))

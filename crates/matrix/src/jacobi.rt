@@ -12,7 +12,7 @@ ghost use Rattle.matrix.specs.Matrix as Matrix;
 ghost use Rattle.matrix.specs.Matrix.{at, allFinite};
 ghost use Rattle.matrix.specs.Rotation as Rotation;
 ghost use Rattle.matrix.specs.Jacobi as Jacobi;
-ghost use Rattle.matrix.specs.Inner.{state, counted, sweptTo, decomposed, byColumns};
+ghost use Rattle.matrix.specs.Inner.{state, counted, sweptTo, decomposed, byColumns, Symmetric};
 use crate::by_columns::rotate;
 use crate::entries::amax;
 use crate::entries::get;
@@ -32,7 +32,7 @@ fn count(turned: bool, rotations: usize) -> usize
 
 // Row p of a sweep. The number of rotations made.
 fn sweep_row(a: &mut [f64], v: &mut [f64], n: usize, p: usize) -> usize
-    requires { ⌜ (p < n) × (n ≤ maxSide) × (length (now a) ≡ n * n) × (length (now v) ≡ n * n) ⌝ }
+    requires { ⌜ (p < n) × (n ≤ maxSide) × (length (now a) ≡ n * n) × (length (now v) ≡ n * n) × Symmetric n (now a) ⌝ }
     ensures { λ r. ⌜ ((k : ℕ) → state (now (a .exit)) (byColumns n (now (v .exit))) (k + r) ≡ loop (n - suc p) (λ (j : ℕ). Rotation.rotate n p (suc p + j)) (state (now (a .entry)) (byColumns n (now (v .entry))) k)) ⌝ }
 {
     let from = p + 1;
@@ -49,7 +49,7 @@ fn sweep_row(a: &mut [f64], v: &mut [f64], n: usize, p: usize) -> usize
 
 // Every p and q > p, row by row. The number of rotations made.
 fn sweep(a: &mut [f64], v: &mut [f64], n: usize) -> usize
-    requires { ⌜ (n ≤ maxSide) × (length (now a) ≡ n * n) × (length (now v) ≡ n * n) ⌝ }
+    requires { ⌜ (n ≤ maxSide) × (length (now a) ≡ n * n) × (length (now v) ≡ n * n) × Symmetric n (now a) ⌝ }
     ensures { λ r. ⌜ ((k : ℕ) → state (now (a .exit)) (byColumns n (now (v .exit))) (k + r) ≡ Jacobi.sweep n (state (now (a .entry)) (byColumns n (now (v .entry))) k)) ⌝ }
 {
     let mut rotations = 0;
@@ -69,7 +69,7 @@ pub struct Outcome {
 
 // Sweeps until the numbers off the diagonal are small, at most `limit` times.
 fn sweeping(a: &mut [f64], v: &mut [f64], n: usize, limit: usize, tolerance: f64) -> Outcome
-    requires { ⌜ (n ≤ maxSide) × (limit ≤ maxSweeps) × (length (now a) ≡ n * n) × (length (now v) ≡ n * n) ⌝ }
+    requires { ⌜ (n ≤ maxSide) × (limit ≤ maxSweeps) × (length (now a) ≡ n * n) × (length (now v) ≡ n * n) × Symmetric n (now a) ⌝ }
     ensures { λ r. ⌜ sweptTo (r .found) (r .sweeps) (state (now (a .exit)) (byColumns n (now (v .exit))) (r .rotations)) ≡ Jacobi.sweeping limit n tolerance (state (now (a .entry)) (byColumns n (now (v .entry))) 0) ⌝ }
 {
     let mut rotations = 0;

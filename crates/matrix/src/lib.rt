@@ -5,6 +5,7 @@ pub mod jacobi;
 pub mod places;
 pub mod rotation;
 pub mod sums;
+mod symmetric;
 pub mod tables;
 
 // Document 01's largest side of a matrix and largest sweep limit.

@@ -31,8 +31,8 @@ tangent-at-requires c κs = search needs
 sqrt-requires : tie.Need-sqrt-requires
 sqrt-requires c κs = search needs
 
-turn-both-requires : tie.Need-turn-both-requires
-turn-both-requires c κs = search needs
+turn-symmetric-requires : tie.Need-turn-symmetric-requires
+turn-symmetric-requires c κs = search needs
 
 turn-rows-requires : tie.Need-turn-rows-requires
 turn-rows-requires c κs = search needs
@@ -50,8 +50,8 @@ returns-2 c =
     let d = c .before .before .before .before .before .before in
     let b = d .before .before .before .before .before in
     let g = b .before .before .before .before .before in
-    made _ _ _ _ _ _ (b .before .get .ensures) k (b .if1 .left) (d .before .before .before .tangent-at .ensures) (d .before .before .sqrt .ensures) (d .turn-both .ensures)
+    made _ _ _ _ _ _ (b .before .get .ensures) k (b .if1 .left) (d .before .before .before .tangent-at .ensures) (d .before .before .sqrt .ensures) (d .turn-symmetric .ensures)
     (columns _ _ _ _ _ _ (g .pre .0) (g .pre .1) (g .pre .3) (c .before .before .turn-rows .ensures))
 
 pub rotate-spec : {M : Type 1} → statement M
-rotate-spec = tie.close (tie.spec get-requires same-length returns tangent-at-requires sqrt-requires turn-both-requires turn-rows-requires same-length-2 same-length-3 returns-2)
+rotate-spec = tie.close (tie.spec get-requires same-length returns tangent-at-requires sqrt-requires turn-symmetric-requires turn-rows-requires same-length-2 same-length-3 returns-2)

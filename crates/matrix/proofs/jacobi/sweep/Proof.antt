@@ -12,6 +12,7 @@ use Rattle.matrix.specs.Rotation.{rotate}
 use Rattle.matrix.specs.Jacobi.{sweep}
 use Rattle.matrix.specs.Inner.{state, byColumns}
 use Rattle.matrix.proofs.Counts.{places, places-most, row-count, rows-count}
+use Rattle.matrix.proofs.Symmetry.{rows-symmetric}
 use Rattle.matrix.proofs.jacobi.sweep.Statement.{statement}
 use Rattle.matrix.proofs.jacobi.sweep.Tie as tie
 
@@ -29,7 +30,10 @@ loop-holds : tie.Need-loop-holds Inv-loop μ-loop
 loop-holds c = (omega arith, refl, refl, λ k. ap (state _ _) (add-zero k) ∙ loop-start _ _)
 
 sweep-row-requires : tie.Need-sweep-row-requires Inv-loop μ-loop
-sweep-row-requires c κs = search needs
+sweep-row-requires c κs =
+    let l = c .before .before .before in
+    let i = l .before .before .before in
+    (omega arith, i .pre .0, search needs, search needs, rows-symmetric _ _ _ (i .pre .1) (i .pre .3) _ (l .loop .inv .3 0))
 
 add-rotations : tie.Need-add-rotations Inv-loop μ-loop
 add-rotations c = let l = c .before .before .before .before .before .before .before .before in omega (arith, room _ _ _ _ (c .before .before .before .before .before .before .before .loop-test .taken) (c .before .before .before .before .before .before .before .before .before .before .before .pre .0) (rows-count _ _ _ _ (l .loop .inv .3 0)) (row-count _ _ _ _ _ (c .before .before .before .before .sweep-row .ensures 0) (le-refl _)))

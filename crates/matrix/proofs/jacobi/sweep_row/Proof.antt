@@ -13,6 +13,7 @@ use Rattle.leaves.proofs.Loops.{loop-start, loop-turn, loop-end}
 use Rattle.matrix.specs.Rotation.{rotate}
 use Rattle.matrix.specs.Inner.{state, counted, byColumns}
 use Rattle.matrix.proofs.Counts.{row-count}
+use Rattle.matrix.proofs.Symmetry.{row-symmetric}
 use Rattle.matrix.proofs.jacobi.sweep_row.Statement.{statement}
 use Rattle.matrix.proofs.jacobi.sweep_row.Tie as tie
 
@@ -46,7 +47,10 @@ add-rotate : tie.Need-add-rotate Inv-loop μ-loop
 add-rotate c = search needs
 
 rotate-requires : tie.Need-rotate-requires Inv-loop μ-loop
-rotate-requires c κs = search needs
+rotate-requires c κs =
+    let l = c .before .before .before in
+    let i = l .before .before .before in
+    (omega arith, omega arith, search needs, search needs, row-symmetric _ _ _ (i .pre .2) (i .pre .4) _ _ (l .loop .inv .3 0) (omega arith))
 
 count-requires : tie.Need-count-requires Inv-loop μ-loop
 count-requires c κs = omega (arith, row-count _ _ _ _ _ (c .before .before .before .before .before .before .before .before .loop .inv .3 0) (omega arith))

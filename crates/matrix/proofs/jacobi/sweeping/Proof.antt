@@ -20,6 +20,7 @@ use Rattle.matrix.specs.Inner.{state, sweptTo, byColumns}
 use Rattle.matrix.proofs.First.{first-none, first-more, first-at}
 use Rattle.matrix.proofs.Counts.{pairs, pairs-most, sweep-count, sweeps-count}
 use Rattle.matrix.proofs.Sweeps.{stopping, sweptBy, sweeping-is}
+use Rattle.matrix.proofs.Symmetry.{sweeps-symmetric}
 use Rattle.matrix.proofs.Compare.{nan-yes, nan-no}
 use Rattle.matrix.proofs.jacobi.sweeping.Statement.{statement}
 use Rattle.matrix.proofs.jacobi.sweeping.Tie as tie
@@ -105,7 +106,10 @@ unfolding ofBits
 returns-2 c = let i = c .before .before .before .before .before .before .loop .inv in stopped _ _ _ _ _ _ converged (i .3) (i .4) (c .before .before .before .before .before .loop-test .taken) (test-converged _ _ _ (c .before .before .before .off-diagonal .ensures) (c .before .before .if1 .left) (c .before .sqrt .ensures) (c .if2 .taken)) refl
 
 sweep-requires : tie.Need-sweep-requires Inv-loop μ-loop
-sweep-requires c κs = search needs
+sweep-requires c κs =
+    let l = c .before .before .before .before .before .before .before .before in
+    let i = l .before .before .before in
+    (i .pre .0, search needs, search needs, sweeps-symmetric _ _ _ (i .pre .2) (i .pre .4) _ (l .loop .inv .3))
 
 add-rotations : tie.Need-add-rotations Inv-loop μ-loop
 add-rotations c = let l = c .before .before .before .before .before .before .before .before .before .before .before .before .before .loop in omega (arith, room _ _ _ _ (c .before .before .before .before .before .before .before .before .before .before .before .before .before .before .before .before .pre .0) (omega arith) (sweeps-count _ _ _ _ (ap (state _ _) (zero-add _) ∙ l .inv .3)) (sweep-count _ _ _ (c .before .before .before .before .sweep .ensures 0)))

@@ -1,5 +1,5 @@
 -- `matrix::jacobi::turned` meets its contract: what its calls ensure, put together.
-use mathlib.Core.Path.{_≡_, sym, ap, _∙_}
+use mathlib.Core.Path.{_≡_, sym, ap, _∙_, subst}
 use mathlib.Core.Bool.{Bool, true, false}
 use mathlib.Core.List.{List}
 use Prim.Native.Nat.{ℕ, _+_, _*_, _<_}
@@ -11,9 +11,10 @@ use Rattle.leaves.specs.Loops.{tab}
 use Rattle.leaves.specs.Root.{sqrt}
 use Rattle.matrix.specs.Matrix.{Matrix, at, rows, identity, amax, squares, allFinite}
 use Rattle.matrix.specs.Jacobi.{start, sweeping, swept, scaledBack}
-use Rattle.matrix.specs.Inner.{state, sweptTo, decomposed, byColumns}
+use Rattle.matrix.specs.Inner.{state, sweptTo, decomposed, byColumns, Symmetric}
 use Rattle.matrix.proofs.Identity.{quotients-finite}
 use Rattle.matrix.proofs.Flip.{flip-identity}
+use Rattle.matrix.proofs.Symmetry.{start-symmetric}
 use Rattle.matrix.proofs.jacobi.turned.Statement.{statement}
 use Rattle.matrix.proofs.jacobi.turned.Tie as tie
 
@@ -31,6 +32,9 @@ quotients : (n : ℕ) (scale : Float) (a : Matrix) → ((i j : ℕ) → i < n �
     → (i j : ℕ) → i < n → j < n → T (isFinite (a i j ⊘ scale))
 quotients n scale a fit all es nonzero i j hi hj = rw es (quotients-finite n a fit all (ap (λ (s : Float). eq s zero⁺) (sym es) ∙ nonzero) i j hi hj .1)
 
+begun-symmetric : (n : ℕ) (scale : Float) (a : Matrix) {w : List Float} → w ≡ start n scale a → Symmetric n w
+begun-symmetric n scale a e = subst (Symmetric n) (sym e) (start-symmetric n scale a)
+
 start-requires : tie.Need-start-requires
 start-requires c κs = let s = c .before .before .before .before .before in let n = s .args .n in (s .pre .2, search needs, quotients n (s .args .scale) (at (s .args .a .now) n) (λ i j hi hj. c .before .before .before .before .shared-slice-known .given (i * n + j)) (s .pre .6) (s .pre .7) (s .pre .8))
 
@@ -44,7 +48,10 @@ sqrt-requires : tie.Need-sqrt-requires
 sqrt-requires c κs = search needs
 
 sweeping-requires : tie.Need-sweeping-requires
-sweeping-requires c κs = search needs
+sweeping-requires c κs =
+    let s = c .before .before .before .before .before .before .before .before .before .before .before in
+    let a = s .before .before .before .before .before .before in
+    (a .pre .0, a .pre .1, search needs, search needs, begun-symmetric _ _ _ (s .start .ensures))
 
 put-diagonal-requires : tie.Need-put-diagonal-requires
 put-diagonal-requires c κs = search needs
