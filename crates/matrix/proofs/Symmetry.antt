@@ -1,20 +1,21 @@
 -- A matrix that is symmetric to the last bit stays so in a rotation, a sweep and many (`rotate-symmetric`, `sweeps-symmetric`), and what the sweeps begin with
 -- is symmetric (`start-symmetric`). Its columns need no turn of their own: with the block where they meet turned, rows p and q are copied (`mirrored-both`).
 -- Assumes nothing.
-use mathlib.Core.Path.{_≡_, refl, sym, ap, ap₂, _∙_, subst}
+use mathlib.Core.Path.{_≡_, refl, sym, ap, _∙_, subst}
 use mathlib.Core.Logic.{_⊎_, inl, inr, _≢_}
-use mathlib.Core.Bool.{Bool, true, false, cond, _&&_}
+use mathlib.Core.Bool.{Bool, true, false, cond}
 use mathlib.Core.List.{List}
 use Prim.Native.Nat.{ℕ, suc, _+_, _-_, _*_, _≤_, _<_}
-use native.Mathlib.Nat.{add-comm, mul-comm, lt-trans, le-refl, le-of-lt, ne-of-lt}
+use native.Mathlib.Nat.{lt-trans, le-refl, le-of-lt, ne-of-lt}
 use native.Mathlib.Omega.{arith}
-use lib.Dec.{eqb, ltb}
+use lib.Dec.{eqb}
 use lib.ListN.{length, set, length-set}
-use lib.Ieee.{Float, nan, inf, fin, eq, binary64, up, down, round, sum, add}
-use borrow.Author.Tests.{eqb-true, eqb-false, eq-eqb, ne-eqb, lt-ltb, le-ltb}
+use lib.Ieee.{Float, eq}
+use borrow.Author.Tests.{eqb-true, eqb-false, eq-eqb, ne-eqb}
 use Rattle.leaves.specs.Numbers.{_⊕_, _⊖_, _⊗_, _⊘_, zero⁺, half}
 use Rattle.leaves.specs.Loops.{loop}
 use Rattle.leaves.proofs.Whole.{le-or-lt}
+use Rattle.leaves.proofs.Commutative.{plus-comm}
 use Rattle.leaves.proofs.Loops.{cell}
 use Rattle.matrix.specs.Matrix.{Matrix, at, rows, identity, product, transpose}
 use Rattle.matrix.specs.Rotation.{State, tangent, cotangent, cosine, turnColumns, turnRows, rotated, rotateBy, rotate}
@@ -308,47 +309,6 @@ module _ (n : ℕ) (a₀ v₀ : List Float) {a v : List Float} {r : ℕ} (len : 
   sweeps-symmetric k e = by-end e (sweeps-keep n (Kept n) (rotate-symmetric n) k 0 (state a₀ v₀ 0) (len, same))
 
 -- ---- what the sweeps begin with: a sum commutes
-and-true : (b : Bool) → b && true ≡ b
-and-true true = refl
-and-true false = refl
-
-and-false : (b : Bool) → b && false ≡ false
-and-false true = refl
-and-false false = refl
-
--- of unlike signs
-difference-comm : (s t : Bool) (x y d e : ℕ) → d ≡ e
-    → cond (ltb x y) (round binary64 t (y - x) d) (round binary64 (s && ltb y x) (x - y) d) ≡ cond (ltb y x) (round binary64 s (x - y) e) (round binary64 (t && ltb x y) (y - x) e)
-difference-comm s t x y d e h = go (le-or-lt x y) (le-or-lt y x)
-  where
-    go : (x ≤ y) ⊎ (y < x) → (y ≤ x) ⊎ (x < y)
-        → cond (ltb x y) (round binary64 t (y - x) d) (round binary64 (s && ltb y x) (x - y) d) ≡ cond (ltb y x) (round binary64 s (x - y) e) (round binary64 (t && ltb x y) (y - x) e)
-    go g (inr l) = rw (lt-ltb x y l, le-ltb y x (le-of-lt l), and-true t) (ap (round binary64 t (y - x)) h)
-    go (inr l) (inl k) = rw (lt-ltb y x l, le-ltb x y (le-of-lt l), and-true s) (ap (round binary64 s (x - y)) h)
-    go (inl l) (inl k) = let z : x - y ≡ y - x = omega arith in rw (le-ltb x y k, le-ltb y x l, and-false s, and-false t) (ap₂ (round binary64 false) z h)
-
-sum-comm : (s t : Bool) (x y d e : ℕ) → d ≡ e → sum binary64 s x t y d ≡ sum binary64 t y s x e
-unfolding sum
-sum-comm true true x y d e h = λ i. round binary64 true (add-comm x y i) (h i)
-sum-comm false false x y d e h = λ i. round binary64 false (add-comm x y i) (h i)
-sum-comm true false x y d e h = difference-comm true false x y d e h
-sum-comm false true x y d e h = difference-comm false true x y d e h
-
-pub plus-comm : (x y : Float) → x ⊕ y ≡ y ⊕ x
-unfolding add
-plus-comm nan nan = refl
-plus-comm nan (inf t) = refl
-plus-comm nan (fin t n d) = refl
-plus-comm (inf s) nan = refl
-plus-comm (inf true) (inf true) = refl
-plus-comm (inf true) (inf false) = refl
-plus-comm (inf false) (inf true) = refl
-plus-comm (inf false) (inf false) = refl
-plus-comm (inf s) (fin t n d) = refl
-plus-comm (fin s m e) nan = refl
-plus-comm (fin s m e) (inf t) = refl
-plus-comm (fin s m e) (fin t n d) = sum-comm s t (m * up e * down d) (n * up d * down e) (down e * down d) (down d * down e) (mul-comm (down e) (down d))
-
 pub start-symmetric : (n : ℕ) (scale : Float) (a : Matrix) → Symmetric n (start n scale a)
 unfolding start
 start-symmetric n scale a i j hi hj =
