@@ -12,7 +12,7 @@ use Rattle.leaves.specs.Loops.{nth}
 use Rattle.matrix.specs.Limits.{maxSweeps}
 use Rattle.matrix.specs.Matrix.{Matrix, at, amax}
 use Rattle.matrix.specs.Jacobi.{Decomposition, decompose, unturned}
-use Rattle.matrix.proofs.Sweeps.{larger-limit}
+use Rattle.matrix.proofs.LargerLimit.{larger-limit}
 use Rattle.estimators.specs.Refusals.{Check, passes, when, first}
 use Rattle.estimators.specs.Given.{decomposeGiven}
 use Rattle.estimators.specs.JamesStein.{unevenness, decomposeUneven}

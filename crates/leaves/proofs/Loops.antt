@@ -3,10 +3,10 @@ use mathlib.Core.Path.{_≡_, refl, sym, ap, ap₂, _∙_}
 use mathlib.Core.List.{[], List, _∷_, _++_}
 use mathlib.Core.Option.{Option, none, some}
 use Prim.Native.Nat.{ℕ, zero, suc, _+_, _*_, _/_, _%_, _≤_, _<_, zero-le, suc-le-suc}
-use native.Mathlib.Nat.{lt-suc-self, lt-trans, le-antisymm, suc-mul, mul-le-mul-right, not-suc-le-zero, le-of-suc-le-suc, mul-add-div-right, div-eq-of-lt, add-zero, mul-add-mod-self-right, mod-eq-of-lt, mul-zero, mod-lt, div-lt-iff-lt-mul}
+use native.Mathlib.Nat.{lt-suc-self, lt-trans, le-antisymm, suc-mul, mul-le-mul-right, not-suc-le-zero, le-of-suc-le-suc, mul-add-div-right, div-eq-of-lt, add-zero, mul-add-mod-self-right, mod-eq-of-lt, mul-zero, mod-lt, div-lt-iff-lt-mul, le-step}
 use native.Mathlib.Numerals.{add-one}
 use native.Mathlib.Omega.{arith}
-use mathlib.Core.Bool.{Bool, cond}
+use mathlib.Core.Bool.{Bool, true, false, cond}
 use lib.ListN.{length, getD, set, drop, length-append, length-drop, length-set}
 use lib.Ieee.{Float}
 use Rattle.leaves.specs.Numbers.{_⊕_, zero⁺, abs, larger}
@@ -173,6 +173,17 @@ pub first-ext : (n : ℕ) (f g : ℕ → Bool) → ((k : ℕ) → k < n → f k 
 unfolding firstTo
 first-ext zero f g h = refl
 first-ext (suc n) f g h = ap₂ (pick n) (h n (lt-suc-self n)) (first-ext n f g (λ k l. h k (lt-trans l (lt-suc-self n))))
+
+-- what is found is below the end
+pub first-below : (test : ℕ → Bool) (n k : ℕ) → firstTo n test ≡ some k → k < n
+unfolding firstTo
+first-below test zero k e = let z : _≡_ {A = ℕ} 0 1 = cc in omega arith
+first-below test (suc n) k e = go (firstTo n test) (first-below test n k) (test n) e
+  where
+    go : (o : Option ℕ) → (o ≡ some k → k < n) → (b : Bool) → pick n b o ≡ some k → k < suc n
+    go none h true e = let q : n ≡ k = cc in omega arith
+    go none h false e = let z : _≡_ {A = ℕ} 0 1 = cc in omega arith
+    go (some j) h b e = le-step (h e)
 
 -- a number made for i, at the end
 pub at-end : {A : Type 0} (g : ℕ → A) (i n : ℕ) (s : A) → s ≡ g i → i ≤ n → n ≤ i → s ≡ g n
