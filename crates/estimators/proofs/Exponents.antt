@@ -1,7 +1,7 @@
 -- Sizes of the exponents that the two Stein means add and negate: b(x) of an f64 is at most 1074 in size, and what is made of a few such numbers
 -- is an i32. Assumes nothing.
 use mathlib.Core.Path.{_≡_, sym, _∙_, subst}
-use Prim.Native.Nat.{ℕ, zero, suc, _+_, _-_, _^_, _≤_, _<_}
+use Prim.Native.Nat.{zero, suc, _+_, _-_, _^_, _≤_, _<_}
 use native.Mathlib.Omega.{arith}
 use mathlib.Core.Bool.{true}
 use lib.Dec.{T}
@@ -11,7 +11,8 @@ use mir.Syntax.{w32}
 use mir.Val.{SFits, toZ, ofZ}
 use mir.Facts.{toZ-ofZ}
 use Rattle.leaves.specs.Scaling.{binaryExponent}
-use Rattle.leaves.proofs.Whole.{over, under, one-side, plus, minus, over-neg, under-neg, same, fits-i32}
+use Rattle.leaves.proofs.Whole.{over, under, one-side, plus, minus, over-neg, under-neg, same}
+use Rattle.leaves.proofs.Ints.{fits-i32}
 use Rattle.leaves.proofs.Laws.{fits→room, size-pos}
 use Rattle.estimators.specs.Held.{maxExponent}
 

@@ -21,7 +21,8 @@ use Rattle.leaves.specs.Scaling.{pow2, pow2Scaled}
 use Rattle.leaves.proofs.Whole.{over, under, one-side, plus, minus, same, lt-yes, lt-no, le-or-lt}
 use Rattle.leaves.proofs.Laws.{room→fits, mul-pow2}
 use Rattle.leaves.proofs.Shift.{shift-zero}
-use Rattle.leaves.proofs.Scale.{cut-range, scale-last, scale-step, scaled-exact}
+use Rattle.leaves.proofs.Scale.{cut-range, scale-last, scaled-exact}
+use Rattle.leaves.proofs.ScaleSteps.{scale-step}
 use Rattle.estimators.specs.Held.{maxExponent}
 use Rattle.estimators.specs.Powers.{Factored, Units}
 use Rattle.estimators.proofs.Exponents.{size-is}

@@ -2,53 +2,50 @@
 -- agree one after another, and where all pass every entry is 2 ^ (2k) times the other's. Assumes nothing.
 use mathlib.Core.Path.{_≡_, refl, sym, ap, ap₂, _∙_, subst, subst₂}
 use mathlib.Core.Logic.{_⊎_, inl, inr}
-use Prim.Native.Nat.{ℕ, _+_, _-_, _*_, _/_, _%_, _^_, _≤_, _<_}
-use native.Mathlib.Nat.{le-trans, le-of-eq}
+use Prim.Native.Nat.{ℕ, _+_, _*_, _^_, _≤_, _<_}
 use native.Mathlib.Omega.{arith}
-use mathlib.Core.Bool.{Bool, true, false, not, cond, _&&_, _||_}
-use mathlib.Core.Option.{Option, none, some}
+use mathlib.Core.Bool.{Bool, true, false, not, cond, _&&_}
+use mathlib.Core.Option.{none}
 use mathlib.Core.List.{List, [], _∷_, _++_, map}
 use lib.Dec.{eqb, lit≤}
-use lib.IntN.{ℤ, pos, _+ℤ_}
+use lib.IntN.{pos}
 use lib.ListN.{length}
-use lib.Ieee.{Float, nan, inf, fin, binary64, fits, lt, le, eq}
-use lib.Ieee.Fits.{div-fits, and-l, and-r}
+use lib.Ieee.{Float, nan, binary64, fits, lt, le, eq}
+use lib.Ieee.Fits.{div-fits}
 use Rattle.leaves.specs.Numbers.{_⊗_, zero⁺, one, 1e-10, isFinite, clamp01}
 use Rattle.leaves.specs.Loops.{fill, nth}
 use Rattle.leaves.specs.Root.{sqrt}
 use Rattle.leaves.specs.Shift.{shift}
 use Rattle.leaves.proofs.Shift.{isFinite-shift, eq-shift, shift-zero⁺}
-use Rattle.leaves.proofs.Units.{sign, mag}
-use Rattle.leaves.proofs.Range.{Range, range-zero}
+use Rattle.leaves.proofs.Units.{sign}
+use Rattle.leaves.proofs.Range.{range-zero}
 use Rattle.leaves.proofs.Operations.{Moved, moved-weaken}
 use Rattle.leaves.proofs.Signs.{sign-not-below}
 use Rattle.leaves.proofs.SqrtNearest.{moved-sqrt}
 use Rattle.matrix.specs.Matrix.{Matrix, at, rows, trace, allFinite}
 use Rattle.matrix.specs.Jacobi.{Decomposition}
 use Rattle.matrix.proofs.Stored.{entry-at, rows-at}
-use Rattle.estimators.specs.Refusals.{Check, passes, refuses, when, whenSome, first}
+use Rattle.estimators.specs.Refusals.{Check, passes, when, first}
 use Rattle.estimators.specs.Sample.{covariance, largest, constantAsset}
 use Rattle.estimators.specs.LedoitWolf.{constantCorrelation, intensityOf, ledoitWolf}
-use Rattle.estimators.specs.Adjusted.{isSample, isGiven, decompositionOf, base, intensity, mixed, shrunk, regularized, isAdjusted}
+use Rattle.estimators.specs.Adjusted.{isSample, isGiven, decompositionOf, base, intensity, shrunk, regularized, isAdjusted}
 use Rattle.estimators.specs.Adjusted as Spec
-use Rattle.estimators.specs.Order.{opening, ofGiven, badRegularization, badShrinkage, badEstimate, notTheSample, noCorrelation, noVariance, ofSettings, ledoitWolfOrder, adjustedOrder}
-use Rattle.estimators.specs.Calls.{Answered, answered, settle, ledoitWolfIntensity, adjustedCovariance}
+use Rattle.estimators.specs.Order.{opening, badRegularization, badShrinkage, badEstimate, notTheSample, noCorrelation, noVariance, ofSettings, ledoitWolfOrder, adjustedOrder}
+use Rattle.estimators.specs.Calls.{answered, settle, ledoitWolfIntensity, adjustedCovariance}
 use Rattle.estimators.specs.declared.Estimate.{Estimate}
 use Rattle.estimators.specs.declared.Target.{Target}
 use Rattle.estimators.specs.declared.Target.the-variants.{ConstantVariance, ConstantCorrelation}
 use Rattle.estimators.specs.declared.Shrinkage.{Shrinkage}
 use Rattle.estimators.specs.declared.Shrinkage.the-variants.{Unshrunk, Fixed, LedoitWolf}
 use Rattle.estimators.specs.declared.Regularization.{Regularization}
-use Rattle.estimators.specs.declared.Settings.{Settings}
 use Rattle.estimators.specs.declared.Field.the-variants.{ShrinkageField}
-use Rattle.estimators.specs.declared.Refusal.{Refusal}
 use Rattle.estimators.specs.declared.Refusal.the-variants.{BadSetting, CovarianceNotFinite, NotTheSample, ZeroVariance, WrongSide, Singular}
 use Rattle.estimators.specs.declared.Answer.{Answer}
 use Rattle.estimators.specs.declared.Answer.the-variants.{Covariance, Intensity}
 use Rattle.law.specs.Law.{All, Sized, AtLeast, answerParts, Alike, ask, EstimateInRange, ShrinkageInRange, CopiedEstimate}
 use Rattle.law.specs.Law as Law
 use Rattle.law.proofs.Numbers.{times-itself, means-alike}
-use Rattle.law.proofs.Chain.{Chain, ends, chain-same, chain-test, chain-must, chain-map, chain-append, chained, parts, settled}
+use Rattle.law.proofs.Chain.{Chain, ends, pass-must, pass-some, chain-same, chain-test, chain-must, chain-map, chain-append, chained, parts, settled}
 use Rattle.law.proofs.Sizes.{le-not-lt}
 use Rattle.law.proofs.Sample.{tolerance-moved}
 use Rattle.law.proofs.Matrices.{by-cell, first-nothing, finite-entry, trace-moved, rows-moved}
@@ -101,13 +98,9 @@ module _ (r : List Float) (n P : ℕ) (opens : (ds : List Check) → first (open
       fixed : (δ : Float) → lib.Dec.T (fits binary64 δ) → AtLeast 40 δ → (le zero⁺ δ ≡ true) × (le δ one ≡ true) → Shrinking.Intensity δ
       fixed δ t a e = elim (unit-range 40 (lit≤ tt) δ t a (le-not-lt zero⁺ δ (e .0)) (le-not-lt δ one (e .1))) [ inl z ↦ absurd (at-least-nan δ z (e .0)) | inr q ↦ q ]
   intensity-known (LedoitWolf F) E q a b c =
-      let e : isSample E ≡ true = must (isSample E) b in
+      let e : isSample E ≡ true = pass-must (isSample E) NotTheSample b in
       let l : All (AtLeast 40) (ledoitWolf F P n (at r n) ∷ []) = subst (λ (w : Answer). All (AtLeast 40) (answerParts n w [] .intensity)) (answers F c) (subst (λ (z : Bool). All (AtLeast 40) (cond z (answerParts n (ledoitWolfIntensity r n P F) [] .intensity) [])) e q) in
       elim (ledoitWolf-known F (l .0)) [ inl z ↦ inl (z, λ w. no w) | inr i ↦ inr i ]
-    where
-      must : (b : Bool) → when (not b) NotTheSample ≡ passes → b ≡ true
-      must true e = refl
-      must false e = let z : false ≡ true = cc in z
 
 -- ---- the checks of the settings, and the adjusted matrix
 not-finite-nan : {A : Type 0} → isFinite nan ≡ true → A
@@ -155,15 +148,7 @@ module _ (k : ℕ) (small : k ≤ 80) (r : List Float) (sizes : All (Sized 40) r
     shrunk-moved Unshrunk d e₄ e₅ i j l m = moved-weaken 5 5 1645 (lit≤ tt) (lit≤ tt) (lit≤ tt) (estimated i j l m)
     shrunk-moved (Fixed f) d e₄ e₅ i j l m = variance-mixed (k + k) double δ d n b b' i j (s .assets) (s .few) estimated l m
     shrunk-moved (LedoitWolf ConstantVariance) d e₄ e₅ i j l m = variance-mixed (k + k) double δ d n b b' i j (s .assets) (s .few) estimated l m
-    shrunk-moved (LedoitWolf ConstantCorrelation) d e₄ e₅ i j l m = correlation-mixed (k + k) double δ d n b b' i j (correlated (must (isSample E) e₄) (nothing (constantAsset n (covariance P x) (largest P x)) e₅) i j l m) (estimated i j l m)
-      where
-        must : (b : Bool) → when (not b) NotTheSample ≡ passes → b ≡ true
-        must true e = refl
-        must false e = let z : false ≡ true = cc in z
-
-        nothing : (o : Option ℕ) → whenSome o ZeroVariance ≡ passes → o ≡ none
-        nothing none e = refl
-        nothing (some i) e = let z : some i ≡ none = cc in z
+    shrunk-moved (LedoitWolf ConstantCorrelation) d e₄ e₅ i j l m = correlation-mixed (k + k) double δ d n b b' i j (correlated (pass-must (isSample E) NotTheSample e₄) (pass-some (constantAsset n (covariance P x) (largest P x)) ZeroVariance e₅) i j l m) (estimated i j l m)
 
   shrunk-nan : (S : Shrinkage) → (S ≡ Unshrunk → ⊥) → (m : Matrix) (i j : ℕ) → shrunk S nan n m i j ≡ nan
   unfolding shrunk

@@ -7,6 +7,7 @@ use mathlib.Core.List.{List, [], _∷_, _++_}
 use mathlib.Core.Option.{Option, none, some}
 use lib.IntN.{ℤ}
 use lib.Ieee.{Float}
+use borrow.Author.Tests.{not-false}
 use Rattle.estimators.specs.Refusals.{Place, number, place, Check, passes, refuses, when, whenSome, first}
 use Rattle.estimators.specs.Calls.{Answered, settle}
 use Rattle.estimators.specs.declared.Refusal.{Refusal}
@@ -21,6 +22,18 @@ pub data Chain (P : Type 0) : List Check → List Check → Type 0 where
   ends : P → Chain P [] []
   next : {c c' : Check} {cs cs' : List Check} → Both (Unit {0}) c c' → (c ≡ passes → Chain P cs cs') → Chain P (c ∷ cs) (c' ∷ cs')
 
+-- ---- what a check that passes has found
+pub pass-test : (b : Bool) (c : Refusal) → when b c ≡ passes → b ≡ false
+pass-test true c q = let z : true ≡ false = cc in z
+pass-test false c q = refl
+
+pub pass-must : (b : Bool) (c : Refusal) → when (not b) c ≡ passes → b ≡ true
+pass-must b c q = not-false b (pass-test (not b) c q)
+
+pub pass-some : {A : Type 0} (o : Option A) (c : A → Refusal) → whenSome o c ≡ passes → o ≡ none
+pass-some none c q = refl
+pass-some (some a) c q = let z : some a ≡ none = cc in z
+
 -- ---- checks that are alike
 module _ {P : Type 0} {cs cs' : List Check} where
   pub chain-same : (c : Check) {c' : Check} → c' ≡ c → (c ≡ passes → Chain P cs cs') → Chain P (c ∷ cs) (c' ∷ cs')
@@ -32,33 +45,21 @@ module _ {P : Type 0} {cs cs' : List Check} where
 
   -- a test, with a refusal each of the same number and place
   pub chain-when : (b : Bool) {b' : Bool} (c c' : Refusal) → b' ≡ b → number c ≡ number c' → compared (place c) ≡ compared (place c') → (b ≡ false → Chain P cs cs') → Chain P (when b c ∷ cs) (when b' c' ∷ cs')
-  chain-when b c c' e i p h = next (subst (λ (z : Bool). Both (Unit {0}) (when b c) (when z c')) (sym e) (alike b)) (λ q. h (passed b q))
+  chain-when b c c' e i p h = next (subst (λ (z : Bool). Both (Unit {0}) (when b c) (when z c')) (sym e) (alike b)) (λ q. h (pass-test b c q))
     where
       alike : (b : Bool) → Both (Unit {0}) (when b c) (when b c')
       alike true = refused i p
       alike false = accepted tt
-
-      passed : (b : Bool) → when b c ≡ passes → b ≡ false
-      passed true q = let z : true ≡ false = cc in z
-      passed false q = refl
 
   pub chain-test : (b : Bool) {b' : Bool} (c : Refusal) → b' ≡ b → (b ≡ false → Chain P cs cs') → Chain P (when b c ∷ cs) (when b' c ∷ cs')
   chain-test b c e h = chain-when b c c e refl refl h
 
   -- a test that must hold
   pub chain-must : (b : Bool) {b' : Bool} (c : Refusal) → b' ≡ b → (b ≡ true → Chain P cs cs') → Chain P (when (not b) c ∷ cs) (when (not b') c ∷ cs')
-  chain-must b c e h = chain-test (not b) c (ap not e) (λ q. h (go b q))
-    where
-      go : (b : Bool) → not b ≡ false → b ≡ true
-      go true q = refl
-      go false q = sym q
+  chain-must b c e h = chain-test (not b) c (ap not e) (λ q. h (not-false b q))
 
   pub chain-some : {A : Type 0} (o : Option A) {o' : Option A} (c : A → Refusal) → o' ≡ o → (o ≡ none → Chain P cs cs') → Chain P (whenSome o c ∷ cs) (whenSome o' c ∷ cs')
-  chain-some {A} o c e h = chain-same (whenSome o c) (ap (λ (z : Option A). whenSome z c) e) (λ q. h (go o q))
-    where
-      go : (o : Option A) → whenSome o c ≡ passes → o ≡ none
-      go none q = refl
-      go (some a) q = let z : some a ≡ none = cc in z
+  chain-some {A} o c e h = chain-same (whenSome o c) (ap (λ (z : Option A). whenSome z c) e) (λ q. h (pass-some o c q))
 
 -- ---- lists
 pub chain-map : {P Q : Type 0} {cs cs' : List Check} → (P → Q) → Chain P cs cs' → Chain Q cs cs'

@@ -35,7 +35,7 @@ use Rattle.estimators.specs.BayesStein.{correlation, Pull, bayesStein}
 use borrow.Author.Tests.{ne-eqb}
 use Rattle.law.proofs.Numbers.{nth-tab}
 use Rattle.law.proofs.Sizes.{plus-val, le-no}
-use Rattle.law.proofs.Sample.{Returns, mean-moved, covariance-moved, largest-moved, largest-above, tenth-moved, tenth-above}
+use Rattle.law.proofs.Sample.{Returns, entries-as, mean-moved, covariance-moved, largest-moved, largest-above, tenth-moved, tenth-above}
 use Rattle.law.proofs.Scaled.{Scaling, scaling, scaled-least, exponent-within, exponent-null}
 use Rattle.law.proofs.Correlation.{sign-variance, sign-largest, above-zero}
 use Rattle.law.proofs.Shrinkage.{one-moved}
@@ -98,13 +98,7 @@ module _ {k n P : ℕ} {x y : Matrix} (small : k ≤ 80) (r : Returns k n P 982 
 
   -- below 2 in size
   units : Returns 0 n P 942 942 1075 (scaled (exps P n x) x) (scaled (exps P n x) x)
-  units = record {
-    assets = r .assets;
-    few = r .few;
-    periods = r .periods;
-    most = r .most;
-    entries = λ t i a b. still 942 1075 (subst (Range 942 (2 ^ 942) (2 ^ 1075)) (sym (entry-is t i a b)) (column i b .moved (r .entries t i a b) (largest-above r t i a b) .range));
-  }
+  units = entries-as r (λ t i a b. still 942 1075 (subst (Range 942 (2 ^ 942) (2 ^ 1075)) (sym (entry-is t i a b)) (column i b .moved (r .entries t i a b) (largest-above r t i a b) .range)))
 
   abbrev m : Moments
   m = found P n x
@@ -171,14 +165,8 @@ module _ {k n P : ℕ} {x y : Matrix} (small : k ≤ 80) (r : Returns k n P 982 
             let one-still : s .still ≡ 1 = alone (s .still) (binaryExponent A) (s .few) (s .exponent) in
             let null : (t : ℕ) → t < P → mag (x t i) ≡ 0 = λ t l. le-antisymm (le-trans (largest-above r t i l a) (le-of-eq z)) zero-le in
             let w : Matrix = λ t j. scaled (exps P n x) x t i in
-            let R : Returns 1 n P 942 942 1075 w w = record {
-              assets = r .assets;
-              few = r .few;
-              periods = r .periods;
-              most = r .most;
-              entries = λ t j l b. rw (entry-is t i l a) (subst (λ (c : ℕ). Moved c 942 942 1075 (pow2Scaled (x t i) (negℤ (binaryExponent (largest P x i)))) (pow2Scaled (x t i) (negℤ (binaryExponent (largest P x i))))) one-still
-                  (s .moved (doubled (x t i) (r .entries t i l a .range) (null t l)) (largest-above r t i l a)));
-            } in
+            let R : Returns 1 n P 942 942 1075 w w = entries-as r (λ t j l b. rw (entry-is t i l a) (subst (λ (c : ℕ). Moved c 942 942 1075 (pow2Scaled (x t i) (negℤ (binaryExponent (largest P x i)))) (pow2Scaled (x t i) (negℤ (binaryExponent (largest P x i))))) one-still
+            (s .moved (doubled (x t i) (r .entries t i l a .range) (null t l)) (largest-above r t i l a)))) in
             let e : covariance P w i i ≡ shift (pos 2) (covariance P w i i) = covariance-moved R 878 (lit≤ tt) (lit≤ tt) 682 (lit≤ tt) 618 (lit≤ tt) 1102 (lit≤ tt) (lit≤ tt) i i a a .copy in
             let f : covariance P u i i ≡ shift (pos 2) (covariance P u i i) = same-column e in
             let g : sqrt (Σ n m i i) ≡ shift (pos 1) (sqrt (Σ n m i i)) = ap sqrt (variance-is i a ∙ f ∙ ap (shift (pos 2)) (sym (variance-is i a))) ∙ sqrt-shift (Σ n m i i) (pos 1) in

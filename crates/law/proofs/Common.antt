@@ -1,20 +1,20 @@
 -- The common exponent of numbers m i * 2 ^ k i: the largest of b(m i) + k i over the numbers that are not zero, and 0 where all are. Where all of them are not zero and every k i falls by j,
 -- it falls by j. Assumes nothing.
 use mathlib.Core.Path.{_≡_, refl, sym, ap, _∙_, subst}
-use mathlib.Core.Logic.{_⊎_, inl, inr}
+use mathlib.Core.Logic.{inl, inr}
 use Prim.Native.Nat.{ℕ, zero, suc, _+_, _≤_, _<_}
 use native.Mathlib.Nat.{lt-suc-self, lt-trans, le-refl, le-of-suc-le-suc, eq-or-lt-of-le, not-suc-le-zero}
 use native.Mathlib.Omega.{arith}
 use mathlib.Core.Bool.{Bool, true, false, cond}
 use mathlib.Core.Option.{Option, none, some}
-use lib.Dec.{T}
 use lib.Signed.{ltZ}
-use lib.IntN.{ℤ, pos, negℤ, _+ℤ_, _-ℤ_}
+use lib.IntN.{ℤ, pos, negℤ, _+ℤ_}
 use lib.Ieee.{Float, eq}
 use Rattle.leaves.specs.Numbers.{zero⁺}
 use Rattle.leaves.specs.Loops.{loop}
 use Rattle.leaves.specs.Scaling.{binaryExponent}
-use Rattle.leaves.proofs.Whole.{over, under, plus, minus, same, over-neg, under-neg, lt-yes, lt-no}
+use Rattle.leaves.proofs.Whole.{over, under, plus, same, over-neg, under-neg, lt-yes, lt-no}
+use Rattle.leaves.proofs.Zero.{no}
 use Rattle.estimators.specs.BayesStein.{largerZ, orZero, commonExponent}
 
 abbrev pub LeZ : ℤ → ℤ → Type 0
@@ -39,39 +39,34 @@ module _ (m : ℕ → Float) (k : ℕ → ℤ) where
   Reached n none = (i : ℕ) → i < n → eq (m i) zero⁺ ≡ true
   Reached n (some o) = Top n o
 
-  next : (n : ℕ) (o : Option ℤ) → Reached n o → (b : Bool) → eq (m n) zero⁺ ≡ b → Reached (suc n) (elim b [ true ↦ o | false ↦ largerZ o (binaryExponent (m n) +ℤ k n) ])
-  next n none r true e = λ i l. elim (eq-or-lt-of-le (le-of-suc-le-suc l)) [ inl q ↦ ap (λ (i : ℕ). eq (m i) zero⁺) q ∙ e | inr q ↦ r i q ]
-  next n none r false e = record {
-    at = n;
-    below = lt-suc-self n;
-    some-there = e;
-    is = refl;
-    largest = λ i l z. elim (eq-or-lt-of-le (le-of-suc-le-suc l)) [ inl q ↦ subst (λ (j : ℕ). LeZ (exponent j) (exponent n)) (sym q) (le-refl (over (exponent n) + under (exponent n))) | inr q ↦ absurd (subst T (sym (r i q) ∙ z) tt) ];
-  }
-  next n (some o) r true e = record {
+  -- the next number is zero or no larger; or larger than all before
+  stays : (n : ℕ) (o : ℤ) → Top n o → (eq (m n) zero⁺ ≡ false → LeZ (exponent n) o) → Top (suc n) o
+  stays n o r h = record {
     at = r .at;
     below = lt-trans (r .below) (lt-suc-self n);
     some-there = r .some-there;
     is = r .is;
-    largest = λ i l z. elim (eq-or-lt-of-le (le-of-suc-le-suc l)) [ inl q ↦ absurd (subst T (sym (ap (λ (i : ℕ). eq (m i) zero⁺) q ∙ e) ∙ z) tt) | inr q ↦ r .largest i q z ];
+    largest = λ i l z. elim (eq-or-lt-of-le (le-of-suc-le-suc l)) [ inl q ↦ subst (λ (j : ℕ). LeZ (exponent j) o) (sym q) (h (subst (λ (j : ℕ). eq (m j) zero⁺ ≡ false) q z)) | inr q ↦ r .largest i q z ];
   }
+
+  rises : (n : ℕ) → eq (m n) zero⁺ ≡ false → ((i : ℕ) → i < n → eq (m i) zero⁺ ≡ false → LeZ (exponent i) (exponent n)) → Top (suc n) (exponent n)
+  rises n e h = record {
+    at = n;
+    below = lt-suc-self n;
+    some-there = e;
+    is = refl;
+    largest = λ i l z. elim (eq-or-lt-of-le (le-of-suc-le-suc l)) [ inl q ↦ subst (λ (j : ℕ). LeZ (exponent j) (exponent n)) (sym q) (le-refl (over (exponent n) + under (exponent n))) | inr q ↦ h i q z ];
+  }
+
+  next : (n : ℕ) (o : Option ℤ) → Reached n o → (b : Bool) → eq (m n) zero⁺ ≡ b → Reached (suc n) (elim b [ true ↦ o | false ↦ largerZ o (binaryExponent (m n) +ℤ k n) ])
+  next n none r true e = λ i l. elim (eq-or-lt-of-le (le-of-suc-le-suc l)) [ inl q ↦ ap (λ (i : ℕ). eq (m i) zero⁺) q ∙ e | inr q ↦ r i q ]
+  next n none r false e = rises n e (λ i l z. no (r i l) z)
+  next n (some o) r true e = stays n o r (λ z. no e z)
   next n (some o) r false e = go (ltZ o (exponent n)) refl
     where
       go : (b : Bool) → ltZ o (exponent n) ≡ b → Top (suc n) (cond b (exponent n) o)
-      go true h = record {
-        at = n;
-        below = lt-suc-self n;
-        some-there = e;
-        is = refl;
-        largest = λ i l z. elim (eq-or-lt-of-le (le-of-suc-le-suc l)) [ inl q ↦ subst (λ (j : ℕ). LeZ (exponent j) (exponent n)) (sym q) (le-refl (over (exponent n) + under (exponent n))) | inr q ↦ (let a = r .largest i q z in let c = lt-yes o (exponent n) h in omega arith) ];
-      }
-      go false h = record {
-        at = r .at;
-        below = lt-trans (r .below) (lt-suc-self n);
-        some-there = r .some-there;
-        is = r .is;
-        largest = λ i l z. elim (eq-or-lt-of-le (le-of-suc-le-suc l)) [ inl q ↦ subst (λ (j : ℕ). LeZ (exponent j) o) (sym q) (lt-no o (exponent n) h) | inr q ↦ r .largest i q z ];
-      }
+      go true h = rises n e (λ i l z. let a = r .largest i l z in let c = lt-yes o (exponent n) h in omega arith)
+      go false h = stays n o r (λ z. lt-no o (exponent n) h)
 
   reached : (n : ℕ) → Reached n (loop n step none)
   unfolding loop step
@@ -92,7 +87,7 @@ module _ (m : ℕ → Float) (k : ℕ → ℤ) where
   common-above n i l z = go (loop n step none) (reached n)
     where
       go : (o : Option ℤ) → Reached n o → LeZ (binaryExponent (m i) +ℤ k i) (orZero o)
-      go none r = absurd (subst T (sym (r i l) ∙ z) tt)
+      go none r = no (r i l) z
       go (some o) r = r .largest i l z
 
   common-at : (n : ℕ) → 0 < n → ((i : ℕ) → i < n → eq (m i) zero⁺ ≡ false) → (i : ℕ) × (i < n) × (commonExponent n m k ≡ binaryExponent (m i) +ℤ k i)
@@ -100,10 +95,14 @@ module _ (m : ℕ → Float) (k : ℕ → ℤ) where
   common-at n p z = go (loop n step none) (reached n)
     where
       go : (o : Option ℤ) → Reached n o → (i : ℕ) × (i < n) × (orZero o ≡ binaryExponent (m i) +ℤ k i)
-      go none r = absurd (subst T (sym (r 0 p) ∙ z 0 p) tt)
+      go none r = no (r 0 p) (z 0 p)
       go (some o) r = (r .at, r .below, r .is)
 
 -- every exponent is lower by j
+lowered : (x e f : ℤ) (j : ℕ) → f ≡ e +ℤ pos j → over (x +ℤ negℤ f) + j + under (x +ℤ negℤ e) ≡ over (x +ℤ negℤ e) + under (x +ℤ negℤ f)
+unfolding over under
+lowered x e f j h = rw h (omega (arith, plus x (negℤ e), plus x (negℤ (e +ℤ pos j)), over-neg e, under-neg e, over-neg (e +ℤ pos j), under-neg (e +ℤ pos j), plus e (pos j)))
+
 pub common-lower : (m : ℕ → Float) (e f : ℕ → ℤ) (j n : ℕ) → 0 < n → ((i : ℕ) → i < n → f i ≡ e i +ℤ pos j) → ((i : ℕ) → i < n → eq (m i) zero⁺ ≡ false) → commonExponent n m (λ i. negℤ (f i)) +ℤ pos j ≡ commonExponent n m (λ i. negℤ (e i))
 unfolding over under
 common-lower m e f j n p h z =
@@ -115,33 +114,6 @@ common-lower m e f j n p h z =
     let l = b .0 in
     let u = common-above m (λ i. negℤ (f i)) n i (a .1) (z i (a .1)) in
     let w = common-above m (λ i. negℤ (e i)) n l (b .1) (z l (b .1)) in
-    let x = binaryExponent (m i) in
-    let y = binaryExponent (m l) in
-    same (B +ℤ pos j) A (omega (
-      arith,
-      plus B (pos j),
-      ap over (a .2),
-      ap under (a .2),
-      ap over (b .2),
-      ap under (b .2),
-      plus x (negℤ (e i)),
-      plus x (negℤ (f i)),
-      plus y (negℤ (e l)),
-      plus y (negℤ (f l)),
-      over-neg (e i),
-      under-neg (e i),
-      over-neg (f i),
-      under-neg (f i),
-      over-neg (e l),
-      under-neg (e l),
-      over-neg (f l),
-      under-neg (f l),
-      plus (e i) (pos j),
-      plus (e l) (pos j),
-      ap over (h i (a .1)),
-      ap under (h i (a .1)),
-      ap over (h l (b .1)),
-      ap under (h l (b .1)),
-      u,
-      w,
-    ))
+    let x = lowered (binaryExponent (m i)) (e i) (f i) j (h i (a .1)) in
+    let y = lowered (binaryExponent (m l)) (e l) (f l) j (h l (b .1)) in
+    same (B +ℤ pos j) A (omega (arith, plus B (pos j), ap over (a .2), ap under (a .2), ap over (b .2), ap under (b .2), u, w, x, y))

@@ -6,8 +6,8 @@ use native.Mathlib.Nat.{le-trans, lt-of-le-of-lt, zero-add, mul-pos, mul-le-mul,
 use native.Mathlib.Omega.{arith}
 use mathlib.Core.Bool.{Bool, true, false, cond}
 use lib.Dec.{T, eqb, eqb-refl, lit≤}
-use lib.Ieee.{Float, le, lt, ofBits}
-use Rattle.leaves.specs.Numbers.{_⊗_, _⊘_, zero⁺, 1e-10, count}
+use lib.Ieee.{Float, le, ofBits}
+use Rattle.leaves.specs.Numbers.{_⊗_, _⊘_, 1e-10, count}
 use Rattle.leaves.specs.Root.{sqrt}
 use Rattle.leaves.proofs.Units.{sign, mag}
 use Rattle.leaves.proofs.Range.{Range, count-pos}

@@ -5,20 +5,20 @@ use Prim.Native.Nat.{ℕ, _+_, _*_, _≤_, _<_}
 use native.Mathlib.Nat.{le-of-eq, lt-of-lt-of-le}
 use native.Mathlib.Omega.{arith}
 use mathlib.Core.Bool.{Bool, true, false, not, _&&_}
-use mathlib.Core.List.{List, [], _∷_, map}
+use mathlib.Core.List.{List, map}
 use mathlib.Core.Option.{Option}
 use lib.Dec.{T, eqb, lit≤}
 use lib.IntN.{pos}
 use lib.ListN.{length}
-use lib.Ieee.{Float, binary64, fits, eq}
-use borrow.Author.Tests.{eqb-true}
+use lib.Ieee.{Float, eq}
+use borrow.Author.Tests.{eqb-true, not-false}
 use Rattle.leaves.specs.Numbers.{zero⁺, isFinite}
 use Rattle.leaves.specs.Shift.{shift}
 use Rattle.leaves.proofs.Loops.{first-ext}
 use Rattle.leaves.proofs.Shift.{isFinite-shift, eq-shift, shift-zero⁺}
-use Rattle.leaves.proofs.Operations.{Moved, moved-weaken}
+use Rattle.leaves.proofs.Operations.{moved-weaken}
 use Rattle.matrix.specs.Matrix.{Matrix, at}
-use Rattle.estimators.specs.Refusals.{Check, passes, refuses, when, whenSome}
+use Rattle.estimators.specs.Refusals.{passes, when, whenSome}
 use Rattle.estimators.specs.Sample.{covariance, largest, constantAsset}
 use Rattle.estimators.specs.Weighted.{logDecay, accepted}
 use Rattle.estimators.specs.Adjusted.{isSample, isGiven, decompositionOf, base}
@@ -31,7 +31,7 @@ use Rattle.estimators.specs.declared.Field.the-variants.{HalfLifeField, Thresho
 use Rattle.estimators.specs.declared.Refusal.the-variants.{BadSetting, ZeroVariance}
 use Rattle.law.specs.Law.{All, Sized, EstimateInRange, CopiedEstimate, sample, given, weighted, semi, semiBelow}
 use Rattle.law.proofs.Numbers.{copy-shift}
-use Rattle.law.proofs.Chain.{Chain, ends}
+use Rattle.law.proofs.Chain.{Chain, ends, pass-must}
 use Rattle.law.proofs.Sizes.{sized-fits}
 use Rattle.law.proofs.Sample.{Returns, semicovariance-moved, semicovarianceBelow-moved, constant-same}
 use Rattle.law.proofs.Opening.{Shape, sized-moved, returns, sample-moved}
@@ -104,14 +104,10 @@ module _ (k : ℕ) (small : k ≤ 80) (r : List Float) (sizes : All (Sized 40) r
     bad = refl;
     sample = refl;
     given = refl;
-    entries = λ q q' i j a b. Weighted.covariance-moved small R h long (passed (accepted (logDecay h)) q) i j a b;
+    entries = λ q q' i j a b. Weighted.covariance-moved small R h long (pass-must (accepted (logDecay h)) (BadSetting HalfLifeField) q) i j a b;
     variance = varies;
     sampled = λ e. no e;
   }
-    where
-      passed : (b : Bool) → when (not b) (BadSetting HalfLifeField) ≡ passes → b ≡ true
-      passed true e = refl
-      passed false e = let z : false ≡ true = cc in z
 
 -- a given matrix, where its slice has the right length
 module _ (k : ℕ) (small : k ≤ 80) (n P side : ℕ) (x y : Matrix) (g : List Float) (sizes : All (Sized 80) g) (full : length g ≡ side * side) where
@@ -122,15 +118,11 @@ module _ (k : ℕ) (small : k ≤ 80) (n P side : ℕ) (x y : Matrix) (g : List 
     sample = refl;
     given = refl;
     entries = λ q q' i j a b.
-        let e : side ≡ n = eqb-true side n (not-no (eqb side n) q') in
+        let e : side ≡ n = eqb-true side n (not-false (eqb side n) q') in
         moved-weaken 154 154 1522 (lit≤ tt) (lit≤ tt) (lit≤ tt) (average-moved (k + k) (omega arith) side 0 g sizes full i j (lt-of-lt-of-le a (le-of-eq (sym e))) (lt-of-lt-of-le b (le-of-eq (sym e))));
     variance = λ b b' e. ap (λ (o : Option ℕ). whenSome o ZeroVariance) (first-ext n (λ i. eq (b' i i) zero⁺) (λ i. eq (b i i) zero⁺) (λ i l. ap₂ eq (e i l) (sym (shift-zero⁺ (pos (k + k)))) ∙ eq-shift (pos (k + k)) (b i i) zero⁺));
     sampled = λ e. absurd (subst T (sym e) tt);
   }
-    where
-      not-no : (b : Bool) → not b ≡ false → b ≡ true
-      not-no true h = refl
-      not-no false h = sym h
 
 -- ---- the checks of a given matrix, and after them what is known of the estimate
 pub estimate-chain : {Q : Type 0} (k : ℕ) (small : k ≤ 80) (r : List Float) (sizes : All (Sized 40) r) (n P : ℕ) (s : Shape r n P) (side limit : ℕ) (S : Shrinkage) (H H' : Regularization) (E E' : Estimate) (g g' : List Float)

@@ -4,24 +4,23 @@
 use mathlib.Core.Path.{_≡_, refl, sym, ap, ap₂, _∙_, subst, subst₂}
 use mathlib.Core.Logic.{_⊎_, inl, inr}
 use Prim.Native.Nat.{ℕ, zero, suc, _+_, _-_, _*_, _/_, _^_, _≤_, _<_, zero-le}
-use native.Mathlib.Nat.{le-refl, le-trans, le-of-eq, le-of-lt, lt-of-lt-of-le, lt-of-le-of-lt, mul-le-mul, mul-le-mul-left, mul-le-mul-right, mul-pos, mul-assoc, mul-comm, mul-right-comm, mul-one, one-mul, zero-mul, eq-zero-or-pos, le-of-mul-le-mul-right, lt-of-mul-lt-mul-right, zero-lt-suc, div-add-mod', mod-lt, div-eq-of-lt}
+use native.Mathlib.Nat.{le-refl, le-trans, le-of-eq, le-of-lt, lt-of-le-of-lt, mul-le-mul, mul-le-mul-left, mul-le-mul-right, mul-pos, mul-assoc, mul-right-comm, mul-one, one-mul, zero-mul, eq-zero-or-pos, le-of-mul-le-mul-right, lt-of-mul-lt-mul-right, zero-lt-suc, div-add-mod', mod-lt, div-eq-of-lt}
 use native.Mathlib.Omega.{arith}
-use mathlib.Core.Bool.{Bool, true, false, not, cond, Bool·beq, _&&_, _||_}
+use mathlib.Core.Bool.{Bool, true, false, not, cond, _&&_, _||_, or-true}
 use lib.Dec.{T, ltb, eqb, lit≤, lit<}
 use lib.IntN.{ℤ, pos, negsuc, negℤ}
 use lib.Pow.{pow-add, pow-pos, pow-mono}
-use lib.Ieee.{Float, nan, inf, fin, binary64, fits, up, down, unlike, ofInt, ofBits, lt, le, eq, sub, neg}
-use lib.Ieee.Exact.{HasValue}
+use lib.Ieee.{Float, nan, inf, fin, binary64, fits, up, down, unlike, ofInt, ofBits, lt, le, sub, neg}
 use lib.Ieee.Back.{round-whole}
-use lib.Ieee.Fits.{down-pos, add-fits, mul-fits, div-fits}
-use borrow.Author.Tests.{lt-ltb, le-ltb, ltb-true, ltb-false, eq-eqb}
+use lib.Ieee.Fits.{down-pos, add-fits, mul-fits}
+use borrow.Author.Tests.{lt-ltb, le-ltb, eq-eqb}
 use Rattle.leaves.specs.Numbers.{_⊕_, _⊖_, _⊗_, _⊘_, zero⁺, half, one, count, isFinite}
 use Rattle.leaves.specs.Scaling.{pow2Scaled}
 use Rattle.leaves.specs.Shift.{shift}
 use Rattle.leaves.specs.Exp.{ln2, H, L, floor, horner, nearestPower, reduced, exp, expM1}
 use Rattle.leaves.proofs.Whole.{le-or-lt, over, under, over-neg, under-neg}
 use Rattle.leaves.proofs.Rounding.{near, Held, Near, near-most, near-least, near-error, near-held, held-times}
-use Rattle.leaves.proofs.Units.{U, U-pos, Top, Val, sign, mag, val-of, val-mag, val-finite, mag-val, mag-held, mag-shift, zero-val, neg-val, rounded, rounded-val, lt-val, eq-val}
+use Rattle.leaves.proofs.Units.{U, U-pos, Top, Val, sign, mag, val-of, val-mag, val-finite, mag-val, mag-shift, zero-val, neg-val, rounded, rounded-val, lt-val, eq-val}
 use Rattle.leaves.proofs.Arithmetic.{sumSign, total, total-le, add-rounded, mul-rounded, div-rounded}
 use Rattle.leaves.proofs.Range.{Range, count-val, range-size, range-finer, range-weaken}
 use Rattle.leaves.proofs.Shift.{shift-forth}
@@ -49,25 +48,20 @@ unfolding W Top
 under-W c h = lt-of-le-of-lt (mul-le-mul-right (2 ^ 1069) h) (lit< tt)
 
 -- ---- results with a bound of c / 32
-module _ (c : ℕ) (few : c ≤ 8192) (x y : Float) (s t : Bool) (a b : ℕ) (v : Val x s a) (w : Val y t b) where
-  small : c < 2 ^ 53
-  small = le-trans (omega arith) (lit≤ {m = 8193} tt)
+within : (c : ℕ) → c ≤ 8192 → (z : Float) (s : Bool) (n d : ℕ) → 0 < d → z ≡ rounded s n d → n ≤ c * W * d → Val z s (near n d) × (near n d ≤ c * W)
+within c few z s n d D e h =
+    let m = near-most n d (c * W) D (held-W c (le-trans (omega arith) (lit≤ {m = 8193} tt))) h in
+    (rw e (rounded-val s n d D (lt-of-le-of-lt m (under-W c few))), m)
 
+module _ (c : ℕ) (few : c ≤ 8192) (x y : Float) (s t : Bool) (a b : ℕ) (v : Val x s a) (w : Val y t b) where
   pub mul-most : a * b ≤ c * W * U → Val (x ⊗ y) (unlike s t) (near (a * b) U) × (near (a * b) U ≤ c * W)
-  mul-most h =
-      let m = near-most (a * b) U (c * W) U-pos (held-W c small) h in
-      (subst (λ (z : Float). Val z (unlike s t) (near (a * b) U)) (sym (mul-rounded x y s t a b v w)) (rounded-val (unlike s t) (a * b) U U-pos (lt-of-le-of-lt m (under-W c few))), m)
+  mul-most h = within c few (x ⊗ y) (unlike s t) (a * b) U U-pos (mul-rounded x y s t a b v w) h
 
   div-most : 0 < b → a * U ≤ c * W * b → Val (x ⊘ y) (unlike s t) (near (a * U) b) × (near (a * U) b ≤ c * W)
-  div-most B h =
-      let m = near-most (a * U) b (c * W) B (held-W c small) h in
-      (subst (λ (z : Float). Val z (unlike s t) (near (a * U) b)) (sym (div-rounded x y s t a b v w B)) (rounded-val (unlike s t) (a * U) b B (lt-of-le-of-lt m (under-W c few))), m)
+  div-most B h = within c few (x ⊘ y) (unlike s t) (a * U) b B (div-rounded x y s t a b v w B) h
 
   pub add-most : total s a t b ≤ c * W → Val (x ⊕ y) (sumSign s a t b) (near (total s a t b) 1) × (near (total s a t b) 1 ≤ c * W)
-  add-most h =
-      let n = total s a t b in
-      let m = near-most n 1 (c * W) (zero-lt-suc 0) (held-W c small) (le-trans h (le-of-eq (sym (mul-one (c * W))))) in
-      (subst (λ (z : Float). Val z (sumSign s a t b) (near n 1)) (sym (add-rounded x y s t a b v w)) (rounded-val (sumSign s a t b) n 1 (zero-lt-suc 0) (lt-of-le-of-lt m (under-W c few))), m)
+  add-most h = within c few (x ⊕ y) (sumSign s a t b) (total s a t b) 1 (zero-lt-suc 0) (add-rounded x y s t a b v w) (le-trans h (le-of-eq (sym (mul-one (c * W)))))
 
 one-val : Val one false (32 * W)
 one-val = subst (Val one false) U-W (refl, ap (λ (z : ℕ). z * U) (one-mul 1) ∙ one-mul U ∙ sym (mul-one U))
@@ -444,10 +438,6 @@ module _ (y : Float) (Y : ℕ) (v : Val y true Y) (few : Y ≤ 96 * (32 * W)) wh
   unfolding le
   not-above = ap₂ _||_ (lt-val y zero⁺ true false Y 0 v (zero-val false (pos 0))) (eq-val y zero⁺ true false Y 0 v (zero-val false (pos 0))) ∙ go (eq-zero-or-pos Y)
     where
-      or-true : (b : Bool) → (b || true) ≡ true
-      or-true true = refl
-      or-true false = refl
-
       go : (Y ≡ 0) ⊎ (0 < Y) → (ltb 0 (Y + 0) || (eqb Y 0 && (false || eqb Y 0))) ≡ true
       go (inl z) = rw (eq-eqb Y 0 z) (or-true (ltb 0 (Y + 0)))
       go (inr p) = rw (lt-ltb 0 (Y + 0) (omega arith))

@@ -1,36 +1,34 @@
 -- A given covariance and its copy, each entry 2 ^ k times as large. The tests of its entries see no shift. Over its largest entry it is the same matrix in both runs, bit for bit, since a
 -- quotient of numbers shifted alike is the same: so both runs decompose the same matrix, with the same sweeps, rotations and refusals. Assumes nothing.
 use mathlib.Core.Path.{_≡_, refl, sym, ap, ap₂, _∙_}
-use Prim.Native.Nat.{ℕ, _+_, _*_, _^_, _≤_, _<_}
+use Prim.Native.Nat.{ℕ, _+_, _*_, _≤_, _<_}
 use native.Mathlib.Nat.{le-of-eq, lt-of-lt-of-le, zero-add}
 use native.Mathlib.Omega.{arith}
-use mathlib.Core.Bool.{Bool, true, false, not}
-use mathlib.Core.List.{List, [], _∷_, _++_, map}
-use mathlib.Core.Option.{Option}
+use mathlib.Core.Bool.{Bool, true, false}
+use mathlib.Core.List.{List, map}
 use lib.Dec.{eqb, ltb, lit≤}
 use lib.IntN.{pos}
 use lib.ListN.{length, length-map}
 use lib.Ieee.{Float, fits, lt, ofBits}
 use borrow.Author.Tests.{eqb-true}
-use Rattle.leaves.specs.Numbers.{_⊖_, _⊗_, _⊘_, zero⁺, count, two, 1e-12, isFinite, abs}
+use Rattle.leaves.specs.Numbers.{_⊖_, _⊗_, _⊘_, zero⁺, 1e-12, isFinite, abs}
 use Rattle.leaves.specs.Shift.{shift}
 use Rattle.leaves.proofs.Loops.{cell}
-use Rattle.leaves.proofs.Shift.{isFinite-shift, lt-shift, shift-zero⁺}
+use Rattle.leaves.proofs.Shift.{lt-shift, shift-zero⁺}
 use Rattle.leaves.proofs.Units.{U, mag}
 use Rattle.leaves.proofs.Arithmetic.{div-alike}
 use Rattle.leaves.proofs.Range.{sized, range-sized, count-pos}
 use Rattle.leaves.proofs.Operations.{Moved, still, moved-weaken, moved-abs, moved-add, moved-sub, moved-mul, moved-over}
 use Rattle.matrix.specs.Limits.{maxSide}
-use Rattle.matrix.specs.Matrix.{Matrix, at, rows, amax, averaged, firstEntry}
-use Rattle.matrix.specs.Jacobi.{Decomposition, decompose, unturned}
+use Rattle.matrix.specs.Matrix.{Matrix, at, rows, amax, averaged}
+use Rattle.matrix.specs.Jacobi.{Decomposition, unturned}
 use Rattle.matrix.proofs.Alike.{first-entry-alike, decompose-alike}
-use Rattle.estimators.specs.Refusals.{Check, when, whenSome}
 use Rattle.estimators.specs.Given.{asymmetry, smallest, indefinite, decomposeGiven}
 use Rattle.estimators.specs.Order.{notFinite, sweepLimit, ofGiven}
 use Rattle.estimators.specs.declared.Estimate.the-variants.{Given}
 use Rattle.estimators.specs.declared.Shrinkage.{Shrinkage}
 use Rattle.estimators.specs.declared.Regularization.{Regularization}
-use Rattle.estimators.specs.declared.Refusal.the-variants.{NoAssets, TooLarge, NotFinite, WrongSide, Asymmetric, Indefinite, NotDecomposed}
+use Rattle.estimators.specs.declared.Refusal.the-variants.{NoAssets, TooLarge, WrongSide, Asymmetric, Indefinite, NotDecomposed}
 use Rattle.law.specs.Law.{All, Sized}
 use Rattle.law.proofs.Chain.{Chain, ends, chain-same, chain-when, chain-test, chain-must, chain-some}
 use Rattle.law.proofs.Sizes.{all-at, two-is}

@@ -31,7 +31,8 @@ use Rattle.law.specs.Law.{Question, ask}
 use Rattle.law.proofs.Sizes.{number, le-or}
 use Rattle.law.proofs.Columns.{exps, found, pull}
 use Rattle.law.proofs.Pull.{pull-unit}
-use Rattle.law.proofs.Passing.{pass-must, pass-cons, pass-append, pass-opening}
+use Rattle.law.proofs.Chain.{pass-must}
+use Rattle.law.proofs.Passing.{pass-cons, pass-append, pass-opening}
 use Rattle.law.proofs.Calls.{averages, ofAnswer, covariance-is, inUnit, centre, uneven, james-is, bayes-is}
 
 abbrev pub Share : Float → Type 0

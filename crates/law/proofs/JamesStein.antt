@@ -1,30 +1,30 @@
 -- The James-Stein mean. Over the power of two of the largest return the returns are the same floats in both runs, so the moments, the decomposition and the intensity are; the target and the
 -- means are one number each, scaled back by 2 ^ e and by 2 ^ (e + k). An intensity of 2 ^ -400 or more, or 0, leaves them multiples of a unit far above the smallest: nothing rounds. An
 -- intensity that is not a number makes every mean NaN, in both runs. Assumes nothing.
-use mathlib.Core.Path.{_≡_, refl, sym, ap, ap₂, _∙_, subst}
+use mathlib.Core.Path.{_≡_, refl, sym, ap, _∙_, subst}
 use mathlib.Core.Logic.{_⊎_, inl, inr}
-use Prim.Native.Nat.{ℕ, zero, suc, _+_, _-_, _*_, _/_, _%_, _^_, _≤_, _<_, zero-le}
-use native.Mathlib.Nat.{le-refl, le-trans, le-of-eq, zero-add}
+use Prim.Native.Nat.{ℕ, zero, suc, _+_, _-_, _/_, _%_, _^_, _≤_, _<_, zero-le}
+use native.Mathlib.Nat.{le-trans, le-of-eq, zero-add}
 use native.Mathlib.Omega.{arith}
-use mathlib.Core.Bool.{Bool, true, false, not, cond}
-use mathlib.Core.List.{List, [], _∷_, _++_, map}
-use lib.Dec.{T, lit≤, lit<}
+use mathlib.Core.Bool.{Bool, true, false, cond}
+use mathlib.Core.List.{List, _++_, map}
+use lib.Dec.{T, lit≤}
 use lib.IntN.{ℤ, pos, negsuc, negℤ, _+ℤ_}
 use lib.ListN.{length}
 use lib.Ieee.{Float, nan, inf, fin, binary64, fits, eq, lt, add, mul}
-use lib.Ieee.Fits.{mul-fits, add-fits}
-use Rattle.leaves.specs.Numbers.{_⊕_, _⊖_, _⊗_, _⊘_, zero⁺, one, two, count, isFinite, abs, clamp01}
-use Rattle.leaves.specs.Loops.{loop, sumTo, maxTo, tab, fill, nth}
+use lib.Ieee.Fits.{mul-fits}
+use Rattle.leaves.specs.Numbers.{_⊕_, _⊖_, _⊗_, _⊘_, zero⁺, one, two, isFinite, clamp01}
+use Rattle.leaves.specs.Loops.{loop, maxTo, fill, nth}
 use Rattle.leaves.specs.Scaling.{pow2, times, binaryExponent, pow2Scaled}
 use Rattle.leaves.specs.Shift.{shift}
-use Rattle.leaves.proofs.Units.{U, Val, sign, mag, val-mag, mag-val, mag-held, zero-val}
+use Rattle.leaves.proofs.Units.{U, Val, sign, mag, val-mag, mag-val}
 use Rattle.leaves.proofs.Shift.{shift-nan}
-use Rattle.leaves.proofs.Range.{Range, range-zero, range-size, range-value, count-pos}
+use Rattle.leaves.proofs.Range.{Range, range-zero, range-size, count-pos}
 use Rattle.leaves.proofs.Operations.{Moved, still, moved-weaken, moved-add, moved-sub, moved-mul, moved-over}
 use Rattle.leaves.proofs.Totals.{moved-sum}
 use Rattle.matrix.specs.Matrix.{Matrix, at, trace, amax}
 use Rattle.matrix.specs.Jacobi.{Decomposition}
-use Rattle.estimators.specs.Refusals.{Check, passes, first, when}
+use Rattle.estimators.specs.Refusals.{Check}
 use Rattle.estimators.specs.Sample.{mean, scaled}
 use Rattle.estimators.specs.Moments.{Moments, moments}
 use Rattle.estimators.specs.JamesStein.{grandMean, unevenness, decomposeUneven, spread, jamesSteinIntensity, towards}
@@ -37,10 +37,10 @@ use Rattle.law.specs.Law as Law
 use Rattle.law.proofs.Numbers.{nth-tab}
 use Rattle.law.proofs.Chain.{Chain, ends, chain-same, chain-must, chained, parts, settled}
 use Rattle.law.proofs.Sizes.{at-least, lt-no}
-use Rattle.law.proofs.Sample.{Returns, count-moved, mean-moved}
+use Rattle.law.proofs.Sample.{Returns, entries-as, count-moved, mean-moved}
 use Rattle.law.proofs.Matrices.{amax-moved, amax-above}
-use Rattle.law.proofs.Scaled.{Scaling, scaling, scaled-back, scaled-range}
-use Rattle.law.proofs.Moments.{moments-same, Large, large, Copied, shrunk-alike}
+use Rattle.law.proofs.Scaled.{Scaling, scaling, scaled-back}
+use Rattle.law.proofs.Moments.{moments-same, large, Copied, shrunk-alike}
 use Rattle.law.proofs.Opening.{Shape, returns, opening-chain}
 
 -- ---- an intensity: NaN, or from 0 to 1
@@ -158,13 +158,7 @@ module _ {k n P : ℕ} {x y : Matrix} (small : k ≤ 80) (r : Returns k n P 982 
 
   units : Returns (common .still) n P 942 942 1075 (scaled (λ i. binaryExponent (amax P n x)) x) (scaled (λ i. binaryExponent (amax P n x)) x)
   unfolding scaled
-  units = record {
-    assets = r .assets;
-    few = r .few;
-    periods = r .periods;
-    most = r .most;
-    entries = λ t i a b. common .moved (r .entries t i a b) (amax-above P n x y (r .entries) t i a b);
-  }
+  units = entries-as r (λ t i a b. common .moved (r .entries t i a b) (amax-above P n x y (r .entries) t i a b))
 
   abbrev m : Moments
   m = found P n x

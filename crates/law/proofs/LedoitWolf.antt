@@ -1,12 +1,12 @@
 -- The Ledoit-Wolf call. Centered returns are scaled exactly. Over the power of two of their largest, which grows by k too, they are the same floats in both runs, and everything after is the same
 -- computation: the intensity is the same, bit for bit. Assumes nothing.
-use mathlib.Core.Path.{_≡_, refl, sym, ap, _∙_, subst₂}
-use Prim.Native.Nat.{ℕ, _+_, _^_, _≤_, _<_}
+use mathlib.Core.Path.{_≡_, refl, ap, subst₂}
+use Prim.Native.Nat.{ℕ, _≤_}
 use native.Mathlib.Omega.{arith}
-use mathlib.Core.List.{List, [], _∷_, _++_, map}
+use mathlib.Core.List.{List, [], map}
 use mathlib.Core.Option.{Option}
 use lib.Dec.{lit≤}
-use lib.IntN.{pos, negℤ}
+use lib.IntN.{pos}
 use lib.Ieee.{Float}
 use Rattle.leaves.specs.Numbers.{_⊘_, count}
 use Rattle.leaves.specs.Scaling.{binaryExponent}
@@ -14,16 +14,16 @@ use Rattle.leaves.specs.Shift.{shift}
 use Rattle.matrix.specs.Matrix.{Matrix, at, rows, amax}
 use Rattle.matrix.proofs.Stored.{rows-ext}
 use Rattle.estimators.specs.Refusals.{Check, passes, refuses, whenSome, first}
-use Rattle.estimators.specs.Sample.{deviation, gram, covariance, scaled, largest, constantAsset}
+use Rattle.estimators.specs.Sample.{deviation, gram, covariance, scaled}
 use Rattle.estimators.specs.LedoitWolf.{intensityOf, ledoitWolf}
-use Rattle.estimators.specs.Order.{opening, noCorrelation, ledoitWolfOrder}
+use Rattle.estimators.specs.Order.{noCorrelation, ledoitWolfOrder}
 use Rattle.estimators.specs.Calls.{Answered, answered, settle, ledoitWolfIntensity}
 use Rattle.estimators.specs.declared.Target.{Target}
 use Rattle.estimators.specs.declared.Target.the-variants.{ConstantVariance, ConstantCorrelation}
 use Rattle.estimators.specs.declared.Shrinkage.the-variants.{LedoitWolf}
 use Rattle.estimators.specs.declared.Refusal.the-variants.{ZeroVariance}
 use Rattle.estimators.specs.declared.Answer.the-variants.{Intensity}
-use Rattle.law.specs.Law.{All, Sized, AnswerParts, answerParts, Alike, Times, ask}
+use Rattle.law.specs.Law.{All, Sized, answerParts, Alike, ask}
 use Rattle.law.specs.Law as Law
 use Rattle.law.proofs.Numbers.{times-itself}
 use Rattle.law.proofs.Chain.{Chain, ends, chain-same, chained, parts, settled}

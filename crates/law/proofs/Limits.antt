@@ -12,7 +12,7 @@ use Rattle.leaves.specs.Loops.{nth}
 use Rattle.matrix.specs.Limits.{maxSweeps}
 use Rattle.matrix.specs.Matrix.{Matrix, at, amax}
 use Rattle.matrix.specs.Jacobi.{Decomposition, decompose, unturned}
-use Rattle.matrix.proofs.Sweeps.{larger-limit}
+use Rattle.matrix.proofs.LargerLimit.{larger-limit}
 use Rattle.estimators.specs.Refusals.{Check, passes, when, first}
 use Rattle.estimators.specs.Given.{decomposeGiven}
 use Rattle.estimators.specs.JamesStein.{unevenness, decomposeUneven}
@@ -30,7 +30,8 @@ use Rattle.law.specs.Law as Law
 use Rattle.law.specs.Law.{Question, ask}
 use Rattle.law.proofs.Settings.{sets}
 use Rattle.law.proofs.Columns.{C, found, taken}
-use Rattle.law.proofs.Passing.{pass-must, pass-cons, pass-append, Accepted, all-pass}
+use Rattle.law.proofs.Chain.{pass-must}
+use Rattle.law.proofs.Passing.{pass-cons, pass-append, Accepted, all-pass}
 use Rattle.law.proofs.Calls.{averages, ofAnswer, covarianceBy, covariance-is, inUnit, centre, uneven, jamesBy, james-is, bayesBy, bayes-is}
 
 -- ---- the check of the limit

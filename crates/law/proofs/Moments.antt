@@ -1,22 +1,22 @@
 -- The moments of returns in units of powers of two, in two runs: the same lists of means and covariances, where the scaled returns are the same. And the answer of the two Stein means. Assumes nothing.
-use mathlib.Core.Path.{_≡_, refl, sym, ap, ap₂, _∙_, subst}
-use Prim.Native.Nat.{ℕ, _+_, _-_, _*_, _^_, _≤_, _<_}
+use mathlib.Core.Path.{_≡_, refl, sym, ap, ap₂, subst}
+use Prim.Native.Nat.{ℕ, _-_, _<_}
 use mathlib.Core.List.{List, [], _∷_, _++_}
 use lib.Dec.{T}
-use lib.IntN.{ℤ, pos}
+use lib.IntN.{pos}
 use lib.ListN.{take}
 use lib.Ieee.{Float, binary64, fits}
 use Rattle.leaves.specs.Numbers.{_⊖_, _⊗_, _⊘_, count}
-use Rattle.leaves.specs.Loops.{sumTo, tab, fill}
+use Rattle.leaves.specs.Loops.{fill}
 use Rattle.leaves.specs.Shift.{shift}
 use Rattle.leaves.proofs.Loops.{sum-ext, tab-ext}
 use Rattle.matrix.specs.Matrix.{Matrix}
 use Rattle.matrix.proofs.Stored.{rows-ext}
 use Rattle.estimators.specs.Sample.{mean, deviation, gram, covariance}
-use Rattle.estimators.specs.Moments.{Moments, moments}
-use Rattle.estimators.specs.Calls.{Answered, answered}
+use Rattle.estimators.specs.Moments.{moments}
+use Rattle.estimators.specs.Calls.{answered}
 use Rattle.estimators.specs.declared.Answer.the-variants.{Shrunk}
-use Rattle.law.specs.Law.{Alike, Times, All, AtLeast}
+use Rattle.law.specs.Law.{Alike, All, AtLeast}
 use Rattle.law.proofs.Numbers.{times-shift, times-itself, take-fill, means-alike, all-tab}
 use Rattle.law.proofs.Chain.{parts}
 

@@ -1,15 +1,14 @@
 -- "Exactly 2 ^ k times" between two numbers of f64 is a shift by k, and back; for a power below 0 the two change places. Assumes nothing.
 use mathlib.Core.Path.{_≡_, refl, sym, ap, ap₂, _∙_, subst, subst₂}
-use Prim.Native.Nat.{ℕ, zero, suc, _+_, _*_, _/_, _^_, _≤_, _<_}
-use native.Mathlib.Nat.{mul-one, zero-mul}
+use Prim.Native.Nat.{ℕ, zero, suc, _+_, _*_, _^_, _<_}
+use native.Mathlib.Nat.{zero-mul}
 use native.Mathlib.Omega.{arith}
-use mathlib.Core.Bool.{Bool, true, false, _&&_, _||_}
+use mathlib.Core.Bool.{Bool, true, false}
 use mathlib.Core.List.{List, [], _∷_, _++_, map}
 use lib.Dec.{T}
 use lib.IntN.{ℤ, pos, negsuc, negℤ, natAbs, _+ℤ_, _*ℤ_, *ℤ-one}
-use lib.ListN.{length, getD, take, drop}
-use lib.Ieee.{Float, nan, inf, fin, binary64, fits, up, down}
-use lib.Ieee.Fits.{and-l}
+use lib.ListN.{getD, take, drop}
+use lib.Ieee.{Float, nan, inf, fin, binary64, fits}
 use Rattle.leaves.specs.Numbers.{isFinite, signum}
 use Rattle.leaves.specs.Loops.{tab, fill}
 use Rattle.leaves.specs.Shift.{shift}

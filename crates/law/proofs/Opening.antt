@@ -1,37 +1,31 @@
 -- The checks that open every call, of returns in range and of the same returns times 2 ^ k: the shapes and lengths are equal, and returns in range, with their covariance, are finite. So both runs
 -- refuse alike, or both go on with returns of the granted sizes, the second's each 2 ^ k times the first's. Assumes nothing.
 use mathlib.Core.Path.{_≡_, refl, sym, ap, ap₂, _∙_, subst}
-use mathlib.Core.Logic.{_⊎_, inl, inr}
-use Prim.Native.Nat.{ℕ, zero, suc, _+_, _-_, _*_, _^_, _≤_, _<_}
-use native.Mathlib.Nat.{le-trans, le-of-eq, lt-of-lt-of-le, le-of-suc-le-suc, not-suc-le-zero}
+use Prim.Native.Nat.{ℕ, zero, suc, _+_, _-_, _*_, _≤_, _<_}
+use native.Mathlib.Nat.{le-trans, le-of-eq, lt-of-lt-of-le}
 use native.Mathlib.Omega.{arith}
-use mathlib.Core.Bool.{Bool, true, false, not, _&&_, _||_}
-use mathlib.Core.List.{List, [], _∷_, _++_, map}
+use mathlib.Core.Bool.{Bool, true, false, not, _||_}
+use mathlib.Core.List.{List, [], _++_, map}
 use mathlib.Core.Option.{Option, none, some}
-use lib.Dec.{T, eqb, ltb, leb→le, lit≤}
-use lib.IntN.{ℤ, pos, negsuc, negℤ}
+use lib.Dec.{T, eqb, ltb, lit≤}
+use lib.IntN.{ℤ, pos}
 use lib.ListN.{length, getD, length-map, List·getD-map}
-use lib.Ieee.{Float, nan, inf, fin, binary64, fits, eq, lt, le, below, level}
-use lib.Ieee.Fits.{and-l, and-r}
-use mir.Facts.{or-yes}
-use borrow.Author.Tests.{ltb-true, ltb-false, eqb-true, eq-eqb}
-use Rattle.leaves.specs.Numbers.{zero⁺, isFinite, abs}
-use Rattle.leaves.specs.Scaling.{pow2}
+use lib.Ieee.{Float, nan}
+use borrow.Author.Tests.{ltb-false, eqb-true, eq-eqb, not-false}
+use Rattle.leaves.specs.Numbers.{isFinite}
 use Rattle.leaves.specs.Shift.{shift}
 use Rattle.leaves.proofs.Loops.{cell}
 use Rattle.leaves.proofs.Shift.{isFinite-shift, shift-nan}
-use Rattle.leaves.proofs.Units.{U, Val, sign, mag, val-mag, mag-val, mag-abs, lt-val, eq-val}
-use Rattle.leaves.proofs.Range.{Range, range-size}
-use Rattle.leaves.proofs.Operations.{Moved, moved-weaken}
+use Rattle.leaves.proofs.Operations.{Moved}
 use Rattle.matrix.specs.Limits.{maxSide}
-use Rattle.matrix.specs.Matrix.{Matrix, at, firstEntry, allFinite}
+use Rattle.matrix.specs.Matrix.{Matrix, at, allFinite}
 use Rattle.matrix.proofs.Alike.{first-entry-alike}
-use Rattle.estimators.specs.Refusals.{Check, passes, when, whenSome, first}
+use Rattle.estimators.specs.Refusals.{Check, passes, whenSome, first}
 use Rattle.estimators.specs.Sample.{covariance}
 use Rattle.estimators.specs.Order.{maxPeriods, notFinite, opening}
 use Rattle.estimators.specs.declared.Refusal.the-variants.{NoAssets, TooLarge, TooFewPeriods, WrongLength, NotFinite, CovarianceNotFinite}
 use Rattle.law.specs.Law.{All, Sized}
-use Rattle.law.proofs.Chain.{Chain, chain-same, chain-test, chain-must, chain-append, ends}
+use Rattle.law.proofs.Chain.{Chain, chain-same, chain-test, chain-must}
 use Rattle.law.proofs.Sizes.{all-at, sized-range}
 use Rattle.law.proofs.Sample.{Returns, covariance-moved}
 
@@ -103,7 +97,7 @@ module _ (k : ℕ) (small : k ≤ 80) (r : List Float) (sizes : All (Sized 40) r
         few = le-trans (ltb-false maxSide n (large .0)) (lit≤ tt);
         periods = ltb-false T 2 e₃;
         most = le-trans (ltb-false maxPeriods T (large .1)) (lit≤ tt);
-        full = eqb-true (length r) (T * n) (not-no (eqb (length r) (T * n)) (long .0));
+        full = eqb-true (length r) (T * n) (not-false (eqb (length r) (T * n)) (long .0));
       } in
       chain-same (notFinite T n (at r n)) (entries-same k r T n) (λ e₅.
       chain-must (allFinite n n (covariance T (at r n))) CovarianceNotFinite (covariance-same s) (λ e₆. then s (opens e₁ e₂ e₃ (s .full) e₅ e₆)))))))
@@ -116,10 +110,6 @@ module _ (k : ℕ) (small : k ≤ 80) (r : List Float) (sizes : All (Sized 40) r
       or-no : (a b : Bool) → (a || b) ≡ false → (a ≡ false) × (b ≡ false)
       or-no true b h = absurd (subst lib.Dec.T h tt)
       or-no false b h = (refl, h)
-
-      not-no : (a : Bool) → not a ≡ false → a ≡ true
-      not-no true h = refl
-      not-no false h = sym h
 
       not-zero : (n : ℕ) → eqb n 0 ≡ false → 0 < n
       not-zero zero h = absurd (subst lib.Dec.T h (lib.Dec.eqb-refl 0))

@@ -26,7 +26,8 @@ use Rattle.estimators.specs.declared.Answer.the-variants.{Refused, Covariance, 
 use Rattle.law.specs.Law as Law
 use Rattle.law.specs.Law.{Question, ask}
 use Rattle.law.proofs.Calls.{averages, estimated, covariances, ofAnswer, covariance-is}
-use Rattle.law.proofs.Passing.{pass-test, pass-must, pass-cons, pass-append, pass-opening, Accepted}
+use Rattle.law.proofs.Chain.{pass-test, pass-must}
+use Rattle.law.proofs.Passing.{pass-cons, pass-append, pass-opening, Accepted}
 
 -- ---- the answer slice
 pub record Kept (needed : ℕ) (old : List Float) (w : Answered) : Type 0 where

@@ -8,26 +8,18 @@ use lib.ListN.{length}
 use lib.Ieee.{Float}
 use borrow.Author.Tests.{ltb-false}
 use Rattle.matrix.specs.Limits.{maxSide, maxSweeps}
-use Rattle.estimators.specs.Refusals.{Check, passes, refuses, when, first}
+use Rattle.estimators.specs.Refusals.{Check, passes, refuses, first}
 use Rattle.estimators.specs.Order.{maxPeriods, opening, sweepLimit}
 use Rattle.estimators.specs.Calls.{Answered, settle}
 use Rattle.estimators.specs.declared.Field.the-variants.{SweepLimitField}
 use Rattle.estimators.specs.declared.Refusal.{Refusal}
 use Rattle.estimators.specs.declared.Refusal.the-variants.{TooLarge, WrongLength, BadSetting}
 use Rattle.estimators.specs.declared.Answer.the-variants.{Refused}
+use Rattle.law.proofs.Chain.{pass-test}
 
 abbrev IsPass : Check → Type 0
 IsPass passes = Unit {0}
 IsPass (refuses c) = ⊥
-
--- ---- one check
-pub pass-test : (b : Bool) (c : Refusal) → when b c ≡ passes → b ≡ false
-pass-test true c h = absurd (subst IsPass (sym h) tt)
-pass-test false c h = refl
-
-pub pass-must : (b : Bool) (c : Refusal) → when (not b) c ≡ passes → b ≡ true
-pass-must true c h = refl
-pass-must false c h = absurd (subst IsPass (sym h) tt)
 
 -- ---- lists of checks
 pub pass-cons : (c : Check) (cs : List Check) → first (c ∷ cs) ≡ passes → (c ≡ passes) × (first cs ≡ passes)

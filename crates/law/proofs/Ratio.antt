@@ -3,31 +3,31 @@
 -- finite and not zero, every λ is above 0, and at least 2 ^ -53 Λ. With P the largest p in size, N is at most 2 ^ 367 P / Λ; and D is at least P P / 16 Λ where that is a unit or more, and else 1 / 4 Λ
 -- at least, in units. Both bounds give the ratio's, and no lower bound on V or Λ is needed. Assumes nothing.
 use mathlib.Core.Path.{_≡_, refl, sym, ap, ap₂, _∙_, subst, subst₂}
-use mathlib.Core.Logic.{_⊎_, inl, inr}
+use mathlib.Core.Logic.{inl, inr}
 use Prim.Native.Nat.{ℕ, zero, suc, _+_, _-_, _*_, _/_, _^_, _≤_, _<_, zero-le}
-use native.Mathlib.Nat.{le-refl, le-trans, le-of-eq, le-of-lt, lt-of-lt-of-le, lt-of-le-of-lt, lt-irrefl, lt-suc-self, lt-trans, mul-le-mul, mul-le-mul-left, mul-le-mul-right, mul-pos, mul-assoc, mul-comm, mul-right-comm, mul-one, one-mul, zero-mul, le-of-mul-le-mul-right, zero-lt-suc, eq-zero-or-pos, not-suc-le-zero, le-div-iff-mul-le, div-mul-le-self, eq-or-lt-of-le, le-of-suc-le-suc, add-zero}
+use native.Mathlib.Nat.{le-refl, le-trans, le-of-eq, le-of-lt, lt-of-lt-of-le, lt-of-le-of-lt, lt-irrefl, lt-suc-self, lt-trans, mul-le-mul, mul-le-mul-left, mul-le-mul-right, mul-pos, mul-assoc, mul-comm, mul-right-comm, mul-one, one-mul, le-of-mul-le-mul-right, zero-lt-suc, eq-zero-or-pos, not-suc-le-zero, le-div-iff-mul-le, div-mul-le-self, eq-or-lt-of-le, le-of-suc-le-suc, add-zero}
 use native.Mathlib.Omega.{arith}
-use mathlib.Core.Bool.{Bool, true, false, not, _&&_, _||_, cond}
-use lib.Dec.{T, ltb, eqb, eqb·suc-zero, lit≤, lit<}
+use mathlib.Core.Bool.{Bool, true, false, cond}
+use lib.Dec.{T, ltb, eqb·suc-zero, lit≤, lit<}
 use lib.IntN.{ℤ, pos}
 use lib.Pow.{pow-add, pow-pos, pow-mono}
-use lib.Ieee.{Float, nan, inf, fin, binary64, fits, up, down, mul, div, unlike, lt, le, eq, size, below, level}
+use lib.Ieee.{Float, nan, inf, fin, binary64, fits, down, mul, div, unlike, lt, le, size, below}
 use lib.Ieee.Digits.{size-lt, size-reaches}
-use lib.Ieee.Fits.{up-pos, down-pos, add-fits, mul-fits, div-fits}
+use lib.Ieee.Fits.{up-pos, mul-fits, div-fits}
 use lib.Ieee.Positive.{first-pos}
 use Rattle.leaves.proofs.Laws.{size-pos}
 use Rattle.leaves.proofs.Whole.{le-or-lt}
-use borrow.Author.Tests.{lt-ltb, le-ltb, ltb-true, ltb-false, eqb-true}
-use Rattle.leaves.specs.Numbers.{_⊕_, _⊗_, _⊘_, zero⁺, ε, count, isFinite, larger, smaller}
+use borrow.Author.Tests.{lt-ltb, le-ltb, ltb-true, ltb-false}
+use Rattle.leaves.specs.Numbers.{_⊕_, _⊗_, _⊘_, ε, count, isFinite, larger, smaller}
 use Rattle.leaves.specs.Loops.{loop, sumTo, minTo, maxTo}
-use Rattle.leaves.proofs.Rounding.{near, Held, Near, near-most, near-least, near-error, near-held, held-pow, held-small, held-times}
-use Rattle.leaves.proofs.Units.{U, U-pos, U-is, Top, pow-under-Top, Val, zero-mag, sign, mag, val-mag, val-finite, mag-val, mag-held, rounded, rounded-val, rounded-under, lt-val, eq-val}
+use Rattle.leaves.proofs.Rounding.{near, Near, near-most, near-error, near-held, held-small, held-times}
+use Rattle.leaves.proofs.Units.{U, U-pos, Top, pow-under-Top, Val, zero-mag, sign, mag, val-mag, mag-val, mag-held, rounded, rounded-val, rounded-under, lt-val}
 use Rattle.leaves.proofs.Arithmetic.{sumSign, total, total-le, add-finite, mul-finite, div-finite, add-rounded, mul-rounded, div-rounded}
-use Rattle.leaves.proofs.Range.{Range, range-fits, range-weaken, count-val}
-use Rattle.leaves.proofs.Operations.{Moved, still}
+use Rattle.leaves.proofs.Range.{range-weaken, count-val}
+use Rattle.leaves.proofs.Operations.{still}
 use Rattle.leaves.proofs.Signs.{sign-mul, sign-div}
 use Rattle.leaves.proofs.Totals.{moved-sum}
-use Rattle.law.proofs.Sizes.{number, le-or}
+use Rattle.law.proofs.Sizes.{number, val-number, le-or}
 use Rattle.law.proofs.Weighted.{sum-fits, sum-least}
 
 -- ---- one operation's size
@@ -109,6 +109,10 @@ module _ (x y : Float) (fx : T (fits binary64 x)) (fy : T (fits binary64 y)) whe
       size-of : (s : Bool) (m : ℕ) (e : ℤ) → T (fits binary64 (fin s m e)) → mag (fin s m e) < Top
       size-of s m e t = mag-held (fin s m e) t (unfold isFinite in tt) .1
 
+      inside : (t : Bool) (b : ℕ) → b < Top → (0 < cond t (Top - b) (Top + b)) × (cond t (Top - b) (Top + b) < Top + Top)
+      inside true b l = (omega arith, omega arith)
+      inside false b l = (omega arith, omega arith)
+
       pair : (s t : Bool) (a b : ℕ) → a < Top → b < Top → below s a t b ≡ ltb (cond s (Top - a) (Top + a)) (cond t (Top - b) (Top + b))
       pair false false a b l k = ltb-same a b (Top + a) (Top + b) (λ h. omega arith) (λ h. omega arith)
       pair false true a b l k = sym (le-ltb (Top + a) (Top - b) (omega arith))
@@ -123,22 +127,10 @@ module _ (x y : Float) (fx : T (fits binary64 x)) (fy : T (fits binary64 y)) whe
       go (inf true) (inf false) tx ty p q = unfold lt key in sym (lt-ltb 0 (Top + Top) (let t = pow-under-Top 0 (lit≤ tt) in omega arith))
       go (inf false) (inf true) tx ty p q = unfold lt key in sym (le-ltb (Top + Top) 0 zero-le)
       go (inf false) (inf false) tx ty p q = unfold lt key in sym (le-ltb (Top + Top) (Top + Top) (le-refl (Top + Top)))
-      go (inf true) (fin t n d) tx ty p q = unfold lt key in sym (lt-ltb 0 (cond t (Top - mag (fin t n d)) (Top + mag (fin t n d))) (above t (mag (fin t n d)) (size-of t n d ty)))
-        where
-          above : (t : Bool) (b : ℕ) → b < Top → 0 < cond t (Top - b) (Top + b)
-          above true b l = omega arith
-          above false b l = omega arith
-      go (inf false) (fin t n d) tx ty p q = unfold lt key in sym (le-ltb (Top + Top) (cond t (Top - mag (fin t n d)) (Top + mag (fin t n d))) (under t (mag (fin t n d)) (size-of t n d ty)))
-        where
-          under : (t : Bool) (b : ℕ) → b < Top → cond t (Top - b) (Top + b) ≤ Top + Top
-          under true b l = omega arith
-          under false b l = omega arith
+      go (inf true) (fin t n d) tx ty p q = unfold lt key in sym (lt-ltb 0 (cond t (Top - mag (fin t n d)) (Top + mag (fin t n d))) (inside t (mag (fin t n d)) (size-of t n d ty) .0))
+      go (inf false) (fin t n d) tx ty p q = unfold lt key in sym (le-ltb (Top + Top) (cond t (Top - mag (fin t n d)) (Top + mag (fin t n d))) (le-of-lt (inside t (mag (fin t n d)) (size-of t n d ty) .1)))
       go (fin s m e) (inf true) tx ty p q = unfold lt key in sym (le-ltb (cond s (Top - mag (fin s m e)) (Top + mag (fin s m e))) 0 zero-le)
-      go (fin s m e) (inf false) tx ty p q = unfold lt key in sym (lt-ltb (cond s (Top - mag (fin s m e)) (Top + mag (fin s m e))) (Top + Top) (under s (mag (fin s m e)) (size-of s m e tx)))
-        where
-          under : (t : Bool) (b : ℕ) → b < Top → cond t (Top - b) (Top + b) < Top + Top
-          under true b l = omega arith
-          under false b l = omega arith
+      go (fin s m e) (inf false) tx ty p q = unfold lt key in sym (lt-ltb (cond s (Top - mag (fin s m e)) (Top + mag (fin s m e))) (Top + Top) (inside s (mag (fin s m e)) (size-of s m e tx) .1))
       go (fin s m e) (fin t n d) tx ty p q =
           lt-val (fin s m e) (fin t n d) s t (mag (fin s m e)) (mag (fin t n d)) (unfold sign in mag-val (fin s m e) tx (unfold isFinite in tt)) (unfold sign in mag-val (fin t n d) ty (unfold isFinite in tt))
           ∙ pair s t (mag (fin s m e)) (mag (fin t n d)) (size-of s m e tx) (size-of t n d ty) ∙ unfold key in refl
@@ -258,12 +250,7 @@ module _ (n : ℕ) (few : suc n ≤ 32) (v : ℕ → Float) (fit : (e : ℕ) →
           subst (λ (z : Float). Val z (unlike false s) B) (sym (mul-rounded (count (suc n) ⊗ ε) Λ false s a L (tiny (suc n) few) w)) (rounded-val (unlike false s) (a * L) U U-pos (lt-of-le-of-lt B-most (mag-held Λ t finite-Λ .1)))
 
       bar-number : T (number (count (suc n) ⊗ ε ⊗ fin s c e))
-      bar-number = go (count (suc n) ⊗ ε ⊗ fin s c e) (unlike false s) B bar-val
-        where
-          go : (x : Float) (r : Bool) (b : ℕ) → Val x r b → T (number x)
-          go nan r b w = absurd w
-          go (inf q) r b w = absurd w
-          go (fin q k d) r b w = tt
+      bar-number = val-number (count (suc n) ⊗ ε ⊗ fin s c e) (unlike false s) B bar-val
 
       key-val : (x : Float) (r : Bool) (b : ℕ) → Val x r b → key x ≡ cond r (Top - b) (Top + b)
       key-val nan r b w = absurd w
@@ -357,12 +344,10 @@ module _ (n : ℕ) (few : suc n ≤ 32) (v : ℕ → Float) (vf : (e : ℕ) → 
   D = sumTo (suc n) (λ e. p e ⊗ p e ⊘ v e)
 
   over-number : (x y : Float) → T (isFinite (x ⊘ y)) → T (number y)
-  over-number x nan f = absurd (by-nan x f)
-    where
-      by-nan : (x : Float) → T (isFinite (x ⊘ nan)) → ⊥
-      by-nan nan f = unfold div isFinite in f
-      by-nan (inf s) f = unfold div isFinite in f
-      by-nan (fin s k e) f = unfold div isFinite in f
+  unfolding div isFinite
+  over-number nan nan f = f
+  over-number (inf s) nan f = f
+  over-number (fin s k e) nan f = f
   over-number x (inf t) f = tt
   over-number x (fin t k e) f = tt
 
@@ -501,12 +486,7 @@ module _ (n : ℕ) (few : suc n ≤ 32) (v : ℕ → Float) (vf : (e : ℕ) → 
   ratio-most F = go D refl (div-finite N D F) F
     where
       go : (d : Float) → D ≡ d → T (isFinite N) → T (isFinite (N ⊘ D)) → mag (N ⊘ D) ≤ 2 ^ 1983
-      go nan e f g = absurd (by-nan N (subst (λ (z : Float). T (isFinite (N ⊘ z))) e g))
-        where
-          by-nan : (x : Float) → T (isFinite (x ⊘ nan)) → ⊥
-          by-nan nan f = unfold div isFinite in f
-          by-nan (inf s) f = unfold div isFinite in f
-          by-nan (fin s k e) f = unfold div isFinite in f
+      go nan e f g = absurd (over-number N nan (subst (λ (z : Float). T (isFinite (N ⊘ z))) e g))
       go (inf s) e f g = le-trans (le-of-eq (ap (λ (z : Float). mag (N ⊘ z)) e ∙ by-inf N f)) zero-le
         where
           by-inf : (x : Float) → T (isFinite x) → mag (x ⊘ inf s) ≡ 0

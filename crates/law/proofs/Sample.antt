@@ -1,23 +1,22 @@
 -- What is computed from the returns column by column, for returns x and their copies y, each 2 ^ k times x: means, deviations, largest sizes, the sample covariance and the two semicovariances are
 -- scaled exactly, because every sum, product and quotient on the way is a whole number of units and far from overflow. Exponents are of units of 2 ^ -1074: a return, of size 2 ^ -40 to 2 ^ 40, has
 -- 2 ^ 1034 to 2 ^ 1114 units and is a multiple of 2 ^ 982. The same laws with k = 0 give the ranges of what is computed from one run's numbers. Assumes nothing.
-use mathlib.Core.Path.{_≡_, refl, sym, ap, ap₂, _∙_}
-use Prim.Native.Nat.{ℕ, suc, _+_, _-_, _*_, _^_, _≤_, _<_, zero-le}
-use native.Mathlib.Nat.{le-refl, le-trans, zero-add, mul-pos}
+use mathlib.Core.Path.{_≡_, ap, ap₂, _∙_}
+use Prim.Native.Nat.{ℕ, suc, _+_, _-_, _^_, _≤_, _<_, zero-le}
+use native.Mathlib.Nat.{le-trans, zero-add}
 use native.Mathlib.Omega.{arith}
 use mathlib.Core.Bool.{Bool, true, false, cond}
-use mathlib.Core.Option.{Option}
 use lib.Dec.{T, lit≤, lit<}
 use lib.IntN.{pos}
 use lib.Ieee.{Float, fits, le, lt, ofBits}
-use Rattle.leaves.specs.Numbers.{_⊕_, _⊖_, _⊗_, _⊘_, zero⁺, count, 1e-10, isFinite, min0}
-use Rattle.leaves.specs.Loops.{sumTo, firstTo, amaxTo}
+use Rattle.leaves.specs.Numbers.{_⊖_, _⊗_, _⊘_, zero⁺, count, 1e-10, isFinite, min0}
+use Rattle.leaves.specs.Loops.{sumTo}
 use Rattle.leaves.specs.Root.{sqrt}
 use Rattle.leaves.specs.Shift.{shift}
 use Rattle.leaves.proofs.Loops.{amax-ext, first-ext}
 use Rattle.leaves.proofs.Shift.{le-shift, min0-shift}
 use Rattle.leaves.proofs.SqrtLaws.{sqrt-shift}
-use Rattle.leaves.proofs.Units.{U, U-pos, mag, val-mag}
+use Rattle.leaves.proofs.Units.{U, mag}
 use Rattle.leaves.proofs.Range.{Range, sized, range-zero, range-abs, range-sized, range-count, count-pos}
 use Rattle.leaves.proofs.Operations.{Moved, moved-weaken, moved-sub, moved-mul, moved-over, still}
 use Rattle.leaves.proofs.Totals.{moved-sum, amax-shift, amax-one, amax-most}
@@ -37,6 +36,10 @@ pub record Returns (k n T g l h : ℕ) (x y : Matrix) : Type 0 where
   pub periods : 2 ≤ T
   pub most : T ≤ 4096
   pub entries : (t i : ℕ) → t < T → i < n → Moved k g l h (x t i) (y t i)
+
+-- the same periods and assets, with other entries
+pub entries-as : {k k' n T g g' l l' h h' : ℕ} {x x' y y' : Matrix} → Returns k n T g l h x y → ((t i : ℕ) → t < T → i < n → Moved k' g' l' h' (x' t i) (y' t i)) → Returns k' n T g' l' h' x' y'
+entries-as r each = record { assets = r .assets; few = r .few; periods = r .periods; most = r .most; entries = each }
 
 -- a sum of T terms over a count
 pub average-moved : {k g h l : ℕ} (T c : ℕ) (u u' : ℕ → Float) → T ≤ 4096 → 0 < c → c ≤ 4096 → ((t : ℕ) → t < T → Moved k g l h (u t) (u' t)) → (g' : ℕ) → g' + 64 ≤ g → 12 + h + k ≤ 2097

@@ -2,24 +2,23 @@
 -- the same floats, below 2 in size, exactly (`scaling`). Where A is zero all numbers are, and the exponent stays 0: then the scaled numbers are zeros, which are their own copies
 -- under a shift by k. What is computed from them is scaled back by 2 ^ b(A), and either way the second run's result is 2 ^ k times the first's (`scaled-back`). Assumes nothing.
 use mathlib.Core.Path.{_≡_, refl, sym, ap, ap₂, _∙_, subst}
-use mathlib.Core.Logic.{_⊎_, inl, inr}
+use mathlib.Core.Logic.{inl, inr}
 use Prim.Native.Nat.{ℕ, zero, suc, _+_, _-_, _*_, _^_, _≤_, _<_, zero-le}
-use native.Mathlib.Nat.{le-refl, le-trans, le-of-eq, le-of-lt, le-antisymm, lt-of-le-of-lt, lt-irrefl, eq-zero-or-pos, zero-mul, mul-assoc, mul-right-comm, mul-pos, mul-one, mul-le-mul-left, mul-le-mul-right, mul-lt-mul-of-pos-right, le-of-mul-le-mul-right, zero-lt-suc, sub-self, sub-zero, lt-suc-self}
+use native.Mathlib.Nat.{le-refl, le-trans, le-of-eq, le-of-lt, le-antisymm, lt-of-le-of-lt, lt-irrefl, eq-zero-or-pos, zero-mul, mul-assoc, mul-right-comm, mul-pos, mul-one, mul-le-mul-left, mul-le-mul-right, le-of-mul-le-mul-right, zero-lt-suc, sub-self, sub-zero, lt-suc-self}
 use native.Mathlib.Omega.{arith}
-use mathlib.Core.Bool.{Bool, true, false}
 use lib.Dec.{T}
 use lib.IntN.{ℤ, pos, negℤ, _+ℤ_}
 use lib.Pow.{pow-add, pow-pos, pow-mono, pow-lt}
-use lib.Ieee.{Float, nan, inf, fin, binary64, size, up, down, fits}
+use lib.Ieee.{Float, nan, inf, fin, binary64, size, down, fits}
 use lib.Ieee.Digits.{size-lt, size-reaches}
-use lib.Ieee.Fits.{up-pos, down-pos}
+use lib.Ieee.Fits.{up-pos}
 use Rattle.leaves.specs.Numbers.{isFinite}
 use Rattle.leaves.specs.Scaling.{binaryExponent, pow2Scaled}
 use Rattle.leaves.specs.Shift.{shift}
 use Rattle.leaves.proofs.Whole.{over, under, plus, one-side, same, over-neg, under-neg, up-is, down-is}
 use Rattle.leaves.proofs.Laws.{size-pos, pow-back}
 use Rattle.leaves.proofs.Shift.{shift-zero, shift-shift, shift-forth}
-use Rattle.leaves.proofs.Units.{U, U-is, Top, pow-under-Top, Val, sign, mag, zero-mag, fits-shift}
+use Rattle.leaves.proofs.Units.{U, U-is, pow-under-Top, Val, sign, mag, zero-mag, fits-shift}
 use Rattle.leaves.proofs.Range.{Range, range-value, range-weaken, range-finer}
 use Rattle.leaves.proofs.Operations.{Moved}
 use Rattle.leaves.proofs.PowersOfTwo.{fits-move, range-move, scaled-moves, shift-null, exponent-shift, exponent-range, same-scaled, scaled-copy}

@@ -1,7 +1,7 @@
 -- An estimate b shrunk and regularized, and its copy b', each entry 2 ^ k times as large. A granted intensity or regularization is 0 or not so small that a product leaves the range in which
 -- it is exact. An intensity that is not a number makes every entry NaN, in both runs. Assumes nothing.
 use mathlib.Core.Path.{_≡_, refl, sym, ap, ap₂, _∙_}
-use Prim.Native.Nat.{ℕ, _+_, _-_, _*_, _^_, _≤_, _<_}
+use Prim.Native.Nat.{ℕ, _^_, _≤_, _<_}
 use native.Mathlib.Nat.{le-trans, zero-add, add-zero}
 use native.Mathlib.Omega.{arith}
 use mathlib.Core.Bool.{Bool, true, false, not, cond, _&&_, _||_}
@@ -9,15 +9,14 @@ use lib.Dec.{eqb, lit≤}
 use lib.IntN.{pos}
 use lib.Ieee.{Float, nan, fits, add, mul, lt, le}
 use Rattle.leaves.specs.Numbers.{_⊕_, _⊖_, _⊗_, zero⁺, one, isFinite}
-use Rattle.leaves.specs.Shift.{shift}
 use Rattle.leaves.proofs.Shift.{isFinite-shift, lt-shift, le-shift, shift-zero⁺}
 use Rattle.leaves.proofs.Units.{U, mag}
 use Rattle.leaves.proofs.Range.{Range, sized, range-sized, count-pos}
 use Rattle.leaves.proofs.Operations.{Moved, still, moved-weaken, moved-zero, moved-add, moved-sub, moved-mul, moved-mul-normal, moved-over}
-use Rattle.matrix.specs.Matrix.{Matrix, identity, trace}
+use Rattle.matrix.specs.Matrix.{Matrix, identity}
 use Rattle.estimators.specs.LedoitWolf.{averageVariance, constantCorrelation}
-use Rattle.estimators.specs.Adjusted.{pull, mixed, shrunk, regularized, isAdjusted}
-use Rattle.estimators.specs.Refusals.{Check, when}
+use Rattle.estimators.specs.Adjusted.{pull, mixed, regularized, isAdjusted}
+use Rattle.estimators.specs.Refusals.{when}
 use Rattle.estimators.specs.Order.{badRegularization}
 use Rattle.estimators.specs.declared.Target.{Target}
 use Rattle.estimators.specs.declared.Target.the-variants.{ConstantVariance, ConstantCorrelation}

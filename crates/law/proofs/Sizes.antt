@@ -2,22 +2,22 @@
 use mathlib.Core.Path.{_≡_, refl, sym, ap, _∙_, subst}
 use mathlib.Core.Logic.{_⊎_, inl, inr}
 use Prim.Native.Nat.{ℕ, zero, suc, _+_, _-_, _*_, _^_, _≤_, _<_, zero-le}
-use native.Mathlib.Nat.{le-refl, le-trans, le-of-eq, le-of-lt, le-of-suc-le-suc, not-suc-le-zero, lt-irrefl, zero-mul, one-mul, eq-zero-or-pos}
+use native.Mathlib.Nat.{add-comm, le-trans, le-of-eq, le-of-lt, le-of-suc-le-suc, not-suc-le-zero, lt-irrefl, one-mul, eq-zero-or-pos}
 use native.Mathlib.Omega.{arith}
-use mathlib.Core.Bool.{Bool, true, false, not, _&&_, _||_, Bool·beq}
+use mathlib.Core.Bool.{Bool, true, false, not, _&&_, _||_, and-true, or-not-self}
 use mathlib.Core.List.{List, [], _∷_}
 use lib.Dec.{T, ltb, eqb, lit≤}
-use lib.IntN.{ℤ, pos, negsuc, negℤ}
+use lib.IntN.{ℤ, pos, negℤ}
 use lib.ListN.{length, getD}
-use lib.Pow.{pow-add, pow-pos}
+use lib.Pow.{pow-add}
 use lib.Ieee.{Float, nan, inf, fin, binary64, fits, eq, lt, le, below, level, up, down, ofInt, round}
 use lib.Ieee.Fits.{and-l, and-r}
 use mir.Facts.{or-yes}
-use borrow.Author.Tests.{lt-ltb, le-ltb, ltb-true, ltb-false, eqb-true, eqb-false}
+use borrow.Author.Tests.{not-true, not-false, lt-ltb, le-ltb, ltb-true, ltb-false, eqb-true, eqb-false}
 use Rattle.leaves.specs.Numbers.{zero⁺, two, count, isFinite, abs}
 use Rattle.leaves.specs.Scaling.{pow2}
 use Rattle.leaves.proofs.Whole.{over, under, over-neg, under-neg, up-is, down-is}
-use Rattle.leaves.proofs.Units.{U, Val, sign, mag, zero-val, mag-val, lt-val, eq-val, eq-zero}
+use Rattle.leaves.proofs.Units.{U, Val, sign, mag, zero-val, mag-val, lt-val, eq-zero}
 use Rattle.leaves.proofs.Range.{Range, range-value, range-size, count-val}
 use Rattle.law.specs.Law.{All, Sized, AtLeast}
 
@@ -32,117 +32,81 @@ all-map P Q f [] h = tt
 all-map P Q f (x ∷ xs) h = (f x (h .0), all-map P Q f xs (h .1))
 
 -- ---- comparisons
-and-true : (c : Bool) → (c && true) ≡ c
-and-true true = refl
-and-true false = refl
-
-module _ (x y : Float) {a b : ℕ} (v : Val x false a) (w : Val y false b) where
-  pub lt-yes : lt x y ≡ true → a < b
-  lt-yes h = ltb-true a b (sym (lt-val x y false false a b v w) ∙ h)
-
-  pub lt-no : lt x y ≡ false → b ≤ a
-  lt-no h = ltb-false a b (sym (lt-val x y false false a b v w) ∙ h)
-
-  pub le-yes : le x y ≡ true → a ≤ b
-  unfolding le
-  le-yes h = go (lt x y) (eq x y) refl refl h
-    where
-      go : (s t : Bool) → lt x y ≡ s → eq x y ≡ t → (s || t) ≡ true → a ≤ b
-      go true t p q h = le-of-lt (lt-yes p)
-      go false true p q h = le-of-eq (eqb-true a b (sym (eq-val x y false false a b v w ∙ and-true (eqb a b)) ∙ q))
-      go false false p q h = absurd (subst T (sym h) tt)
-
-  pub le-no : le x y ≡ false → b < a
-  unfolding le
-  le-no h = go (lt x y) (eq x y) refl refl h
-    where
-      go : (s t : Bool) → lt x y ≡ s → eq x y ≡ t → (s || t) ≡ false → b < a
-      go true t p q h = absurd (subst T h tt)
-      go false true p q h = absurd (subst T h tt)
-      go false false p q h = let n = eqb-false a b (sym (eq-val x y false false a b v w ∙ and-true (eqb a b)) ∙ q) in let l = lt-no p in omega arith
-
--- x ≤ y excludes y < x, of any values
-below-not : (s t : Bool) (a b : ℕ) → (below s a t b || level s a t b) ≡ true → below t b s a ≡ false
-below-not false false a b h = go (ltb a b) refl h
-  where
-    go : (c : Bool) → ltb a b ≡ c → (c || (eqb a b && true)) ≡ true → ltb b a ≡ false
-    go true e h = le-ltb b a (le-of-lt (ltb-true a b e))
-    go false e h = le-ltb b a (le-of-eq (eqb-true a b (sym (and-true (eqb a b)) ∙ h)))
-below-not false true a b h = go (eqb a b) refl (eqb a 0) refl h
-  where
-    go : (c : Bool) → eqb a b ≡ c → (d : Bool) → eqb a 0 ≡ d → (c && d) ≡ true → ltb 0 (b + a) ≡ false
-    go true e true f h = let x = eqb-true a b e in let y = eqb-true a 0 f in le-ltb 0 (b + a) (omega arith)
-    go true e false f h = absurd (subst T (sym h) tt)
-    go false e d f h = absurd (subst T (sym h) tt)
-below-not true false a b h = refl
-below-not true true a b h = go (ltb b a) refl h
-  where
-    go : (c : Bool) → ltb b a ≡ c → (c || (eqb a b && true)) ≡ true → ltb a b ≡ false
-    go true e h = le-ltb a b (le-of-lt (ltb-true b a e))
-    go false e h = le-ltb a b (le-of-eq (sym (eqb-true a b (sym (and-true (eqb a b)) ∙ h))))
-
-pub le-not-lt : (x y : Float) → le x y ≡ true → lt y x ≡ false
-unfolding le lt eq
-le-not-lt nan y h = absurd (subst T (sym h) tt)
-le-not-lt (inf s) nan h = absurd (subst T (sym h) tt)
-le-not-lt (inf true) (inf true) h = refl
-le-not-lt (inf true) (inf false) h = refl
-le-not-lt (inf false) (inf true) h = absurd (subst T (sym h) tt)
-le-not-lt (inf false) (inf false) h = refl
-le-not-lt (inf true) (fin t n d) h = refl
-le-not-lt (inf false) (fin t n d) h = absurd (subst T (sym h) tt)
-le-not-lt (fin s m e) nan h = absurd (subst T (sym h) tt)
-le-not-lt (fin s m e) (inf true) h = absurd (subst T (sym h) tt)
-le-not-lt (fin s m e) (inf false) h = refl
-le-not-lt (fin s m e) (fin t n d) h = below-not s t (m * up e * down d) (n * up d * down e) h
-
--- and one of the two holds, of numbers
+-- what is not NaN
 abbrev pub number : Float → Bool
 number nan = false
 number (inf s) = true
 number (fin s m e) = true
 
-below-or : (s t : Bool) (a b : ℕ) → (below s a t b || level s a t b) ≡ false → below t b s a ≡ true
-below-or false false a b h = go (ltb a b) refl (eqb a b) refl h
+pub val-number : (x : Float) (s : Bool) (a : ℕ) → Val x s a → T (number x)
+val-number nan s a v = absurd v
+val-number (inf t) s a v = absurd v
+val-number (fin t m e) s a v = tt
+
+numbers : (x y : Float) → le x y ≡ true → T (number x) × T (number y)
+unfolding le lt eq
+numbers nan y h = absurd (subst T (sym h) tt)
+numbers (inf s) nan h = absurd (subst T (sym h) tt)
+numbers (inf s) (inf t) h = (tt, tt)
+numbers (inf s) (fin t n d) h = (tt, tt)
+numbers (fin s m e) nan h = absurd (subst T (sym h) tt)
+numbers (fin s m e) (inf t) h = (tt, tt)
+numbers (fin s m e) (fin t n d) h = (tt, tt)
+
+-- of numbers, x ≤ y is the opposite of y < x
+equal-or : (a b : ℕ) (c : Bool) → (c ≡ true → a ≡ b) → (c ≡ false → a ≡ b → ⊥) → (ltb a b || c) ≡ not (ltb b a)
+equal-or a b c t f = go (ltb a b) refl c refl
   where
-    go : (c : Bool) → ltb a b ≡ c → (d : Bool) → eqb a b ≡ d → (c || (d && true)) ≡ false → ltb b a ≡ true
-    go true e d f h = absurd (subst T h tt)
-    go false e true f h = absurd (subst T h tt)
-    go false e false f h = let x = ltb-false a b e in let y = eqb-false a b f in lt-ltb b a (omega arith)
-below-or false true a b h = go (eqb a b) refl (eqb a 0) refl h
+    go : (l : Bool) → ltb a b ≡ l → (d : Bool) → c ≡ d → (l || d) ≡ not (ltb b a)
+    go true e d i = sym (ap not (le-ltb b a (le-of-lt (ltb-true a b e))))
+    go false e true i = sym (ap not (le-ltb b a (le-of-eq (t i))))
+    go false e false i = let l = ltb-false a b e in let n = f i in sym (ap not (lt-ltb b a (omega arith)))
+
+both-zero : (a b : ℕ) → (eqb a b && eqb a 0) ≡ not (ltb 0 (a + b))
+both-zero a b = go (eqb a b) refl (eqb a 0) refl
   where
-    go : (c : Bool) → eqb a b ≡ c → (d : Bool) → eqb a 0 ≡ d → (c && d) ≡ false → ltb 0 (b + a) ≡ true
-    go true e true f h = absurd (subst T h tt)
-    go true e false f h = let y = eqb-false a 0 f in lt-ltb 0 (b + a) (omega arith)
-    go false e d f h = let y = eqb-false a b e in lt-ltb 0 (b + a) (omega arith)
-below-or true false a b h = go (ltb 0 (a + b)) refl (eqb a b) refl (eqb a 0) refl h
-  where
-    go : (c : Bool) → ltb 0 (a + b) ≡ c → (d : Bool) → eqb a b ≡ d → (f : Bool) → eqb a 0 ≡ f → (c || (d && f)) ≡ false → false ≡ true
-    go true e d i f j h = absurd (subst T h tt)
-    go false e true i true j h = absurd (subst T h tt)
-    go false e true i false j h = let x = ltb-false 0 (a + b) e in let y = eqb-false a 0 j in absurd (omega arith)
-    go false e false i f j h = let x = ltb-false 0 (a + b) e in let y = eqb-false a b i in absurd (omega arith)
-below-or true true a b h = go (ltb b a) refl (eqb a b) refl h
-  where
-    go : (c : Bool) → ltb b a ≡ c → (d : Bool) → eqb a b ≡ d → (c || (d && true)) ≡ false → ltb a b ≡ true
-    go true e d f h = absurd (subst T h tt)
-    go false e true f h = absurd (subst T h tt)
-    go false e false f h = let x = ltb-false b a e in let y = eqb-false a b f in lt-ltb a b (omega arith)
+    go : (c : Bool) → eqb a b ≡ c → (d : Bool) → eqb a 0 ≡ d → (c && d) ≡ not (ltb 0 (a + b))
+    go true e true i = let x = eqb-true a b e in let y = eqb-true a 0 i in sym (ap not (le-ltb 0 (a + b) (omega arith)))
+    go true e false i = let y = eqb-false a 0 i in sym (ap not (lt-ltb 0 (a + b) (omega arith)))
+    go false e d i = let x = eqb-false a b e in sym (ap not (lt-ltb 0 (a + b) (omega arith)))
+
+below-level : (s t : Bool) (a b : ℕ) → (below s a t b || level s a t b) ≡ not (below t b s a)
+below-level false false a b = ap (λ (c : Bool). ltb a b || c) (and-true (eqb a b)) ∙ equal-or a b (eqb a b) (eqb-true a b) (eqb-false a b)
+below-level false true a b = both-zero a b ∙ ap (λ (n : ℕ). not (ltb 0 n)) (add-comm a b)
+below-level true false a b = ap (λ (c : Bool). ltb 0 (a + b) || c) (both-zero a b) ∙ or-not-self (ltb 0 (a + b))
+below-level true true a b = ap (λ (c : Bool). ltb b a || c) (and-true (eqb a b)) ∙ equal-or b a (eqb a b) (λ e. sym (eqb-true a b e)) (λ e i. eqb-false a b e (sym i))
+
+le-is : (x y : Float) → T (number x) → T (number y) → le x y ≡ not (lt y x)
+unfolding le lt eq
+le-is nan y p q = absurd p
+le-is (inf s) nan p q = absurd q
+le-is (inf true) (inf true) p q = refl
+le-is (inf true) (inf false) p q = refl
+le-is (inf false) (inf true) p q = refl
+le-is (inf false) (inf false) p q = refl
+le-is (inf true) (fin t n d) p q = refl
+le-is (inf false) (fin t n d) p q = refl
+le-is (fin s m e) nan p q = absurd q
+le-is (fin s m e) (inf true) p q = refl
+le-is (fin s m e) (inf false) p q = refl
+le-is (fin s m e) (fin t n d) p q = below-level s t (m * up e * down d) (n * up d * down e)
 
 pub le-or : (x y : Float) → T (number x) → T (number y) → le x y ≡ false → lt y x ≡ true
-unfolding le lt eq
-le-or nan y p q h = absurd p
-le-or (inf s) nan p q h = absurd q
-le-or (fin s m e) nan p q h = absurd q
-le-or (inf true) (inf true) p q h = absurd (subst T h tt)
-le-or (inf true) (inf false) p q h = absurd (subst T h tt)
-le-or (inf false) (inf true) p q h = refl
-le-or (inf false) (inf false) p q h = absurd (subst T h tt)
-le-or (inf true) (fin t n d) p q h = absurd (subst T h tt)
-le-or (inf false) (fin t n d) p q h = refl
-le-or (fin s m e) (inf true) p q h = refl
-le-or (fin s m e) (inf false) p q h = absurd (subst T h tt)
-le-or (fin s m e) (fin t n d) p q h = below-or s t (m * up e * down d) (n * up d * down e) h
+le-or x y p q h = not-false (lt y x) (sym (le-is x y p q) ∙ h)
+
+-- x ≤ y excludes y < x, of any values
+pub le-not-lt : (x y : Float) → le x y ≡ true → lt y x ≡ false
+le-not-lt x y h = let q = numbers x y h in not-true (lt y x) (sym (le-is x y (q .0) (q .1)) ∙ h)
+
+module _ (x y : Float) {a b : ℕ} (v : Val x false a) (w : Val y false b) where
+  pub lt-no : lt x y ≡ false → b ≤ a
+  lt-no h = ltb-false a b (sym (lt-val x y false false a b v w) ∙ h)
+
+  pub le-yes : le x y ≡ true → a ≤ b
+  le-yes h = ltb-false b a (sym (lt-val y x false false b a w v) ∙ le-not-lt x y h)
+
+  pub le-no : le x y ≡ false → b < a
+  le-no h = ltb-true b a (sym (lt-val y x false false b a w v) ∙ le-or x y (val-number x false a v) (val-number y false b w) h)
 
 pub plus-val : {g L B : ℕ} {x : Float} → Range g L B x → sign x ≡ false → Val x false (mag x)
 plus-val {x = x} r e = subst (λ (s : Bool). Val x s (mag x)) e (range-value r)

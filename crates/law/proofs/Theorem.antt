@@ -1,24 +1,22 @@
 -- Demand 3, the power-of-two law: one theorem, for every k from -80 to 80, every pair of inputs and all five calls. For a power not below 0 the second input is the first one shifted, call by
 -- call; for one below 0 the two inputs change places. Assumes nothing.
-use mathlib.Core.Path.{_≡_, refl, sym, ap, ap₂, _∙_, subst}
-use Prim.Native.Nat.{ℕ, zero, suc, _+_, _≤_}
+use mathlib.Core.Path.{_≡_, sym, ap, ap₂, _∙_, subst}
+use Prim.Native.Nat.{ℕ, suc, _+_, _≤_}
 use native.Mathlib.Omega.{arith}
-use mathlib.Core.Bool.{Bool, true, false}
+use mathlib.Core.Bool.{true}
 use mathlib.Core.List.{List, map}
 use lib.Dec.{T, lit≤}
 use lib.IntN.{ℤ, pos, negsuc, natAbs, _+ℤ_}
 use lib.ListN.{length}
 use lib.Ieee.{Float, binary64, fits}
 use Rattle.leaves.specs.Shift.{shift}
-use Rattle.leaves.proofs.Operations.{Moved}
-use Rattle.estimators.specs.Adjusted.{isGiven, isSample}
+use Rattle.estimators.specs.Adjusted.{isGiven}
 use Rattle.estimators.specs.declared.Estimate.{Estimate}
 use Rattle.estimators.specs.declared.Shrinkage.{Shrinkage}
 use Rattle.estimators.specs.declared.Regularization.{Regularization}
-use Rattle.estimators.specs.declared.Regularization.the-variants.{Unregularized, Ridge}
 use Rattle.estimators.specs.declared.Settings.{Settings}
 use Rattle.law.specs.Law as Law
-use Rattle.law.specs.Law.{Times, All, Each, Question, Input, answer, Sized, InRange, QuestionInRange, SettingsInRange, RegularizationInRange, Copy, CopiedEstimate, sample, given, weighted, semi, semiBelow, CopiedRegularization, unregularized, CopiedSettings, CopiedQuestion, covariance, ledoitWolf, james, bayes, Scaled, Alike, PowerOfTwoLaw}
+use Rattle.law.specs.Law.{All, Question, Input, answer, Sized, QuestionInRange, RegularizationInRange, Copy, CopiedEstimate, sample, given, weighted, semi, semiBelow, CopiedRegularization, unregularized, CopiedQuestion, covariance, ledoitWolf, james, bayes, Scaled, Alike, PowerOfTwoLaw}
 use Rattle.law.proofs.Numbers.{copy-shift, copies-shift, each-back, times-up, times-down, twice, alike-down}
 use Rattle.law.proofs.Sizes.{all-map, sized-fits}
 use Rattle.law.proofs.Opening.{sized-moved}

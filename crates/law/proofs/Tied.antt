@@ -1,29 +1,28 @@
 -- One number R scaled by 2 ^ j and by 2 ^ (j + k), where neither result is between 0 and 2 ^ -400 in size: the second is 2 ^ k times the first. If R's digits end above the smallest unit in the first
 -- they do in the second; if not, both results are so small that they must be zero. R is NaN, infinite, or so small that neither result overflows. Assumes nothing.
-use mathlib.Core.Path.{_≡_, refl, sym, ap, ap₂, _∙_, subst, subst₂}
-use mathlib.Core.Logic.{_⊎_, inl, inr}
-use Prim.Native.Nat.{ℕ, zero, suc, _+_, _-_, _*_, _^_, _≤_, _<_, zero-le}
-use native.Mathlib.Nat.{le-refl, le-trans, le-of-eq, le-of-lt, lt-of-lt-of-le, lt-of-le-of-lt, lt-irrefl, mul-le-mul-right, mul-le-mul-left, mul-comm, mul-assoc, mul-right-comm, mul-one, eq-zero-or-pos, le-of-mul-le-mul-right}
+use mathlib.Core.Path.{_≡_, refl, sym, ap, _∙_, subst, subst₂}
+use mathlib.Core.Logic.{inl, inr}
+use Prim.Native.Nat.{ℕ, _+_, _-_, _*_, _^_, _≤_}
+use native.Mathlib.Nat.{le-refl, le-trans, le-of-eq, le-of-lt, lt-of-lt-of-le, lt-of-le-of-lt, lt-irrefl, mul-le-mul-right, mul-assoc, mul-right-comm, mul-one, eq-zero-or-pos, le-of-mul-le-mul-right}
 use native.Mathlib.Omega.{arith}
 use mathlib.Core.Bool.{Bool, true, false}
 use lib.Dec.{T, lit≤, lit<}
-use lib.IntN.{ℤ, pos, negsuc, negℤ, _+ℤ_}
-use lib.Pow.{pow-add, pow-pos, pow-mono, pow-lt}
-use lib.Ieee.{Float, nan, inf, fin, binary64, fits, mul, unlike}
-use lib.Ieee.Fits.{mul-fits}
+use lib.IntN.{ℤ, pos, _+ℤ_}
+use lib.Pow.{pow-add, pow-pos, pow-mono}
+use lib.Ieee.{Float, inf, binary64, fits, mul, unlike}
 use Rattle.leaves.specs.Numbers.{_⊗_, isFinite}
 use Rattle.leaves.specs.Scaling.{pow2, pow2Scaled}
 use Rattle.leaves.specs.Shift.{shift}
 use Rattle.leaves.proofs.Whole.{le-or-lt, over, under, plus, one-side, same}
-use Rattle.leaves.proofs.Scale.{Cut, cut-range, scale-last}
+use Rattle.leaves.proofs.Scale.{cut-range, scale-last}
 use Rattle.leaves.proofs.Rounding.{near, near-most, held-pow}
-use Rattle.leaves.proofs.Units.{U, U-pos, Top, pow-under-Top, Val, sign, mag, val-mag, val-unique, mag-val, zero-val, val-shift, rounded, rounded-val}
+use Rattle.leaves.proofs.Units.{U, U-pos, pow-under-Top, Val, sign, mag, val-mag, val-unique, mag-val, rounded-val}
 use Rattle.leaves.proofs.Arithmetic.{mul-rounded}
 use Rattle.leaves.proofs.Range.{Range, range-size, range-weaken}
 use Rattle.leaves.proofs.PowersOfTwo.{fits-move, scaled-copy, shift-null}
 use Rattle.law.specs.Law.{AtLeast}
 use Rattle.law.proofs.Sizes.{pow2-val, at-least}
-use Rattle.law.proofs.JamesStein.{nan-scaled, scaled-fits}
+use Rattle.law.proofs.JamesStein.{scaled-fits}
 
 -- one step of pow2_scaled
 pub one-step : (x : Float) (j : ℤ) → over j ≤ 1022 → under j ≤ 1022 → pow2Scaled x j ≡ x ⊗ pow2 j

@@ -1,42 +1,38 @@
 -- The weighted mean and covariance. The weights are the same in both runs; over the power of two of a column's largest the returns are too, so the weighted mean of a column is one number, scaled back
 -- by 2 ^ e and by 2 ^ (e + k). Everything is in a range in which nothing rounds differently, and the weighted covariance's products with it. Assumes nothing.
-use mathlib.Core.Path.{_≡_, refl, sym, ap, ap₂, _∙_, subst, subst₂}
-use mathlib.Core.Logic.{_⊎_, inl, inr}
-use Prim.Native.Nat.{ℕ, zero, suc, _+_, _-_, _*_, _^_, _≤_, _<_, zero-le}
-use native.Mathlib.Nat.{le-refl, le-trans, le-of-eq, le-of-lt, lt-of-lt-of-le, lt-suc-self, lt-trans, zero-add, add-zero, mul-one}
+use mathlib.Core.Path.{_≡_, refl, sym, ap, _∙_, subst}
+use mathlib.Core.Logic.{inl, inr}
+use Prim.Native.Nat.{ℕ, zero, suc, _+_, _-_, _^_, _≤_, _<_}
+use native.Mathlib.Nat.{le-trans, le-of-eq, lt-of-lt-of-le, lt-suc-self, lt-trans, zero-add, add-zero}
 use native.Mathlib.Omega.{arith}
-use mathlib.Core.Bool.{Bool, true, false, not, _&&_, _||_}
-use mathlib.Core.List.{List, [], _∷_, _++_, map}
+use mathlib.Core.Bool.{Bool, true, false, _||_}
+use mathlib.Core.List.{List, map}
 use lib.Dec.{T, eqb, lit≤, lit<}
 use lib.IntN.{ℤ, pos, negℤ}
-use lib.ListN.{length, take}
-use lib.Pow.{pow-add, pow-mono}
+use lib.ListN.{length}
 use lib.Ieee.{Float, nan, binary64, fits, le}
 use lib.Ieee.Fits.{add-fits, and-l, and-r}
 use borrow.Author.Tests.{ne-eqb}
-use Rattle.leaves.specs.Numbers.{_⊕_, _⊖_, _⊗_, _⊘_, zero⁺, count, isFinite}
+use Rattle.leaves.specs.Numbers.{_⊕_, _⊖_, _⊗_, _⊘_, count, isFinite}
 use Rattle.leaves.specs.Loops.{loop, sumTo, tab, fill, nth}
 use Rattle.leaves.specs.Root.{sqrt}
 use Rattle.leaves.specs.Scaling.{binaryExponent, pow2Scaled}
 use Rattle.leaves.specs.Shift.{shift}
 use Rattle.leaves.specs.Exp.{exp}
 use Rattle.leaves.proofs.Loops.{sum-ext}
-use Rattle.leaves.proofs.Whole.{over, under}
 use Rattle.leaves.proofs.Rounding.{near, near-least}
 use Rattle.leaves.proofs.Units.{Val, sign, mag, val-mag, mag-val, mag-held, rounded-val, rounded-under}
 use Rattle.leaves.proofs.Arithmetic.{add-rounded, add-finite}
-use Rattle.leaves.proofs.Range.{Range, range-value}
-use Rattle.leaves.proofs.Operations.{Moved, still, moved-weaken, moved-sub, moved-mul, moved-over, moved-div}
-use Rattle.leaves.proofs.Signs.{sign-add, sign-sum, sign-div, sign-not-below}
+use Rattle.leaves.proofs.Range.{Range}
+use Rattle.leaves.proofs.Operations.{Moved, still, moved-weaken, moved-sub, moved-mul, moved-over}
+use Rattle.leaves.proofs.Signs.{sign-sum, sign-div, sign-not-below}
 use Rattle.leaves.proofs.SqrtNearest.{moved-sqrt}
 use Rattle.leaves.proofs.Totals.{moved-sum}
-use Rattle.leaves.proofs.PowersOfTwo.{range-move, scaled-moves}
 use Rattle.matrix.specs.Matrix.{Matrix, at}
-use Rattle.estimators.specs.Refusals.{Check, passes, first, when}
 use Rattle.estimators.specs.Sample.{gram, largest}
 use Rattle.estimators.specs.Weighted.{logDecay, accepted, weights, weightedMean, denominator, weightedCovariance}
 use Rattle.estimators.specs.Order.{badHalfLife, weightedOrder}
-use Rattle.estimators.specs.Calls.{Answered, answered, exponentiallyWeightedMean}
+use Rattle.estimators.specs.Calls.{answered, exponentiallyWeightedMean}
 use Rattle.estimators.specs.declared.Field.the-variants.{HalfLifeField}
 use Rattle.estimators.specs.declared.Refusal.the-variants.{BadSetting}
 use Rattle.estimators.specs.declared.Answer.the-variants.{Mean}
@@ -47,7 +43,7 @@ use Rattle.law.proofs.Chain.{Chain, ends, chain-must, chained, parts, s
 use Rattle.law.proofs.Sizes.{is-true}
 use Rattle.law.proofs.Sample.{Returns, largest-moved, largest-above}
 use Rattle.law.proofs.Scaled.{Scaling, scaling, scaled-back, scaled-range}
-use Rattle.law.proofs.Opening.{Shape, returns, opening-chain}
+use Rattle.law.proofs.Opening.{returns, opening-chain}
 use Rattle.law.proofs.Weights.{weight-range, denominator-range}
 
 -- ---- a sum of numbers without a minus sign is as large as each

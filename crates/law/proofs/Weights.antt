@@ -1,25 +1,24 @@
 -- The weights of an accepted half-life h with T - 1 ≤ 64 h: each is from 2 ^ -72 to 2, and the covariance's denominator from 2 ^ -77 to 2 ^ 20. For then no exponent of a weight is below
 -- -64 ln 2, which is above -48; and where the decay's logarithm is so small that it is not in the normal range, the two exp_m1 of the denominator are near multiples of it, which cancel. They
 -- are the same in both runs. Assumes nothing.
-use mathlib.Core.Path.{_≡_, refl, sym, ap, ap₂, _∙_, subst, subst₂}
-use mathlib.Core.Logic.{_⊎_, inl, inr}
+use mathlib.Core.Path.{_≡_, refl, sym, ap, _∙_, subst, subst₂}
+use mathlib.Core.Logic.{inl, inr}
 use Prim.Native.Nat.{ℕ, zero, suc, _+_, _-_, _*_, _^_, _≤_, _<_, zero-le}
-use native.Mathlib.Nat.{le-refl, le-trans, le-of-eq, le-of-lt, lt-of-lt-of-le, lt-of-le-of-lt, lt-irrefl, mul-le-mul, mul-le-mul-left, mul-le-mul-right, mul-pos, mul-assoc, mul-comm, mul-right-comm, mul-one, one-mul, le-of-mul-le-mul-right, zero-lt-suc, eq-zero-or-pos}
+use native.Mathlib.Nat.{le-refl, le-trans, le-of-eq, lt-of-lt-of-le, lt-of-le-of-lt, lt-irrefl, mul-le-mul, mul-le-mul-left, mul-le-mul-right, mul-pos, mul-assoc, mul-comm, mul-right-comm, mul-one, one-mul, le-of-mul-le-mul-right, zero-lt-suc}
 use native.Mathlib.Omega.{arith}
-use mathlib.Core.Bool.{Bool, true, false, not, _&&_, _||_}
-use lib.Dec.{T, ltb, eqb, lit≤, lit<}
+use mathlib.Core.Bool.{Bool, true, false, _&&_}
+use lib.Dec.{T, lit≤, lit<}
 use lib.IntN.{pos}
-use lib.Pow.{pow-add, pow-pos}
-use lib.Ieee.{Float, nan, inf, fin, binary64, fits, up, down, unlike, neg, lt, le, eq, div, ofBits, ofInt, round}
-use lib.Ieee.Fits.{up-pos, down-pos, div-fits, mul-fits, neg-fits, and-l, and-r}
+use lib.Pow.{pow-pos}
+use lib.Ieee.{Float, nan, inf, fin, binary64, fits, down, unlike, neg, lt, le, eq, div, ofBits}
+use lib.Ieee.Fits.{up-pos, div-fits}
 use lib.Ieee.Positive.{first-pos}
-use borrow.Author.Tests.{ltb-true, ltb-false}
+use borrow.Author.Tests.{ltb-true}
 use Rattle.leaves.specs.Numbers.{_⊗_, _⊘_, zero⁺, two, count, isFinite}
-use Rattle.leaves.specs.Loops.{sumTo, nth}
 use Rattle.leaves.specs.Exp.{ln2, exp, expM1}
-use Rattle.leaves.proofs.Rounding.{near, Held, Near, near-most, near-least, near-error, near-held, held-pow, held-up}
-use Rattle.leaves.proofs.Units.{U, U-pos, U-is, Top, pow-under-Top, Val, rounded, sign, mag, zero-mag, val-mag, val-finite, mag-val, mag-held, zero-val, neg-val, rounded-val, rounded-cases, rounded-under, lt-val}
-use Rattle.leaves.proofs.Arithmetic.{mul-rounded, div-rounded, div-finite}
+use Rattle.leaves.proofs.Rounding.{near, Held, near-most, near-least, near-error, near-held, held-pow, held-up}
+use Rattle.leaves.proofs.Units.{U, U-pos, Top, pow-under-Top, Val, rounded, sign, mag, zero-mag, val-mag, val-finite, mag-val, mag-held, zero-val, neg-val, rounded-val, rounded-cases, rounded-under, lt-val}
+use Rattle.leaves.proofs.Arithmetic.{mul-rounded, div-rounded}
 use Rattle.leaves.proofs.Range.{Range, count-val, range-size}
 use Rattle.leaves.proofs.Whole.{le-or-lt}
 use Rattle.leaves.proofs.Signs.{sign-round}

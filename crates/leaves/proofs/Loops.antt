@@ -1,18 +1,16 @@
--- Laws of `specs/Loops.antt`'s loop, tab, fill and columnLength, and of a cell's index in a table stored row by row. Assumes nothing.
-use mathlib.Core.Path.{_≡_, refl, sym, ap, ap₂, _∙_, subst}
+-- Laws of `specs/Loops.antt`'s loop, tab and fill, and of a cell's index in a table stored row by row. Assumes nothing.
+use mathlib.Core.Path.{_≡_, refl, sym, ap, ap₂, _∙_}
 use mathlib.Core.List.{[], List, _∷_, _++_}
 use mathlib.Core.Option.{Option, none, some}
 use Prim.Native.Nat.{ℕ, zero, suc, _+_, _*_, _/_, _%_, _≤_, _<_, zero-le, suc-le-suc}
-use native.Mathlib.Nat.{lt-suc-self, lt-trans, le-antisymm, lt-of-lt-of-le, div-mul-le-self, mul-div-cancel, suc-mul, mul-le-mul-right, not-suc-le-zero, le-of-suc-le-suc, mul-add-div-right, div-eq-of-lt, add-zero, mul-add-mod-self-right, mod-eq-of-lt, add-mul, one-mul, mul-zero, mod-lt, div-lt-iff-lt-mul}
+use native.Mathlib.Nat.{lt-suc-self, lt-trans, le-antisymm, suc-mul, mul-le-mul-right, not-suc-le-zero, le-of-suc-le-suc, mul-add-div-right, div-eq-of-lt, add-zero, mul-add-mod-self-right, mod-eq-of-lt, mul-zero, mod-lt, div-lt-iff-lt-mul, le-step}
 use native.Mathlib.Numerals.{add-one}
 use native.Mathlib.Omega.{arith}
 use mathlib.Core.Bool.{Bool, true, false, cond}
-use lib.Dec.{ltb}
-use borrow.Author.Tests.{ltb-true, lt-ltb}
 use lib.ListN.{length, getD, set, drop, length-append, length-drop, length-set}
 use lib.Ieee.{Float}
 use Rattle.leaves.specs.Numbers.{_⊕_, zero⁺, abs, larger}
-use Rattle.leaves.specs.Loops.{loop, sumTo, amaxTo, firstTo, tab, fill, columnLength}
+use Rattle.leaves.specs.Loops.{loop, sumTo, amaxTo, firstTo, tab, fill}
 
 -- a cell of row t and column j lies within the table
 pub cell : (t T j n : ℕ) → t < T → j < n → t * n + j < T * n
@@ -21,10 +19,6 @@ cell t T j n ht hj = omega (arith, mul-le-mul-right n ht, suc-mul t n)
 -- row t lies within the table. With it in hand, or in an invariant, omega does the cells: j < n is linear
 pub row : (t T n : ℕ) → t < T → t * n + n ≤ T * n
 row t T n h = omega (arith, mul-le-mul-right n h, suc-mul t n)
-
--- the row after row t begins where row t ends
-pub row-next : (t n : ℕ) → (t + 1) * n ≡ t * n + n
-row-next t n = add-mul t 1 n ∙ ap (λ (k : ℕ). t * n + k) (one-mul n)
 
 -- the row and the column of cell i * n + j
 pub cell-row : (i n j : ℕ) → j < n → (i * n + j) / n ≡ i
@@ -119,20 +113,6 @@ module _ {A : Type 0} where
   unfolding fill
   fill-ext f g n old h = ap (λ (l : List A). l ++ drop n old) (tab-ext f g n h)
 
-  -- a fill over a fill is the last one
-  pub fill-fill : (f g : ℕ → A) (n : ℕ) (old : List A) → n ≤ length old → fill n g (fill n f old) ≡ fill n g old
-  unfolding fill tab
-  fill-fill f g zero old h = refl
-  fill-fill f g (suc n) [] h = absurd (not-suc-le-zero h)
-  fill-fill f g (suc n) (x ∷ old) h = ap (λ (l : List A). g 0 ∷ l) (fill-fill (λ k. f (suc k)) (λ k. g (suc k)) n old (le-of-suc-le-suc h))
-
-  -- a table of F, each cell of which is changed by G, is the table of what G makes of F
-  pub fill-then : (F : ℕ → A) (G : ℕ → A → A) (n : ℕ) (old : List A) (d : A) → n ≤ length old
-      → fill n (λ k. G k (getD (fill n F old) k d)) (fill n F old) ≡ fill n (λ k. G k (F k)) old
-  fill-then F G n old d h =
-      fill-fill F (λ k. G k (getD (fill n F old) k d)) n old h
-      ∙ fill-ext (λ k. G k (getD (fill n F old) k d)) (λ k. G k (F k)) n old (λ k l. ap (G k) (fill-at F n old k d l))
-
 -- A loop that goes over the first n cells of a table, storing f k at cell k: what it has reached before cell i, where it began with old and has out.
 pub record Filled {A : Type 0} (f : ℕ → A) (i n : ℕ) (old out : List A) : Type 0 where
   pub low : i ≤ n
@@ -159,28 +139,6 @@ module _ {A : Type 0} {f : ℕ → A} {n : ℕ} {old out : List A} where
 -- at the start
 pub filled-none : {A : Type 0} (f : ℕ → A) (n : ℕ) (old : List A) → Filled f 0 n old old
 filled-none f n old = record { low = zero-le; is = fill-none f old; len = refl }
-
--- A loop over t that changes each of a table's first n cells once a turn, cell k from s to g t k s: after t turns cell k is the loop of g over t.
-module _ {A : Type 0} (g : ℕ → ℕ → A → A) (z d : A) (n : ℕ) (old : List A) (fits : n ≤ length old) where
-  -- the loop begins with out, each cell of which was set to z
-  pub table-none : (out : List A) → out ≡ fill n (λ k. z) old → out ≡ fill n (λ k. loop 0 (λ t. g t k) z) out
-  unfolding loop
-  table-none out e = e ∙ sym (fill-fill (λ k. z) (λ k. z) n old fits) ∙ ap (λ (o : List A). fill n (λ k. z) o) (sym e)
-
-  -- a turn, for a loop that begins with old
-  pub table-more : (t : ℕ) (out next : List A) → out ≡ fill n (λ k. loop t (λ t. g t k) z) old → next ≡ fill n (λ k. g t k (getD out k d)) out
-      → next ≡ fill n (λ k. loop (t + 1) (λ t. g t k) z) old
-  table-more t out next e e′ =
-      e′ ∙ ap (λ (o : List A). fill n (λ k. g t k (getD o k d)) o) e
-      ∙ fill-then (λ k. loop t (λ t. g t k) z) (g t) n old d fits
-      ∙ fill-ext (λ k. g t k (loop t (λ t. g t k) z)) (λ k. loop (t + 1) (λ t. g t k) z) n old (λ k l. sym (loop-more (λ t. g t k) t z))
-
-  -- the loop began with one, which was old with each cell set to z; after it each cell is changed by h
-  pub table-last : (t : ℕ) (h : A → A) (one out last : List A) → one ≡ fill n (λ k. z) old → out ≡ fill n (λ k. loop t (λ t. g t k) z) one
-      → last ≡ fill n (λ k. h (getD out k d)) out → last ≡ fill n (λ k. h (loop t (λ t. g t k) z)) old
-  table-last t h one out last e e′ e″ =
-      e″ ∙ ap (λ (o : List A). fill n (λ k. h (getD o k d)) o) (e′ ∙ ap (λ (o : List A). fill n (λ k. loop t (λ t. g t k) z) o) e ∙ fill-fill (λ k. z) (λ k. loop t (λ t. g t k) z) n old fits)
-      ∙ fill-then (λ k. loop t (λ t. g t k) z) (λ k. h) n old d fits
 
 -- ---- sums and the largest size, as invariants
 pub sum-none : (f : ℕ → Float) → zero⁺ ≡ sumTo 0 f
@@ -216,24 +174,17 @@ unfolding firstTo
 first-ext zero f g h = refl
 first-ext (suc n) f g h = ap₂ (pick n) (h n (lt-suc-self n)) (first-ext n f g (λ k l. h k (lt-trans l (lt-suc-self n))))
 
+-- what is found is below the end
+pub first-below : (test : ℕ → Bool) (n k : ℕ) → firstTo n test ≡ some k → k < n
+unfolding firstTo
+first-below test zero k e = let z : _≡_ {A = ℕ} 0 1 = cc in omega arith
+first-below test (suc n) k e = go (firstTo n test) (first-below test n k) (test n) e
+  where
+    go : (o : Option ℕ) → (o ≡ some k → k < n) → (b : Bool) → pick n b o ≡ some k → k < suc n
+    go none h true e = let q : n ≡ k = cc in omega arith
+    go none h false e = let z : _≡_ {A = ℕ} 0 1 = cc in omega arith
+    go (some j) h b e = le-step (h e)
+
 -- a number made for i, at the end
 pub at-end : {A : Type 0} (g : ℕ → A) (i n : ℕ) (s : A) → s ≡ g i → i ≤ n → n ≤ i → s ≡ g n
 at-end g i n s e h k = e ∙ ap g (le-antisymm h k)
-
--- ---- a column
-pub column-cell : (size n j t : ℕ) → t < columnLength size n j → t * n + j < size
-unfolding columnLength
-column-cell size n j t h = go (ltb j n) refl h
-  where
-    go : (b : Bool) → ltb j n ≡ b → t < cond b (size / n) 0 → t * n + j < size
-    go false e l = absurd (not-suc-le-zero l)
-    go true e l = lt-of-lt-of-le (cell t (size / n) j n l (ltb-true j n e)) (div-mul-le-self size n)
-
--- the same, of a count of rows that is known to be the column's
-pub column-in : (size n j t rows : ℕ) → rows ≡ columnLength size n j → t < rows → t * n + j < size
-column-in size n j t rows e h = column-cell size n j t (subst (λ (r : ℕ). t < r) e h)
-
--- a matrix of T rows
-pub column-length : (T n j : ℕ) → j < n → columnLength (T * n) n j ≡ T
-unfolding columnLength
-column-length T n j h = rw (lt-ltb j n h) (mul-div-cancel T (omega arith))

@@ -1,6 +1,6 @@
 -- The sum, difference, product and quotient of shifted values are the shifted results, exactly, and in what range a result lies.
 -- A sum or difference asks only that nothing overflows; a product or quotient also that the exact result is a whole number of units or in the normal range (`Grained 0`). Shifts go up;
--- downwards the same is read from the other side (`shift-back`).
+-- downwards the same is read from the other side (`shift-forth`).
 -- `Moved k g l h x x'` puts a value and its copy together: x is a multiple of 2 ^ g units, zero or from 2 ^ l to 2 ^ h units, and x' is x shifted by k. One law for each operation gives
 -- the result and its copy from the operands and theirs. Assumes nothing.
 use mathlib.Core.Path.{_≡_, refl, sym, ap, ap₂, _∙_, subst}
@@ -9,19 +9,17 @@ use Prim.Native.Nat.{ℕ, suc, _+_, _-_, _*_, _^_, _≤_, _<_, zero-le}
 use native.Mathlib.Nat.{le-trans, le-of-eq, lt-of-le-of-lt, eq-zero-or-pos, zero-lt-suc, add-zero, zero-mul, mul-one, mul-comm, mul-assoc, mul-right-comm, mul-mul-mul-comm, add-le-add, mul-le-mul, mul-le-mul-left, mul-le-mul-right}
 use native.Mathlib.Omega.{arith}
 use mathlib.Core.Bool.{Bool}
-use lib.Dec.{T}
 use lib.IntN.{pos}
 use lib.Pow.{pow-add, pow-pos, pow-mono}
-use lib.Ieee.{Float, binary64, unlike, neg, sub, fits}
-use lib.Ieee.Fits.{neg-fits}
+use lib.Ieee.{Float, unlike, neg, sub}
 use lib.Ieee.Positive.{first-pos}
-use Rattle.leaves.specs.Numbers.{_⊕_, _⊖_, _⊗_, _⊘_, zero⁺, isFinite, abs}
+use Rattle.leaves.specs.Numbers.{_⊕_, _⊖_, _⊗_, _⊘_, zero⁺, abs}
 use Rattle.leaves.specs.Shift.{shift}
 use Rattle.leaves.proofs.Shift.{shift-zero, shift-shift, shift-zero⁺, neg-shift, abs-shift}
 use Rattle.leaves.proofs.Rounding.{near, Held, Grained, whole, normal, near-most, held-pow, grained-finer}
-use Rattle.leaves.proofs.Units.{U, U-pos, Top, pow-under-Top, Val, rounded, sign, mag, mag-val, val-shift, rounded-under, rounded-shift}
+use Rattle.leaves.proofs.Units.{U, U-pos, Top, pow-under-Top, Val, rounded, sign, mag, val-shift, rounded-shift}
 use Rattle.leaves.proofs.Arithmetic.{sumSign, total, sumSign-times, total-times, total-le, add-rounded, mul-rounded, div-rounded, div-alike}
-use Rattle.leaves.proofs.Range.{Range, finite-neg, range-value, range-weaken, range-finer, range-grain, range-neg, range-abs, range-zero, range-shift, range-rounded}
+use Rattle.leaves.proofs.Range.{Range, range-value, range-weaken, range-finer, range-grain, range-neg, range-abs, range-zero, range-rounded}
 
 -- ---- powers of two, and U, which is 2 ^ 1074
 pub pow-le-U : (a b c : ℕ) → a + b ≤ c + 1074 → 2 ^ a * 2 ^ b ≤ 2 ^ c * U
@@ -39,62 +37,33 @@ under n d h k D l o =
 
 -- ---- exact scaling
 module _ (x y : Float) (s t : Bool) (a b : ℕ) (v : Val x s a) (w : Val y t b) where
-  add-shifted : (k : ℕ) → shift (pos k) x ⊕ shift (pos k) y ≡ rounded (sumSign s a t b) (total s a t b * 2 ^ k) 1
+  pub add-shifted : (k : ℕ) → shift (pos k) x ⊕ shift (pos k) y ≡ rounded (sumSign s a t b) (total s a t b * 2 ^ k) 1
   add-shifted k =
       add-rounded (shift (pos k) x) (shift (pos k) y) s t (a * 2 ^ k) (b * 2 ^ k) (val-shift k x s a v) (val-shift k y t b w)
       ∙ ap₂ (λ (r : Bool) (n : ℕ). rounded r n 1) (sumSign-times s t a b (2 ^ k) (pow-pos k)) (total-times s t a b (2 ^ k) (pow-pos k))
 
-  add-shift-under : (k : ℕ) → near (total s a t b * 2 ^ k) 1 < Top → shift (pos k) x ⊕ shift (pos k) y ≡ shift (pos k) (x ⊕ y)
+  pub add-shift-under : (k : ℕ) → near (total s a t b * 2 ^ k) 1 < Top → shift (pos k) x ⊕ shift (pos k) y ≡ shift (pos k) (x ⊕ y)
   add-shift-under k o =
       let n = total s a t b in
       add-shifted k ∙ rounded-shift (sumSign s a t b) n 1 k (zero-lt-suc 0) (whole n (sym (mul-one (n * 1) ∙ mul-one n))) o ∙ ap (shift (pos k)) (sym (add-rounded x y s t a b v w))
 
-  mul-shifted : (i j : ℕ) → shift (pos i) x ⊗ shift (pos j) y ≡ rounded (unlike s t) (a * b * 2 ^ (i + j)) U
+  pub mul-shifted : (i j : ℕ) → shift (pos i) x ⊗ shift (pos j) y ≡ rounded (unlike s t) (a * b * 2 ^ (i + j)) U
   mul-shifted i j =
       mul-rounded (shift (pos i) x) (shift (pos j) y) s t (a * 2 ^ i) (b * 2 ^ j) (val-shift i x s a v) (val-shift j y t b w)
       ∙ ap (λ (n : ℕ). rounded (unlike s t) n U) (mul-mul-mul-comm a (2 ^ i) b (2 ^ j) ∙ ap (λ (n : ℕ). a * b * n) (sym (pow-add 2 i j)))
 
-  mul-shift-under : (i j : ℕ) → Grained 0 (a * b) U → near (a * b * 2 ^ (i + j)) U < Top → shift (pos i) x ⊗ shift (pos j) y ≡ shift (pos (i + j)) (x ⊗ y)
+  pub mul-shift-under : (i j : ℕ) → Grained 0 (a * b) U → near (a * b * 2 ^ (i + j)) U < Top → shift (pos i) x ⊗ shift (pos j) y ≡ shift (pos (i + j)) (x ⊗ y)
   mul-shift-under i j G o = mul-shifted i j ∙ rounded-shift (unlike s t) (a * b) U (i + j) U-pos G o ∙ ap (shift (pos (i + j))) (sym (mul-rounded x y s t a b v w))
 
-  div-shifted : (k : ℕ) → 0 < b → shift (pos k) x ⊘ y ≡ rounded (unlike s t) (a * U * 2 ^ k) b
+  pub div-shifted : (k : ℕ) → 0 < b → shift (pos k) x ⊘ y ≡ rounded (unlike s t) (a * U * 2 ^ k) b
   div-shifted k B = div-rounded (shift (pos k) x) y s t (a * 2 ^ k) b (val-shift k x s a v) w B ∙ ap (λ (n : ℕ). rounded (unlike s t) n b) (mul-right-comm a (2 ^ k) U)
 
-  div-shift-under : (k : ℕ) → 0 < b → Grained 0 (a * U) b → near (a * U * 2 ^ k) b < Top → shift (pos k) x ⊘ y ≡ shift (pos k) (x ⊘ y)
+  pub div-shift-under : (k : ℕ) → 0 < b → Grained 0 (a * U) b → near (a * U * 2 ^ k) b < Top → shift (pos k) x ⊘ y ≡ shift (pos k) (x ⊘ y)
   div-shift-under k B G o = div-shifted k B ∙ rounded-shift (unlike s t) (a * U) b k B G o ∙ ap (shift (pos k)) (sym (div-rounded x y s t a b v w B))
 
-sub-is : (x y : Float) → x ⊖ y ≡ x ⊕ neg y
+pub sub-is : (x y : Float) → x ⊖ y ≡ x ⊕ neg y
 unfolding sub
 sub-is x y = refl
-
--- the laws: of finite values of the format, where the result for the shifted ones is finite
-module _ (x y : Float) (fx : T (fits binary64 x)) (fy : T (fits binary64 y)) (nx : T (isFinite x)) (ny : T (isFinite y)) where
-  abbrev vx : Val x (sign x) (mag x)
-  vx = mag-val x fx nx
-
-  abbrev vy : Val y (sign y) (mag y)
-  vy = mag-val y fy ny
-
-  pub add-shift : (k : ℕ) → T (isFinite (shift (pos k) x ⊕ shift (pos k) y)) → shift (pos k) x ⊕ shift (pos k) y ≡ shift (pos k) (x ⊕ y)
-  add-shift k f =
-      let r = sumSign (sign x) (mag x) (sign y) (mag y) in
-      let n = total (sign x) (mag x) (sign y) (mag y) in
-      add-shift-under x y (sign x) (sign y) (mag x) (mag y) vx vy k (rounded-under r (n * 2 ^ k) 1 (zero-lt-suc 0) (rw (add-shifted x y (sign x) (sign y) (mag x) (mag y) vx vy k) at f))
-
-  pub mul-shift : (i j : ℕ) → Grained 0 (mag x * mag y) U → T (isFinite (shift (pos i) x ⊗ shift (pos j) y)) → shift (pos i) x ⊗ shift (pos j) y ≡ shift (pos (i + j)) (x ⊗ y)
-  mul-shift i j G f =
-      mul-shift-under x y (sign x) (sign y) (mag x) (mag y) vx vy i j G
-      (rounded-under (unlike (sign x) (sign y)) (mag x * mag y * 2 ^ (i + j)) U U-pos (rw (mul-shifted x y (sign x) (sign y) (mag x) (mag y) vx vy i j) at f))
-
-  pub div-shift : (k : ℕ) → 0 < mag y → Grained 0 (mag x * U) (mag y) → T (isFinite (shift (pos k) x ⊘ y)) → shift (pos k) x ⊘ y ≡ shift (pos k) (x ⊘ y)
-  div-shift k N G f =
-      div-shift-under x y (sign x) (sign y) (mag x) (mag y) vx vy k N G
-      (rounded-under (unlike (sign x) (sign y)) (mag x * U * 2 ^ k) (mag y) N (rw (div-shifted x y (sign x) (sign y) (mag x) (mag y) vx vy k N) at f))
-
-pub sub-shift : (x y : Float) → T (fits binary64 x) → T (fits binary64 y) → T (isFinite x) → T (isFinite y) → (k : ℕ) → T (isFinite (shift (pos k) x ⊖ shift (pos k) y)) → shift (pos k) x ⊖ shift (pos k) y ≡ shift (pos k) (x ⊖ y)
-sub-shift x y fx fy nx ny k f =
-    let e : shift (pos k) x ⊖ shift (pos k) y ≡ shift (pos k) x ⊕ shift (pos k) (neg y) = sub-is (shift (pos k) x) (shift (pos k) y) ∙ ap (λ (z : Float). shift (pos k) x ⊕ z) (neg-shift (pos k) y) in
-    e ∙ add-shift x (neg y) fx (neg-fits binary64 y fy) nx (finite-neg y ny) k (rw e at f) ∙ ap (shift (pos k)) (sym (sub-is x y))
 
 -- ---- ranges
 module _ {g L₁ B₁ L₂ B₂ : ℕ} {x y : Float} (r : Range g L₁ B₁ x) (p : Range g L₂ B₂ y) where
@@ -115,9 +84,6 @@ module _ {g L₁ B₁ L₂ B₂ : ℕ} {x y : Float} (r : Range g L₁ B₁ x) (
       let n = total (sign x) (mag x) (sign y) (mag y) in
       add-shift-under x y (sign x) (sign y) (mag x) (mag y) (range-value r) (range-value p) k
       (lt-of-le-of-lt (near-most (n * 2 ^ k) 1 B (zero-lt-suc 0) H (le-trans (mul-le-mul-right (2 ^ k) sum-at-most) (le-trans h (le-of-eq (sym (mul-one B)))))) o)
-
-pub range-sub : {g L₁ B₁ L₂ B₂ : ℕ} {x y : Float} → Range g L₁ B₁ x → Range g L₂ B₂ y → (B : ℕ) → B₁ + B₂ ≤ B → Held B → B < Top → Range g (2 ^ g) B (x ⊖ y)
-range-sub {x = x} {y} r p B h H o = rw (sub-is x y) (range-add r (range-neg p) B h H o)
 
 -- a fraction that is zero or large
 zero-or-large : (g n d : ℕ) → (0 < n → 2 ^ (g + 52) * d ≤ n) → Grained g n d
@@ -183,10 +149,6 @@ moved-neg {k} {x = x} r = record { range = range-neg (r .range); copy = ap neg (
 
 pub moved-abs : {k g l h : ℕ} {x x' : Float} → Moved k g l h x x' → Moved k g l h (abs x) (abs x')
 moved-abs {k} {x = x} r = record { range = range-abs (r .range); copy = ap abs (r .copy) ∙ abs-shift (pos k) x }
-
--- the copy's own range
-pub copy-range : {k g l h : ℕ} {x x' : Float} → h + k ≤ 2097 → Moved k g l h x x' → Range (g + k) (2 ^ (l + k)) (2 ^ (h + k)) x'
-copy-range {k} {g} {l} {h} o r = rw (r .copy, pow-add 2 l k, pow-add 2 h k) (range-shift k (rw (pow-add 2 h k) at (pow-under-Top (h + k) o)) (r .range))
 
 twice : (h : ℕ) → 2 ^ h + 2 ^ h ≡ 2 ^ suc h
 twice h = omega arith

@@ -1,10 +1,10 @@
 -- `Range g L B x`: x is a finite value of binary64, a multiple of 2 ^ g units, zero or of L units at least, and of B units at most. A unit is 2 ^ -1074, so 2 ^ n units are
 -- 2 ^ (n - 1074). The grain g and the least size L stand apart: a difference keeps its operands' grain and loses their size. Here is how a range is known: from a wider one, from the
--- value's size, from a test that computes, of a shifted value, of a count, and of a fraction that is rounded. Assumes nothing.
+-- value's size, from a test that computes, of a count, and of a fraction that is rounded. Assumes nothing.
 use mathlib.Core.Path.{_≡_, sym, ap, _∙_, subst}
 use mathlib.Core.Logic.{_⊎_, inl, inr}
 use Prim.Native.Nat.{ℕ, _+_, _-_, _*_, _^_, _≤_, _<_, zero-le}
-use native.Mathlib.Nat.{le-trans, le-of-eq, le-of-lt, lt-of-lt-of-le, lt-of-le-of-lt, lt-irrefl, eq-zero-or-pos, zero-mul, one-mul, mul-one, mul-assoc, mul-pos, mul-le-mul-right}
+use native.Mathlib.Nat.{le-trans, le-of-eq, le-of-lt, lt-of-lt-of-le, lt-of-le-of-lt, lt-irrefl, eq-zero-or-pos, zero-mul, one-mul, mul-one, mul-pos, mul-le-mul-right}
 use mathlib.Core.Bool.{Bool, true, false, _&&_, _||_}
 use lib.Dec.{leb→le, eqb→eq, T, leb, eqb, lit<}
 use lib.IntN.{pos}
@@ -12,13 +12,10 @@ use lib.Pow.{pow-add, pow-mono}
 use lib.Ieee.{Float, nan, inf, fin, binary64, neg, ofInt, fits}
 use lib.Ieee.Back.{round-whole}
 use lib.Ieee.Fits.{and-l, and-r, neg-fits, ofInt-fits}
-use lib.Ieee.Positive.{first-pos}
 use mir.Facts.{or-yes}
 use Rattle.leaves.specs.Numbers.{zero⁺, count, isFinite, abs}
-use Rattle.leaves.specs.Shift.{shift}
-use Rattle.leaves.proofs.Shift.{isFinite-shift}
 use Rattle.leaves.proofs.Rounding.{near, Held, Grained, near-most, near-least, near-grain, held-small, held-grain, in-place}
-use Rattle.leaves.proofs.Units.{U, U-pos, zero-mag, U-is, Top, Val, val-of, rounded, sign, mag, val-mag, val-finite, mag-val, mag-held, mag-neg, mag-shift, fits-shift, rounded-fits, rounded-val}
+use Rattle.leaves.proofs.Units.{U, U-pos, zero-mag, U-is, Top, Val, val-of, rounded, sign, mag, val-mag, val-finite, mag-val, mag-held, mag-neg, rounded-fits, rounded-val}
 
 pub record Range (g L B : ℕ) (x : Float) : Type 0 where
   pub fit : T (fits binary64 x)
@@ -111,19 +108,6 @@ range-sized g h x t =
 -- every finite value of the format
 pub range-fits : (x : Float) → T (fits binary64 x) → T (isFinite x) → Range 0 1 Top x
 range-fits x t f = record { fit = t; finite = f; count = mag x; grain = sym (mul-one (mag x)); least = λ p. p; most = le-of-lt (mag-held x t f .1) }
-
--- ---- of a shifted value
-pub range-shift : {g L B : ℕ} {x : Float} (k : ℕ) → B * 2 ^ k < Top → Range g L B x → Range (g + k) (L * 2 ^ k) (B * 2 ^ k) (shift (pos k) x)
-range-shift {g} {L} {B} {x} k o r =
-    let e = mag-shift k x (r .fit) (r .finite) in
-    record {
-      fit = fits-shift k x (sign x) (mag x) (r .fit) (range-value r) (lt-of-le-of-lt (mul-le-mul-right (2 ^ k) (r .most)) o);
-      finite = rw (isFinite-shift (pos k) x) (r .finite);
-      count = r .count;
-      grain = e ∙ ap (λ (n : ℕ). n * 2 ^ k) (r .grain) ∙ mul-assoc (r .count) (2 ^ g) (2 ^ k) ∙ ap (λ (n : ℕ). r .count * n) (sym (pow-add 2 g k));
-      least = rw e (λ (p : 0 < mag x * 2 ^ k). mul-le-mul-right (2 ^ k) (r .least (first-pos (mag x) (2 ^ k) p)));
-      most = rw e (mul-le-mul-right (2 ^ k) (r .most));
-    }
 
 -- ---- of a count
 pub count-val : (n : ℕ) → n ≤ 2 ^ 53 → Val (count n) false (n * U)

@@ -4,13 +4,13 @@ use mathlib.Core.Path.{_≡_, refl, sym, ap, ap₂, _∙_}
 use Prim.Native.Nat.{ℕ, zero, suc, _+_, _*_, _<_}
 use native.Mathlib.Nat.{le-of-eq, lt-of-lt-of-le, lt-of-le-of-lt, zero-mul, mul-assoc, mul-pos, add-mul, mul-lt-mul-of-pos-right, lt-of-mul-lt-mul-right, eq-of-mul-eq-mul-right}
 use native.Mathlib.Omega.{arith}
-use mathlib.Core.Bool.{Bool, true, false, not, _&&_, _||_, Bool·beq, cond}
-use lib.IntN.{ℤ, pos, negℤ, _+ℤ_, +ℤ-idr, +ℤ-assoc, +ℤ-invr, +ℤ-invl}
+use mathlib.Core.Bool.{Bool, true, false, _&&_, _||_, Bool·beq, cond}
+use lib.IntN.{ℤ, pos, negℤ, _+ℤ_, +ℤ-idr, +ℤ-assoc, +ℤ-invl}
 use lib.Dec.{ltb→lt, lt→ltb, eqb→eq, T, ltb, eqb}
-use lib.Ieee.{Float, nan, inf, fin, up, down, neg, below, level, lt, le, eq, ne, isNan}
+use lib.Ieee.{Float, nan, inf, fin, up, down, neg, below, level, lt, le, eq}
 use lib.Ieee.Fits.{eq→eqb, up-pos, down-pos}
 use lib.Ieee.Exact.{HasValue}
-use Rattle.leaves.specs.Numbers.{zero⁺, isFinite, abs, signum, max0, min0, larger, smaller}
+use Rattle.leaves.specs.Numbers.{zero⁺, isFinite, abs, min0, larger, smaller}
 use Rattle.leaves.specs.Shift.{shift}
 use Rattle.leaves.proofs.Laws.{up-down}
 
@@ -29,10 +29,7 @@ shift-shift a b (inf s) = refl
 shift-shift a b (fin s zero e) = refl
 shift-shift a b (fin s (suc m) e) = ap (fin s (suc m)) (+ℤ-assoc e a b)
 
--- from either side
-pub shift-back : (k : ℤ) (x : Float) → shift (negℤ k) (shift k x) ≡ x
-shift-back k x = shift-shift k (negℤ k) x ∙ ap (λ (z : ℤ). shift z x) (+ℤ-invr k) ∙ shift-zero x
-
+-- there and back
 pub shift-forth : (k : ℤ) (x : Float) → shift k (shift (negℤ k) x) ≡ x
 shift-forth k x = shift-shift (negℤ k) k x ∙ ap (λ (z : ℤ). shift z x) (+ℤ-invl k) ∙ shift-zero x
 
@@ -45,26 +42,12 @@ pub shift-zero⁺ : (k : ℤ) → shift k zero⁺ ≡ zero⁺
 unfolding shift
 shift-zero⁺ k = refl
 
-pub isNan-shift : (k : ℤ) (x : Float) → isNan (shift k x) ≡ isNan x
-unfolding shift isNan
-isNan-shift k nan = refl
-isNan-shift k (inf s) = refl
-isNan-shift k (fin s zero e) = refl
-isNan-shift k (fin s (suc m) e) = refl
-
 pub isFinite-shift : (k : ℤ) (x : Float) → isFinite (shift k x) ≡ isFinite x
 unfolding shift isFinite
 isFinite-shift k nan = refl
 isFinite-shift k (inf s) = refl
 isFinite-shift k (fin s zero e) = refl
 isFinite-shift k (fin s (suc m) e) = refl
-
-pub signum-shift : (k : ℤ) (x : Float) → signum (shift k x) ≡ signum x
-unfolding shift signum
-signum-shift k nan = refl
-signum-shift k (inf s) = refl
-signum-shift k (fin s zero e) = refl
-signum-shift k (fin s (suc m) e) = refl
 
 pub neg-shift : (k : ℤ) (x : Float) → neg (shift k x) ≡ shift k (neg x)
 unfolding shift neg
@@ -196,10 +179,6 @@ pub le-shift : (k : ℤ) (x y : Float) → le (shift k x) (shift k y) ≡ le x y
 unfolding le
 le-shift k x y = ap₂ _||_ (lt-shift k x y) (eq-shift k x y)
 
-pub ne-shift : (k : ℤ) (x y : Float) → ne (shift k x) (shift k y) ≡ ne x y
-unfolding ne
-ne-shift k x y = ap not (eq-shift k x y)
-
 -- ---- minimum and maximum
 cond-shift : (k : ℤ) (b : Bool) (x y : Float) → cond b (shift k x) (shift k y) ≡ shift k (cond b x y)
 cond-shift k true x y = refl
@@ -213,11 +192,7 @@ pub smaller-shift : (k : ℤ) (m x : Float) → smaller (shift k m) (shift k x) 
 unfolding smaller
 smaller-shift k m x = ap (λ (b : Bool). cond b (shift k x) (shift k m)) (lt-shift k x m) ∙ cond-shift k (lt x m) x m
 
--- max0 y is the larger of 0 and y, and a zero is its own shift
-pub max0-shift : (k : ℤ) (y : Float) → max0 (shift k y) ≡ shift k (max0 y)
-unfolding max0 larger
-max0-shift k y = ap (λ (z : Float). larger z (shift k y)) (sym (shift-zero⁺ k)) ∙ larger-shift k zero⁺ y
-
+-- min0 y is the smaller of 0 and y, and a zero is its own shift
 pub min0-shift : (k : ℤ) (y : Float) → min0 (shift k y) ≡ shift k (min0 y)
 unfolding min0 smaller
 min0-shift k y = ap (λ (z : Float). smaller z (shift k y)) (sym (shift-zero⁺ k)) ∙ smaller-shift k zero⁺ y

@@ -7,11 +7,10 @@ use mathlib.Core.Option.{Option, none, some}
 use Prim.Native.Nat.{ℕ, _*_, _/_, _%_, _<_}
 use lib.Ieee.{Float, eq}
 use Rattle.leaves.specs.Numbers.{_⊕_, _⊗_, _⊘_, zero⁺, half, isFinite}
-use Rattle.leaves.specs.Loops.{loop}
-use Rattle.leaves.proofs.Loops.{loop-ext, sum-ext, amax-ext, first-ext}
-use Rattle.matrix.specs.Matrix.{Matrix, at, rows, identity, product, transpose, trace, amax, sumOver, total, firstEntry, allFinite}
+use Rattle.leaves.proofs.Loops.{sum-ext, amax-ext, first-ext}
+use Rattle.matrix.specs.Matrix.{Matrix, at, rows, identity, product, transpose, trace, amax, firstEntry, allFinite}
 use Rattle.matrix.specs.Jacobi.{Decomposition, start, swept, scaledBack, unturned, decompose}
-use Rattle.matrix.proofs.Stored.{cell-ext, rows-ext, rows-at, product-ext}
+use Rattle.matrix.proofs.Stored.{cell-ext, rows-ext, product-ext}
 
 pub first-entry-alike : (m n : ℕ) (f g : ℕ → ℕ → Bool) → ((i j : ℕ) → i < m → j < n → f i j ≡ g i j) → firstEntry m n f ≡ firstEntry m n g
 unfolding firstEntry
@@ -32,13 +31,6 @@ module _ (n : ℕ) (f g : Matrix) (h : (i j : ℕ) → i < n → j < n → f i j
   pub trace-alike : trace n f ≡ trace n g
   unfolding trace
   trace-alike = sum-ext n (λ i. f i i) (λ i. g i i) (λ i l. h i i l l)
-
-  pub total-alike : total n f ≡ total n g
-  unfolding total sumOver
-  total-alike = loop-ext n (loop-of f) (loop-of g) zero⁺ (λ i l s. loop-ext n (λ j s. s ⊕ f i j) (λ j s. s ⊕ g i j) s (λ j k s. ap (λ (x : Float). s ⊕ x) (h i j l k)))
-    where
-      loop-of : Matrix → ℕ → Float → Float
-      loop-of f i = loop n (λ j s. s ⊕ f i j)
 
   pub start-alike : (scale : Float) → start n scale f ≡ start n scale g
   unfolding start
@@ -63,6 +55,3 @@ unfolding decompose
 decompose-alike limit n f g h =
     let scales = amax-alike n n f g h in
     λ i. decomposedBy limit n (finite-alike n n f g h i) (eq (scales i) zero⁺) (scales i) ((ap (λ (s : Float). start n s f) scales ∙ start-alike n f g h (amax n n g)) i)
-
-pub decompose-rows : (limit n : ℕ) (f : Matrix) → decompose limit n (at (rows n n f) n) ≡ decompose limit n f
-decompose-rows limit n f = decompose-alike limit n (at (rows n n f) n) f (rows-at f n n)

@@ -1,9 +1,9 @@
 -- Laws of `firstTo`, the first index at which a test holds, and of `firstEntry`. Assumes nothing.
 use mathlib.Core.Path.{_≡_, refl, sym, ap, _∙_}
-use mathlib.Core.Bool.{Bool, true, false, cond, not, true≢false}
+use mathlib.Core.Bool.{Bool, true, false, not, true≢false}
 use mathlib.Core.Option.{Option, none, some}
 use Prim.Native.Nat.{ℕ, zero, suc, _+_, _*_, _/_, _%_, _-_, _≤_, _<_}
-use native.Mathlib.Nat.{le-antisymm, le-of-lt, le-step}
+use native.Mathlib.Nat.{le-antisymm, le-of-lt}
 use native.Mathlib.Numerals.{add-one}
 use native.Mathlib.Omega.{arith}
 use Rattle.leaves.specs.Numbers.{isFinite}
@@ -35,16 +35,6 @@ module _ (test : ℕ → Bool) where
 
   pub first-at : (k n : ℕ) → firstTo k test ≡ none → test k ≡ true → k < n → firstTo n test ≡ some k
   first-at k n e t h = first-later (suc k) n k h (first-is k e t)
-
-  pub first-below : (n k : ℕ) → firstTo n test ≡ some k → k < n
-  unfolding firstTo
-  first-below zero k e = let z : _≡_ {A = ℕ} 0 1 = cc in omega arith
-  first-below (suc n) k e = go (firstTo n test) (first-below n k) (test n) e
-    where
-      go : (o : Option ℕ) → (o ≡ some k → k < n) → (b : Bool) → elim o as (λ z. Option ℕ) [ none ↦ cond b (some n) none | some k ↦ some k ] ≡ some k → k < suc n
-      go none h true e = let q : n ≡ k = cc in omega arith
-      go none h false e = let z : _≡_ {A = ℕ} 0 1 = cc in omega arith
-      go (some j) h b e = le-step (h e)
 
   -- none found: none found before, and none holds
   earlier : (n k : ℕ) → firstTo n test ≡ none → k < n → firstTo k test ≡ none

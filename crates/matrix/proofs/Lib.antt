@@ -8,6 +8,7 @@ pub mod Compare
 -- counts of sweeps and rotations
 pub mod Counts
 pub mod Sweeps
+pub mod LargerLimit
 -- the size of the vectors
 pub mod Squares
 pub mod Angle

@@ -1,7 +1,7 @@
--- Document 01, "Jacobi": sweeps ≤ limit, rotations ≤ sweeps × n(n - 1)/2, and a decomposition found at a limit is found at every larger one, in every bit and count.
+-- Document 01, "Jacobi": sweeps ≤ limit, rotations ≤ sweeps × n(n - 1)/2.
 -- What every rotation keeps, the vectors and the count of a decomposition have. Assumes nothing.
-use mathlib.Core.Path.{_≡_, refl, sym, ap, _∙_}
-use mathlib.Core.Bool.{Bool, true, false, true≢false}
+use mathlib.Core.Path.{_≡_, refl}
+use mathlib.Core.Bool.{Bool, true, false}
 use mathlib.Core.List.{List}
 use mathlib.Core.Option.{Option, none, some}
 use Prim.Native.Nat.{ℕ, _-_, _*_, _/_, _≤_, _<_, zero-le}
@@ -10,11 +10,11 @@ use lib.Ieee.{Float, eq}
 use Rattle.leaves.specs.Numbers.{_⊗_, zero⁺, ε}
 use Rattle.leaves.specs.Loops.{loop, firstTo}
 use Rattle.leaves.specs.Root.{sqrt}
+use Rattle.leaves.proofs.Loops.{first-below}
 use Rattle.matrix.specs.Matrix.{Matrix, at, rows, identity, amax, squares, allFinite}
 use Rattle.matrix.specs.Rotation.{State}
 use Rattle.matrix.specs.Jacobi.{afterSweeps, test, stops, isConverged, Swept, sweeping, start, swept, scaledBack, unturned, decompose}
 use Rattle.matrix.specs.Inner.{state, sweptTo}
-use Rattle.matrix.proofs.First.{first-below, first-later}
 use Rattle.matrix.proofs.Counts.{pairs, sweeps-keep, AtMost, rotate-count}
 use Rattle.matrix.proofs.Alike.{decomposedBy, decompose-is}
 
@@ -50,16 +50,6 @@ module _ (n : ℕ) (tolerance : Float) (st : State) where
       go none h = le-refl limit
       go (some k) h = le-of-lt (h k refl)
 
-  sweeping-later : (limit limit′ : ℕ) → limit ≤ limit′ → sweeping limit n tolerance st .done ≡ true → sweeping limit′ n tolerance st ≡ sweeping limit n tolerance st
-  sweeping-later limit limit′ l d = go (firstTo limit stopping) refl (ap done-of (sym (sweeping-is limit)) ∙ d)
-    where
-      done-of : Swept → Bool
-      done-of w = w .done
-
-      go : (o : Option ℕ) → firstTo limit stopping ≡ o → sweptBy limit o .done ≡ true → sweeping limit′ n tolerance st ≡ sweeping limit n tolerance st
-      go none e d = absurd (true≢false (sym d))
-      go (some k) e d = sweeping-is limit′ ∙ ap (sweptBy limit′) (first-later stopping limit limit′ k l e) ∙ sym (sweeping-is limit ∙ ap (sweptBy limit) e)
-
 -- ---- the decomposition
 abbrev pub initial : ℕ → List Float → State
 initial n b = state b (rows n n identity) 0
@@ -89,11 +79,3 @@ module _ (n : ℕ) (a : Matrix) where
   pub rotations-bound : (limit : ℕ) → decompose limit n a .rotations ≤ decompose limit n a .sweeps * (n * (n - 1) / 2)
   unfolding pairs begun
   rotations-bound limit = rw (decompose-reached limit .1) (rw zero-add at (sweeps-keep n AtMost (rotate-count n) (decompose limit n a .sweeps) 0 begun (le-refl 0)))
-
-  pub larger-limit : (limit limit′ : ℕ) → limit ≤ limit′ → decompose limit n a .found ≡ true → decompose limit′ n a ≡ decompose limit n a
-  larger-limit limit limit′ l = rw (decompose-is limit n a, decompose-is limit′ n a) (go (allFinite n n a) (eq (amax n n a) zero⁺) (amax n n a) (start n (amax n n a) a))
-    where
-      go : (x y : Bool) (scale : Float) (b : List Float) → decomposedBy limit n x y scale b .found ≡ true → decomposedBy limit′ n x y scale b ≡ decomposedBy limit n x y scale b
-      go false y scale b d = refl
-      go true true scale b d = refl
-      go true false scale b d = unfold scaledBack swept in ap (scaledBack n scale) (sweeping-later n (ε ⊗ sqrt (squares n (at b n))) (initial n b) limit limit′ l d)

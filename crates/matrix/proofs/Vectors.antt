@@ -1,23 +1,21 @@
 -- Every entry of a decomposition's vectors is NaN or at most 2 ^ 300 in size, whatever the matrix, within the limits: each rotation turns two numbers of every
 -- row of V, which began as a row of the identity. Assumes nothing.
-use mathlib.Core.Path.{_≡_, refl, sym, ap, _∙_, subst}
+use mathlib.Core.Path.{_≡_, refl, sym, _∙_, subst}
 use mathlib.Core.Logic.{_⊎_, inl, inr, _≢_}
 use mathlib.Core.Bool.{Bool, true, false, cond}
 use mathlib.Core.List.{List}
-use Prim.Native.Nat.{ℕ, zero, suc, _+_, _*_, _/_, _^_, _≤_, _<_}
-use native.Mathlib.Nat.{le-refl, le-trans, le-suc, le-of-suc-le-suc, lt-trans, ne-of-lt, eq-or-lt-of-le, not-suc-le-zero, mul-le-mul, mul-one, zero-add}
+use Prim.Native.Nat.{ℕ, zero, suc, _+_, _*_, _^_, _≤_, _<_}
+use native.Mathlib.Nat.{le-refl, le-trans, le-suc, le-of-suc-le-suc, ne-of-lt, eq-or-lt-of-le, not-suc-le-zero, mul-le-mul, mul-one, zero-add}
 use native.Mathlib.Omega.{arith}
 use lib.Dec.{T, eqb}
-use lib.ListN.{length, getD, set, length-set}
-use lib.Seq.{getD-set-same, getD-set-other}
-use borrow.Author.Tests.{eqb-true, eqb-false, eq-eqb, ne-eqb}
+use lib.ListN.{length}
+use borrow.Author.Tests.{eq-eqb, ne-eqb}
 use lib.IntN.{pos}
 use lib.Ieee.{Float, nan, lt, eq, binary64, fits}
 use lib.Ieee.Fits.{cond-fits, div-fits}
-use Rattle.leaves.specs.Numbers.{_⊕_, _⊖_, _⊗_, _⊘_, zero⁺, half, one, 1e150, abs, signum, isFinite}
+use Rattle.leaves.specs.Numbers.{_⊕_, _⊗_, _⊘_, zero⁺, half, one, 1e150, abs, signum, isFinite}
 use Rattle.leaves.specs.Root.{sqrt}
 use Rattle.leaves.specs.Loops.{loop}
-use Rattle.leaves.proofs.Loops.{cell, cell-row}
 use Rattle.leaves.proofs.Units.{U, mag, val-mag, zero-mag}
 use Rattle.leaves.proofs.Range.{Range}
 use Rattle.matrix.specs.Limits.{maxSide, maxSweeps}

@@ -1,7 +1,7 @@
 -- `estimators::ledoit_wolf::largest_exponent` meets its contract: the largest of the columns' largest, and its exponent.
 use mathlib.Core.Path.{ap, _∙_}
 use Rattle.leaves.specs.Scaling.{binaryExponent}
-use Rattle.leaves.proofs.Whole.{back-i32}
+use Rattle.leaves.proofs.Ints.{back-i32}
 use Rattle.matrix.specs.Matrix.{at}
 use Rattle.estimators.proofs.Centered.{largest-is}
 use borrow.Author.Needs.{needs}

@@ -1,10 +1,7 @@
 -- `estimators::moments::exponent` meets its contract: `binary_exponent`, of an f64.
-use mathlib.Core.Path.{_≡_, sym, ap, _∙_, subst}
-use Prim.Native.Nat.{_≤_}
+use mathlib.Core.Path.{_∙_}
 use borrow.Author.Needs.{needs}
-use lib.IntN.{ℤ, natAbs}
-use Rattle.leaves.proofs.Whole.{back-i32}
-use Rattle.estimators.specs.Held.{maxExponent}
+use Rattle.leaves.proofs.Ints.{back-i32}
 use Rattle.estimators.proofs.Exponents.{exponent-size}
 use Rattle.estimators.proofs.moments.exponent.Statement.{statement}
 use Rattle.estimators.proofs.moments.exponent.Tie as tie

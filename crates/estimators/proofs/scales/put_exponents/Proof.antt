@@ -10,7 +10,8 @@ use lib.ListN.{length, getD, drop-of-length-le}
 use borrow.Author.Needs.{needs}
 use Rattle.leaves.specs.Loops.{tab, fill, nth}
 use Rattle.leaves.specs.Scaling.{binaryExponent}
-use Rattle.leaves.proofs.Whole.{le-or-lt, back-i32}
+use Rattle.leaves.proofs.Whole.{le-or-lt}
+use Rattle.leaves.proofs.Ints.{back-i32}
 use Rattle.leaves.proofs.Loops.{Filled, filled-none, filled-more, filled-all, length-tab}
 use Rattle.estimators.specs.Held.{maxExponent}
 use Rattle.estimators.specs.Gather.{Exponents}

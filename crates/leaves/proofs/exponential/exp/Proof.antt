@@ -11,7 +11,7 @@ use borrow.Author.Needs.{needs}
 use Rattle.leaves.specs.Numbers.{zero⁺, one}
 use Rattle.leaves.specs.Scaling.{pow2Scaled}
 use Rattle.leaves.specs.Exp.{horner, nearestPower, reduced, exp}
-use Rattle.leaves.proofs.Whole.{back-i32}
+use Rattle.leaves.proofs.Ints.{back-i32}
 use Rattle.leaves.proofs.Sizes.{small-steps}
 use Rattle.leaves.proofs.exponential.exp.Statement.{statement}
 use Rattle.leaves.proofs.exponential.exp.Tie as tie

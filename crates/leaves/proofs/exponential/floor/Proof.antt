@@ -13,7 +13,8 @@ use mir.Facts.{toZ-ofZ, sfits-widen}
 use borrow.Author.Needs.{needs}
 use Rattle.leaves.specs.Inner.{Small}
 use Rattle.leaves.specs.Exp.{floor}
-use Rattle.leaves.proofs.Whole.{over, under, one-side, minus, fits-i32}
+use Rattle.leaves.proofs.Whole.{over, under, one-side, minus}
+use Rattle.leaves.proofs.Ints.{fits-i32}
 use Rattle.leaves.proofs.Floors.{floor-less, floor-same, cut-in}
 use Rattle.leaves.proofs.exponential.floor.Statement.{statement}
 use Rattle.leaves.proofs.exponential.floor.Tie as tie

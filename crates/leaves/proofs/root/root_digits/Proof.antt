@@ -2,7 +2,7 @@
 use mathlib.Core.Logic.{⊎-elim}
 use Prim.Native.Nat.{_-_, _<_}
 use native.Mathlib.Omega.{arith}
-use Rattle.leaves.proofs.Roots.{Digits, bounded, turn-0, turn-1, exact, inexact, all-passed}
+use Rattle.leaves.proofs.Digits.{Digits, bounded, turn-0, turn-1, exact, inexact, all-passed}
 use Rattle.leaves.proofs.root.root_digits.Statement.{statement}
 use Rattle.leaves.proofs.root.root_digits.Tie as tie
 

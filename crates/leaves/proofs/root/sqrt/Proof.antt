@@ -14,10 +14,12 @@ use borrow.Author.Needs.{needs}
 use Rattle.leaves.specs.Numbers.{zero⁺}
 use Rattle.leaves.specs.Scaling.{pow2Scaled, binaryExponent}
 use Rattle.leaves.specs.Root.{sticky, halfExponent, radicand, sqrt}
-use Rattle.leaves.proofs.Whole.{over, under, one-side, minus, fits-i32, back-i32}
+use Rattle.leaves.proofs.Whole.{over, under, one-side, minus}
+use Rattle.leaves.proofs.Ints.{fits-i32, back-i32}
 use Rattle.leaves.proofs.Laws.{Room}
 use Rattle.leaves.proofs.Zero.{no, zero-not-below, not-below, is-below, is-above}
-use Rattle.leaves.proofs.Sqrts.{halved, scaled, truncated, above, below64, M, M-lt, radicand-is, last}
+use Rattle.leaves.proofs.Sqrts.{halved, M, M-lt, radicand-is}
+use Rattle.leaves.proofs.SqrtSteps.{scaled, truncated, above, below64, last}
 use Rattle.leaves.proofs.RootBits.{Place, at, place-of}
 use Rattle.leaves.proofs.root.sqrt.Statement.{statement}
 use Rattle.leaves.proofs.root.sqrt.Tie as tie

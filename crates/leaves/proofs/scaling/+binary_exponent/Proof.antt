@@ -12,7 +12,7 @@ use borrow.Fn.Kinds.{In}
 use borrow.Fn.PlainCycle.{Measures, is, falls, and}
 use Rattle.leaves.specs.Numbers.{zero⁺}
 use Rattle.leaves.specs.Scaling.{pow2, binaryExponent}
-use Rattle.leaves.proofs.Whole.{back-i32}
+use Rattle.leaves.proofs.Ints.{back-i32}
 use Rattle.leaves.proofs.Exponent.{field, raised, at-nan, no-nan, at-zero, sh, field-fits, last-fits, last}
 use Rattle.leaves.proofs.scaling.binary_exponent.Reads as binary-exponent
 use Rattle.leaves.proofs.scaling.binary_exponent.Kinds as binary-exponent-kinds

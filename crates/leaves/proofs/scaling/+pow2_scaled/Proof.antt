@@ -14,8 +14,10 @@ use borrow.Fn.Kinds.{In}
 use borrow.Fn.PlainCycle.{Measures, is, falls, and}
 use Rattle.leaves.specs.Inner.{cut}
 use Rattle.leaves.specs.Scaling.{pow2, pow2Scaled}
-use Rattle.leaves.proofs.Whole.{over, under, one-side, minus, same, yes-le, fits-i32, i32-fits, back-i32}
-use Rattle.leaves.proofs.Scale.{cut-range, scale-last, scale-step}
+use Rattle.leaves.proofs.Whole.{over, under, one-side, minus, same}
+use Rattle.leaves.proofs.Ints.{yes-le, fits-i32, i32-fits, back-i32}
+use Rattle.leaves.proofs.Scale.{cut-range, scale-last}
+use Rattle.leaves.proofs.ScaleSteps.{scale-step}
 use Rattle.leaves.proofs.scaling.pow2_scaled.Reads as pow2-scaled
 use Rattle.leaves.proofs.scaling.pow2_scaled.Kinds as pow2-scaled-kinds
 use Rattle.leaves.proofs.scaling.+pow2_scaled.Lts-pow2_scaled as pow2-scaled-lts

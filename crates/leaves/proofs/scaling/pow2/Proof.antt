@@ -13,7 +13,8 @@ use mir.Val.{SFits, toZ, ofZ}
 use mir.Facts.{toZ-ofZ, fits-of-lt}
 use borrow.Author.Tests.{lt-leb, ne-eqb}
 use Rattle.leaves.specs.Scaling.{pow2}
-use Rattle.leaves.proofs.Whole.{over, under, one-side, plus, same, le-yes, is-pos, minus-is, fits-i32}
+use Rattle.leaves.proofs.Whole.{over, under, one-side, plus, same}
+use Rattle.leaves.proofs.Ints.{le-yes, is-pos, minus-is, fits-i32}
 use Rattle.leaves.proofs.scaling.pow2.Statement.{statement}
 use Rattle.leaves.proofs.scaling.pow2.Tie as tie
 

@@ -1,11 +1,12 @@
 -- `leaves::sums::amax_column` meets its contract. The invariant: the largest size of the rows passed.
-use mathlib.Core.Path.{_≡_, refl, ap, _∙_}
+use mathlib.Core.Path.{_≡_, ap, _∙_}
 use Prim.Native.Nat.{ℕ, _≤_, _-_, _+_, _*_}
 use native.Mathlib.Omega.{arith}
 use borrow.Author.Needs.{needs}
 use lib.Ieee.{Float, ofBits}
 use Rattle.leaves.specs.Loops.{amaxTo, nth}
-use Rattle.leaves.proofs.Loops.{amax-none, amax-turn, column-in, at-end}
+use Rattle.leaves.proofs.Loops.{amax-none, amax-turn, at-end}
+use Rattle.leaves.proofs.Column.{column-in}
 use Rattle.leaves.proofs.sums.amax_column.Statement.{statement}
 use Rattle.leaves.proofs.sums.amax_column.Tie as tie
 

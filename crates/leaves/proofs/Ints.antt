@@ -1,0 +1,64 @@
+-- Signed whole numbers as the code has them: the test a ≤ b, `lib.Ieee`'s difference of two naturals, and what an i32 holds, by the two sides of a number (`over`, `under` of Whole). Assumes nothing.
+use mathlib.Core.Path.{_≡_, refl}
+use Prim.Native.Nat.{ℕ, suc, _+_, _-_, _^_, _≤_, _<_}
+use native.Mathlib.Omega.{arith}
+use mathlib.Core.Bool.{Bool, true, false, cond}
+use lib.Dec.{leb→le, le→leb, T, lit<, leb}
+use lib.IntN.{ℤ, pos, negsuc}
+use lib.Signed.{leZ, mag}
+use lib.Ieee as Ieee
+use mir.Syntax.{w32}
+use mir.Val.{SFits, toZ, ofZ}
+use mir.Facts.{toZ-ofZ}
+use borrow.Author.Tests.{leb-true, leb-false}
+use Rattle.leaves.proofs.Whole.{over, under}
+
+pub le-yes : (a b : ℤ) → T (leZ a b) → over a + under b ≤ over b + under a
+unfolding over under
+le-yes (pos a) (pos b) h = omega (arith, leb→le a b h)
+le-yes (pos a) (negsuc b) h = absurd h
+le-yes (negsuc a) (pos b) h = omega arith
+le-yes (negsuc a) (negsuc b) h = omega (arith, leb→le b a h)
+
+pub yes-le : (a b : ℤ) → over a + under b ≤ over b + under a → T (leZ a b)
+unfolding over under
+yes-le (pos a) (pos b) h = le→leb a b (omega arith)
+yes-le (pos a) (negsuc b) h = absurd (omega arith)
+yes-le (negsuc a) (pos b) h = tt
+yes-le (negsuc a) (negsuc b) h = le→leb b a (omega arith)
+
+-- lib.Ieee's a - b
+pub minus-is : (a b : ℕ) → over (Ieee.minus a b) + b ≡ a + under (Ieee.minus a b)
+unfolding over under
+minus-is a b = go (leb b a) refl
+  where
+    go : (t : Bool) → leb b a ≡ t → over (cond t (pos (a - b)) (negsuc (b - suc a))) + b ≡ a + under (cond t (pos (a - b)) (negsuc (b - suc a)))
+    go true e = omega (arith, leb-true b a e)
+    go false e = omega (arith, leb-false b a e)
+
+-- a number that is not negative
+pub is-pos : (z : ℤ) → under z ≡ 0 → z ≡ pos (over z)
+unfolding over under
+is-pos (pos n) h = refl
+is-pos (negsuc n) h = absurd (omega arith)
+
+pub mag-lt : (z : ℤ) (n : ℕ) → over z < n → under z ≤ n → 0 < n → mag z < n
+unfolding over under
+mag-lt (pos a) n h k p = h
+mag-lt (negsuc a) n h k p = k
+
+pub mag-over : (z : ℤ) (n : ℕ) → mag z < n → (over z < n) × (under z ≤ n)
+unfolding over under
+mag-over (pos a) n h = omega arith
+mag-over (negsuc a) n h = omega arith
+
+-- in the range of an i32
+pub fits-i32 : (z : ℤ) → over z < 2 ^ 31 → under z ≤ 2 ^ 31 → SFits w32 z
+fits-i32 z h k = record { sfits = mag-lt z (2 ^ 31) h k (lit< tt) }
+
+pub i32-fits : (z : ℤ) → SFits w32 z → (over z < 2 ^ 31) × (under z ≤ 2 ^ 31)
+i32-fits z h = mag-over z (2 ^ 31) (h .sfits)
+
+-- what the machine reads back from an i32's bits
+pub back-i32 : (z : ℤ) → mag z < 2 ^ 31 → toZ w32 (ofZ w32 z) ≡ z
+back-i32 z h = toZ-ofZ (record { sfits = h })

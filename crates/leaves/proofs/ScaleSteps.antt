@@ -1,0 +1,65 @@
+-- The scaling by powers of two as the code does it: the step of its recursion that is not the last (`scale-step`; `scale-last` of Scale is the last), and what a product with a power of two
+-- and a scaling make of a number m * 2 ^ e, by its room. Assumes nothing.
+use mathlib.Core.Path.{_≡_, refl, sym, ap, _∙_}
+use Prim.Native.Nat.{ℕ, zero, suc, _-_, _/_, _%_, _≤_}
+use native.Mathlib.Omega.{arith}
+use mathlib.Core.Bool.{Bool, true, false, cond}
+use lib.Dec.{ltb}
+use lib.IntN.{ℤ, pos, negsuc, _+ℤ_, _-ℤ_}
+use lib.Ieee.{Float, fin, binary64, mul}
+use borrow.Author.Tests.{ltb-true}
+use Rattle.leaves.specs.Inner.{cut}
+use Rattle.leaves.specs.Shift.{shift}
+use Rattle.leaves.specs.Scaling.{pow2, times, pow2Scaled}
+use Rattle.leaves.specs.Loops.{loop}
+use Rattle.leaves.proofs.Whole.{over, under, minus, same}
+use Rattle.leaves.proofs.Laws.{room→fits, Room, mul-pow2}
+use Rattle.leaves.proofs.Scale.{scaled-exact}
+
+-- one more in front
+times-front : (n : ℕ) (y x : Float) → times (suc n) y x ≡ times n y (mul binary64 x y)
+unfolding times loop
+times-front zero y x = refl
+times-front (suc n) y x = ap (λ (z : Float). mul binary64 z y) (times-front n y x)
+
+-- a step that is not the last
+up-step : (x : Float) (n : ℕ) → 1023 ≤ n → pow2Scaled (mul binary64 x (pow2 (pos 1023))) (pos (suc n) -ℤ pos 1023) ≡ pow2Scaled x (pos (suc n))
+unfolding pow2Scaled over under
+up-step x n l =
+    let k : pos (suc n) -ℤ pos 1023 ≡ pos (suc (n - 1023)) = same (pos (suc n) -ℤ pos 1023) (pos (suc (n - 1023))) (omega (arith, minus (pos (suc n)) (pos 1023))) in
+    let q : n / 1023 ≡ suc ((n - 1023) / 1023) = omega arith in
+    let r : (n - 1023) % 1023 ≡ n % 1023 = omega arith in
+    rw (k, q, r, times-front ((n - 1023) / 1023) (pow2 (pos 1023)) x)
+
+down-step : (x : Float) (n : ℕ) → 1022 ≤ n → pow2Scaled (mul binary64 x (pow2 (negsuc 1021))) (negsuc n -ℤ negsuc 1021) ≡ pow2Scaled x (negsuc n)
+unfolding pow2Scaled over under
+down-step x n l =
+    let k : negsuc n -ℤ negsuc 1021 ≡ negsuc (n - 1022) = same (negsuc n -ℤ negsuc 1021) (negsuc (n - 1022)) (omega (arith, minus (negsuc n) (negsuc 1021))) in
+    let q : n / 1022 ≡ suc ((n - 1022) / 1022) = omega arith in
+    let r : (n - 1022) % 1022 ≡ n % 1022 = omega arith in
+    rw (k, q, r, times-front ((n - 1022) / 1022) (pow2 (negsuc 1021)) x)
+
+pub scale-step : (x : Float) (k : ℤ) → (cut k ≡ k → ⊥) → pow2Scaled (mul binary64 x (pow2 (cut k))) (k -ℤ cut k) ≡ pow2Scaled x k
+unfolding cut
+scale-step x (pos zero) h = absurd (h refl)
+scale-step x (pos (suc n)) h = go (ltb 1023 (suc n)) refl h
+  where
+    go : (t : Bool) → ltb 1023 (suc n) ≡ t → (cond t (pos 1023) (pos (suc n)) ≡ pos (suc n) → ⊥)
+        → pow2Scaled (mul binary64 x (pow2 (cond t (pos 1023) (pos (suc n))))) (pos (suc n) -ℤ cond t (pos 1023) (pos (suc n))) ≡ pow2Scaled x (pos (suc n))
+    go true e g = up-step x n (omega (arith, ltb-true 1023 (suc n) e))
+    go false e g = absurd (g refl)
+scale-step x (negsuc n) h = go (ltb 1021 n) refl h
+  where
+    go : (t : Bool) → ltb 1021 n ≡ t → (cond t (negsuc 1021) (negsuc n) ≡ negsuc n → ⊥)
+        → pow2Scaled (mul binary64 x (pow2 (cond t (negsuc 1021) (negsuc n)))) (negsuc n -ℤ cond t (negsuc 1021) (negsuc n)) ≡ pow2Scaled x (negsuc n)
+    go true e g = down-step x n (omega (arith, ltb-true 1021 n e))
+    go false e g = absurd (g refl)
+
+-- ---- of a number m * 2 ^ e
+pub mul-fin : (s : Bool) (m : ℕ) (e d g : ℤ) → Room (suc m) e → Room (suc m) g → g ≡ e +ℤ d → mul binary64 (fin s (suc m) e) (pow2 d) ≡ fin s (suc m) g
+unfolding shift
+mul-fin s m e d g r q h = mul-pow2 (fin s (suc m) e) d (room→fits s m e r) (rw (← h) (room→fits s m g q)) ∙ ap (fin s (suc m)) (sym h)
+
+pub scaled-fin : (s : Bool) (m : ℕ) (e g k : ℤ) → Room (suc m) e → Room (suc m) g → g ≡ e +ℤ k → pow2Scaled (fin s (suc m) e) k ≡ fin s (suc m) g
+unfolding shift
+scaled-fin s m e g k r q h = scaled-exact (fin s (suc m) e) k (room→fits s m e r) (rw (← h) (room→fits s m g q)) ∙ ap (fin s (suc m)) (sym h)
