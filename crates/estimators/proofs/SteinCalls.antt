@@ -24,12 +24,12 @@ use Rattle.estimators.specs.Refusals.{passes, refuses, when, whenSome, f
 use Rattle.estimators.specs.Sample.{largest, scaled, constantAsset}
 use Rattle.estimators.specs.Moments.{Moments, moments}
 use Rattle.estimators.specs.JamesStein.{grandMean, unevenness, decomposeUneven, jamesSteinIntensity, towards}
-use Rattle.estimators.specs.BayesStein.{correlation, bayesStein, gathered, pulled, Pull}
-use Rattle.estimators.specs.Order.{sweepLimit, jamesSteinOrder, bayesSteinOrder}
-use Rattle.estimators.specs.Opening.{Shaped, byReturns}
+use Rattle.estimators.specs.BayesStein.{correlation, bayesSteinPull, gathered, pulled, Pull}
+use Rattle.estimators.specs.Order.{sweepLimit, jamesSteinOrder, bayesSteinOrder, byReturns, byCorrelations, byDecomposition}
+use Rattle.estimators.specs.Opening.{Shaped}
 use Rattle.estimators.specs.Checks.{checked}
 use Rattle.estimators.specs.Calls.{answered, settle, jamesSteinMean, bayesSteinMean}
-use Rattle.estimators.specs.Stein.{byCorrelations, byDecomposition, jamesSteinOf, bayesSteinOf, bayesSteinFrom}
+use Rattle.estimators.specs.Stein.{jamesSteinOf, bayesSteinOf, bayesSteinFrom}
 use Rattle.estimators.specs.declared.Refusal.{Refusal}
 use Rattle.estimators.specs.declared.Refusal.the-variants.{ZeroVariance, Singular, BadSetting}
 use Rattle.estimators.specs.declared.Field.the-variants.{SweepLimitField}
@@ -122,7 +122,7 @@ module _ (r : List Float) (n T limit : ℕ) (slice : List Float) (shape : Shaped
   d = decompose limit n C
 
   abbrev w : Pull
-  w = bayesStein n (m .periods) (nth (m .mean)) (at (m .covariance) n) e d
+  w = bayesSteinPull n (m .periods) (nth (m .mean)) (at (m .covariance) n) e d
 
   abbrev rest : List Refusals.Check
   rest = byCorrelations n (λ i. pow2Scaled (largest T (at r n) i) (negℤ (e i))) (at (m .covariance) n) C ++ byDecomposition n d
@@ -150,7 +150,7 @@ size-ext n limit m e s s′ slice h =
     let Σ = at (m .covariance) n in
     let C = at (rows n n (correlation Σ)) n in
     let d = decompose limit n C in
-    let w = bayesStein n (m .periods) (nth (m .mean)) Σ e d in
+    let w = bayesSteinPull n (m .periods) (nth (m .mean)) Σ e d in
     ap
     (λ (o : Option ℕ). settle (first (whenSome o ZeroVariance ∷ when (not (allFinite n n C)) Singular ∷ byDecomposition n d)) slice
     (answered (Shrunk (w .intensity) (w .target) (d .sweeps) (d .rotations)) (tab n (λ i. pulled w (nth (m .mean) i) (e i)))))

@@ -14,7 +14,7 @@ use Rattle.estimators.specs.Sample.{constantAsset, scaled}
 use Rattle.estimators.specs.Moments.{Moments, moments}
 use Rattle.estimators.specs.Adjusted.{decompositionOf, base, intensity, adjusted}
 use Rattle.estimators.specs.JamesStein.{grandMean, unevenness, decomposeUneven, jamesSteinIntensity, towards}
-use Rattle.estimators.specs.BayesStein.{singular, Pull, bayesStein, pulled}
+use Rattle.estimators.specs.BayesStein.{singular, Pull, bayesSteinPull, pulled}
 use Rattle.estimators.specs.Order.{opening, sweepLimit, ofGiven, ofSettings, adjustedOrder, jamesSteinOrder, bayesSteinOrder}
 use Rattle.estimators.specs.Calls.{Answered, answered, settle, adjustedCovariance, jamesSteinMean, bayesSteinMean}
 use Rattle.estimators.specs.declared.Settings.{Settings}
@@ -69,7 +69,7 @@ module _ (r : List Float) (n P : ℕ) where
 
   -- ---- the Bayes-Stein mean
   abbrev pub pullBy : Decomposition → Pull
-  pullBy d = let m = found P n (at r n) in bayesStein n (m .periods) (nth (m .mean)) (Σ n m) (exps P n (at r n)) d
+  pullBy d = let m = found P n (at r n) in bayesSteinPull n (m .periods) (nth (m .mean)) (Σ n m) (exps P n (at r n)) d
 
   abbrev pub bayesBy : List Float → Decomposition → Check → Answered
   bayesBy slice d c =

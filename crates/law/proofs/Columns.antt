@@ -31,7 +31,7 @@ use Rattle.matrix.specs.Jacobi.{Decomposition, decompose}
 use Rattle.matrix.proofs.Stored.{rows-at}
 use Rattle.estimators.specs.Sample.{mean, deviation, gram, covariance, largest, constantAsset, scaled}
 use Rattle.estimators.specs.Moments.{Moments, moments}
-use Rattle.estimators.specs.BayesStein.{correlation, Pull, bayesStein}
+use Rattle.estimators.specs.BayesStein.{correlation, Pull, bayesSteinPull}
 use borrow.Author.Tests.{ne-eqb}
 use Rattle.law.proofs.Numbers.{nth-tab}
 use Rattle.law.proofs.Sizes.{plus-val, le-no}
@@ -63,7 +63,7 @@ abbrev pub sizeOf : ℕ → ℕ → Matrix → ℕ → Float
 sizeOf P n x i = pow2Scaled (largest P x i) (negℤ (exps P n x i))
 
 abbrev pub pull : ℕ → ℕ → Moments → (ℕ → ℤ) → Pull
-pull limit n m e = bayesStein n (m .periods) (nth (m .mean)) (Σ n m) e (taken limit n m)
+pull limit n m e = bayesSteinPull n (m .periods) (nth (m .mean)) (Σ n m) e (taken limit n m)
 
 pub exps-at : (P n : ℕ) (x : Matrix) (i : ℕ) → i < n → exps P n x i ≡ binaryExponent (largest P x i)
 exps-at P n x i l = nth-tab n (λ i. binaryExponent (largest P x i)) i (pos 0) l
