@@ -12,7 +12,7 @@ use Rattle.estimators.specs.Given.{averagedOf}
 use Rattle.estimators.specs.LedoitWolf.{ledoitWolf}
 use Rattle.estimators.specs.Adjusted.{decompositionOf, intensity, baseOf, adjustedOf}
 use Rattle.estimators.specs.Moments.{moments}
-use Rattle.estimators.specs.Shrinking.{Shrinking, shrunkBy}
+use Rattle.estimators.specs.Shrinking.{shrunkBy}
 use Rattle.estimators.specs.JamesStein.{jamesStein}
 use Rattle.estimators.specs.BayesStein.{exponentsOf, largestIn, correlations, bayesStein}
 use Rattle.estimators.specs.Order.{adjustedOrder, ledoitWolfOrder, weightedOrder, jamesSteinOrder, bayesSteinOrder}

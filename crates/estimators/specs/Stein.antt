@@ -15,7 +15,7 @@ use Rattle.estimators.specs.Refusals.{when, first}
 use Rattle.estimators.specs.Sample.{scaled}
 use Rattle.estimators.specs.LedoitWolf.{deviationOf}
 use Rattle.estimators.specs.Moments.{Moments, moments}
-use Rattle.estimators.specs.Shrinking.{Shrinking, shrunkBy}
+use Rattle.estimators.specs.Shrinking.{shrunkBy}
 use Rattle.estimators.specs.JamesStein.{jamesStein}
 use Rattle.estimators.specs.BayesStein.{project, form, Pull, bayesSteinPull, exponentsOf, largestIn, correlations, bayesStein}
 use Rattle.estimators.specs.Order.{byCorrelations, byDecomposition}
