@@ -5,6 +5,7 @@ ghost use Rattle.capi.specs.Report as Flat;
 use estimators::Answer;
 use estimators::Field;
 use estimators::Refusal;
+use estimators::refusals::number;
 
 pub struct Report {
     pub number: u32,
@@ -21,27 +22,6 @@ fn field_number(field: Field) -> usize
         Field::HalfLifeField => 3,
         Field::ThresholdField => 4,
         Field::SweepLimitField => 5,
-    }
-}
-
-fn number_of(refusal: Refusal) -> u32
-    ensures { λ r. ⌜ r ≡ Refusals.number refusal ⌝ }
-{
-    match refusal {
-        Refusal::NoAssets => 1,
-        Refusal::TooLarge => 2,
-        Refusal::TooFewPeriods(_) => 3,
-        Refusal::WrongLength => 4,
-        Refusal::NotFinite(_, _) => 5,
-        Refusal::CovarianceNotFinite => 6,
-        Refusal::BadSetting(_) => 7,
-        Refusal::NotTheSample => 8,
-        Refusal::ZeroVariance(_) => 9,
-        Refusal::WrongSide(_) => 10,
-        Refusal::Asymmetric(_, _) => 11,
-        Refusal::Indefinite(_) => 12,
-        Refusal::NotDecomposed => 13,
-        Refusal::Singular => 14,
     }
 }
 
@@ -112,7 +92,7 @@ fn refused(refusal: Refusal) -> Report
     ensures { λ r. ⌜ r ≡ Flat.refused refusal ⌝ }
 {
     Report {
-        number: number_of(refusal),
+        number: number(refusal),
         numbers: [value_or(0.0, refusal), 0.0],
         wholes: [first_of(refusal), second_of(refusal)],
     }

@@ -15,8 +15,8 @@ use Rattle.leaves.proofs.Loops.{sum-ext, amax-ext, length-tab}
 use Rattle.matrix.specs.Matrix.{Matrix, at, rows, amax, trace, total, sumOver, every}
 use Rattle.matrix.proofs.Stored.{rows-at, rows-ext}
 use Rattle.estimators.specs.Sample.{mean, deviation, gram, scaled}
-use Rattle.estimators.specs.LedoitWolf.{apart, deviationOf, averageCorrelation, variation, covariation, targetVariation, error, distance, intensityOf, ledoitWolf}
-use Rattle.estimators.specs.Rows.{inUnit, formed, rowsOf, secondMoments, Symmetric}
+use Rattle.estimators.specs.LedoitWolf.{apart, deviationOf, averageCorrelation, variation, covariation, targetVariation, error, distance, intensityOf, ledoitWolf, secondMoments}
+use Rattle.estimators.specs.Rows.{inUnit, formed, rowsOf, Symmetric}
 use Rattle.estimators.specs.declared.Target.{Target}
 use Rattle.estimators.specs.declared.Target.the-variants.{ConstantVariance, ConstantCorrelation}
 use Rattle.estimators.specs.declared.rows.Row.the-variants.{Deviation, Scaled}

@@ -11,18 +11,17 @@ use lib.ListN.{length, take}
 use lib.Seq.{take-append-seam}
 use lib.Ieee.{Float}
 use Rattle.leaves.specs.Loops.{tab, nth}
-use Rattle.matrix.specs.Matrix.{Matrix, at, rows, averaged}
+use Rattle.matrix.specs.Matrix.{Matrix, at, rows}
 use Rattle.matrix.specs.Jacobi.{Decomposition, unturned}
 use Rattle.matrix.proofs.Stored.{length-rows}
 use Rattle.estimators.specs.Refusals.{Check, passes, refuses, when, first}
-use Rattle.estimators.specs.Given.{decomposeGiven}
-use Rattle.estimators.specs.Adjusted.{isGiven, decompositionOf, base, intensity, adjusted, isAdjusted}
-use Rattle.estimators.specs.Order.{opening, ofGiven, ofSettings, adjustedOrder, noVariance}
-use Rattle.estimators.specs.Opening.{byReturns, Shaped}
-use Rattle.estimators.specs.Checks as Checks
+use Rattle.estimators.specs.Given.{decomposeGiven, averagedOf}
+use Rattle.estimators.specs.Adjusted.{isGiven, decompositionOf, base, intensity, isAdjusted, baseOf, adjustedOf}
+use Rattle.estimators.specs.Order.{opening, ofGiven, ofSettings, adjustedOrder, noVariance, byReturns, bySettings, byAnswer, byEstimate, bySizes, byNumbers}
+use Rattle.estimators.specs.Opening.{Shaped}
 use Rattle.estimators.specs.Checks.{examined}
 use Rattle.estimators.specs.Calls.{Answered, answered, settle, adjustedCovariance}
-use Rattle.estimators.specs.Estimated.{bySettings, byAnswer, byEstimate, finished, estimated, averagedOf, decompositionBy, ofGivenBy}
+use Rattle.estimators.specs.Estimated.{finished, estimated, decompositionBy, ofGivenBy}
 use Rattle.estimators.specs.declared.Estimate.{Estimate}
 use Rattle.estimators.specs.declared.Estimate.the-variants.{Sample, Given, Weighted, Semi, SemiBelow}
 use Rattle.estimators.specs.declared.Settings.{Settings}
@@ -41,7 +40,7 @@ use Rattle.estimators.proofs.Opened.{shaped}
 
 module _ (s : Settings) (δ : Float) (T n : ℕ) (x : Matrix) (sweeps rotations : ℕ) (b slice : List Float) where
   abbrev answer : List Float
-  answer = rows n n (adjusted s δ n (at b n))
+  answer = adjustedOf s δ n b
 
   abbrev checks : Check
   checks = first (byEstimate s δ T n x (at b n) (at answer n))
@@ -80,23 +79,23 @@ module _ (s : Settings) (T n side : ℕ) (x : Matrix) (sweeps rotations : ℕ) (
       eqb-true _ _ (not-false _ (ap (λ (g : Bool). g && not (eqb side n)) (sym given) ∙ test .0))
 
   pub estimated-refused : {c : Refusal} → (g : Matrix) → refuses c ≡ first (bySettings s T n side x) → answered (Refused c) slice ≡ estimated s T n side x sweeps rotations g slice
-  unfolding first settle
+  unfolding first settle ofSettings
   estimated-refused {c} g e =
       let δ = intensity (s .shrinkage) T n x in
-      let b = rows n n (base (s .estimate) T x g) in
-      let a = rows n n (adjusted s δ n (at b n)) in
+      let b = baseOf s T n x g in
+      let a = adjustedOf s δ n b in
       let rest = byEstimate s δ T n x (at b n) (at a n) in
       ap (λ (k : Check). settle (first (k ∷ rest)) slice (answered (Covariance δ sweeps rotations) a)) e
       ∙ ap (λ (k : Check). settle k slice (answered (Covariance δ sweeps rotations) a)) (sym (first-front (bySettings s T n side x) rest))
 
   pub estimated-accepted : {δ : Float} {b out : List Float} {k : Answer} → (g′ : List Float) (g : Matrix) → passes ≡ first (bySettings s T n side x)
-      → (isGiven (s .estimate) ≡ true → side ≡ n → at g′ n ≡ g) → δ ≡ intensity (s .shrinkage) T n x → b ≡ rows n n (base (s .estimate) T x (at g′ n))
+      → (isGiven (s .estimate) ≡ true → side ≡ n → at g′ n ≡ g) → δ ≡ intensity (s .shrinkage) T n x → b ≡ baseOf s T n x (at g′ n)
       → answered k out ≡ finished s δ T n x sweeps rotations b slice → answered k out ≡ estimated s T n side x sweeps rotations g slice
-  unfolding first settle
+  unfolding first settle ofSettings
   estimated-accepted {b = b′} g′ g pass same eδ eb e =
       let δ = intensity (s .shrinkage) T n x in
-      let b = rows n n (base (s .estimate) T x g) in
-      let a = rows n n (adjusted s δ n (at b n)) in
+      let b = baseOf s T n x g in
+      let a = adjustedOf s δ n b in
       let rest = byEstimate s δ T n x (at b n) (at a n) in
       let is-b = eb ∙ ap (rows n n) (base-given (s .estimate) T x (at g′ n) g (λ given. same given (side-is (sym pass) given))) in
       e ∙ ap (λ (δ : Float). finished s δ T n x sweeps rotations b′ slice) eδ ∙ ap (λ (b : List Float). finished s δ T n x sweeps rotations b slice) is-b
@@ -116,10 +115,10 @@ module _ (r : List Float) (n T : ℕ) (s : Settings) (given : List Float) (side 
   δ = intensity (s .shrinkage) T n x
 
   abbrev b : List Float
-  b = rows n n (base (s .estimate) T x (at (averagedOf given side) side))
+  b = baseOf s T n x (at (averagedOf given side) side)
 
   abbrev a : List Float
-  a = rows n n (adjusted s δ n (at b n))
+  a = adjustedOf s δ n b
 
   abbrev later : List Check
   later = ofSettings s δ T n side x (at b n) (at a n)
@@ -199,23 +198,23 @@ module _ (s : Settings) (given : List Float) (side : ℕ) where
   unfolding decompositionOf
   by-given e = rw (decompositionOf, e)
 
-  checks-given : isGiven (s .estimate) ≡ true → first (ofGivenBy s given side) ≡ first (Checks.bySizes limit (length given) side ++ Checks.byNumbers side (at given side) parts)
-  checks-given e = ap first (of-given s given side (decompositionBy s given side) e ∙ ap (λ (d : Decomposition). Checks.bySizes limit (length given) side ++ Checks.byNumbers side (at given side) d) (by-given e))
+  checks-given : isGiven (s .estimate) ≡ true → first (ofGivenBy s given side) ≡ first (bySizes limit (length given) side ++ byNumbers side (at given side) parts)
+  checks-given e = ap first (of-given s given side (decompositionBy s given side) e ∙ ap (λ (d : Decomposition). bySizes limit (length given) side ++ byNumbers side (at given side) d) (by-given e))
 
-  pub sizes-refuse : {c : Refusal} → isGiven (s .estimate) ≡ true → refuses c ≡ first (Checks.bySizes limit (length given) side)
+  pub sizes-refuse : {c : Refusal} → isGiven (s .estimate) ≡ true → refuses c ≡ first (bySizes limit (length given) side)
       → (Found.Refused c ≡ examined (first (ofGivenBy s given side)) (decompositionBy s given side)) × (first (ofGivenBy s given side) ≡ refuses c)
   unfolding first
   sizes-refuse {c} e h =
-      let rest = Checks.byNumbers side (at given side) parts in
-      let refused : first (ofGivenBy s given side) ≡ refuses c = checks-given e ∙ first-front (Checks.bySizes limit (length given) side) rest ∙ ap (λ (k : Check). first (k ∷ rest)) (sym h) in
+      let rest = byNumbers side (at given side) parts in
+      let refused : first (ofGivenBy s given side) ≡ refuses c = checks-given e ∙ first-front (bySizes limit (length given) side) rest ∙ ap (λ (k : Check). first (k ∷ rest)) (sym h) in
       (ap (λ (k : Check). examined k (decompositionBy s given side)) (sym refused), refused)
 
-  pub sizes-fit : {k : Examined.Examined} {table : List Float} → isGiven (s .estimate) ≡ true → passes ≡ first (Checks.bySizes limit (length given) side) → table ≡ averagedOf given side
-      → k ≡ examined (first (Checks.byNumbers side (at given side) (decomposeGiven limit side (at table side)))) (decomposeGiven limit side (at table side))
+  pub sizes-fit : {k : Examined.Examined} {table : List Float} → isGiven (s .estimate) ≡ true → passes ≡ first (bySizes limit (length given) side) → table ≡ averagedOf given side
+      → k ≡ examined (first (byNumbers side (at given side) (decomposeGiven limit side (at table side)))) (decomposeGiven limit side (at table side))
       → k ≡ examined (first (ofGivenBy s given side)) (decompositionBy s given side)
   unfolding first
   sizes-fit e h et ek =
-      let rest = Checks.byNumbers side (at given side) parts in
-      let last : first (ofGivenBy s given side) ≡ first rest = checks-given e ∙ first-front (Checks.bySizes limit (length given) side) rest ∙ ap (λ (k : Check). first (k ∷ rest)) (sym h) in
-      ek ∙ ap (λ (l : List Float). examined (first (Checks.byNumbers side (at given side) (decomposeGiven limit side (at l side)))) (decomposeGiven limit side (at l side))) et
+      let rest = byNumbers side (at given side) parts in
+      let last : first (ofGivenBy s given side) ≡ first rest = checks-given e ∙ first-front (bySizes limit (length given) side) rest ∙ ap (λ (k : Check). first (k ∷ rest)) (sym h) in
+      ek ∙ ap (λ (l : List Float). examined (first (byNumbers side (at given side) (decomposeGiven limit side (at l side)))) (decomposeGiven limit side (at l side))) et
       ∙ ap (λ (k : Check). examined k parts) (sym last) ∙ ap (λ (d : Decomposition). examined (first (ofGivenBy s given side)) d) (sym (by-given e))

@@ -11,8 +11,8 @@ use lib.Ieee.{Float}
 use mir.Syntax.{w32}
 use mir.Val.{toZ, ofZ}
 use Rattle.leaves.specs.Scaling.{pow2Scaled}
-use Rattle.estimators.specs.BayesStein.{orZero, commonExponent, gathered}
-use Rattle.estimators.specs.Gather.{withExponent, Gathered}
+use Rattle.estimators.specs.BayesStein.{orZero, commonExponent, gathered, withExponent}
+use Rattle.estimators.specs.Gather.{Gathered}
 use Rattle.leaves.proofs.Loops.{loop-ext, tab-ext}
 use Rattle.estimators.proofs.Exponents.{read}
 

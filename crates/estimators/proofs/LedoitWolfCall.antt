@@ -8,8 +8,8 @@ use lib.Ieee.{Float}
 use Rattle.matrix.specs.Matrix.{at}
 use Rattle.estimators.specs.Refusals.{Check, passes, refuses, first}
 use Rattle.estimators.specs.LedoitWolf.{ledoitWolf}
-use Rattle.estimators.specs.Order.{opening, noCorrelation, ledoitWolfOrder}
-use Rattle.estimators.specs.Opening.{byShape, byReturns, Shaped}
+use Rattle.estimators.specs.Order.{opening, noCorrelation, ledoitWolfOrder, byShape, byReturns}
+use Rattle.estimators.specs.Opening.{Shaped}
 use Rattle.estimators.specs.Calls.{answered, settle, ledoitWolfIntensity}
 use Rattle.estimators.specs.declared.Target.{Target}
 use Rattle.estimators.specs.declared.Shrinkage.the-variants.{LedoitWolf}

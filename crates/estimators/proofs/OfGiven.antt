@@ -13,8 +13,7 @@ use Rattle.matrix.specs.Matrix.{at}
 use Rattle.matrix.specs.Jacobi.{Decomposition}
 use Rattle.estimators.specs.Refusals.{passes, first}
 use Rattle.estimators.specs.Adjusted.{isGiven}
-use Rattle.estimators.specs.Order.{sweepLimit, ofGiven}
-use Rattle.estimators.specs.Checks.{bySizes, byNumbers}
+use Rattle.estimators.specs.Order.{sweepLimit, ofGiven, bySizes, byNumbers}
 use Rattle.estimators.specs.declared.Settings.{Settings}
 use Rattle.estimators.proofs.Firsts.{first-passes}
 

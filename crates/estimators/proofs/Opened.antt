@@ -14,8 +14,8 @@ use Rattle.leaves.specs.Loops.{tab, fill}
 use Rattle.matrix.specs.Limits.{maxSide}
 use Rattle.matrix.specs.Matrix.{at}
 use Rattle.estimators.specs.Refusals.{Check, passes, refuses, when, first}
-use Rattle.estimators.specs.Order.{maxPeriods, opening, notFinite}
-use Rattle.estimators.specs.Opening.{byShape, byReturns, Shaped}
+use Rattle.estimators.specs.Order.{maxPeriods, opening, notFinite, byShape, byReturns}
+use Rattle.estimators.specs.Opening.{Shaped}
 use Rattle.estimators.specs.Calls.{Answered, answered, settle}
 use Rattle.estimators.specs.declared.Refusal.{Refusal}
 use Rattle.estimators.specs.declared.Answer.{Answer}

@@ -25,8 +25,7 @@ use Rattle.estimators.specs.Powers.{inUnits, Units}
 use Rattle.estimators.specs.declared.rows.Row.the-variants.{Plain, Deviation}
 use Rattle.estimators.proofs.Stored.{tab-nth, tab-then}
 use Rattle.estimators.specs.Refusals.{Check, when, whenSome, first}
-use Rattle.estimators.specs.Order.{notFinite}
-use Rattle.estimators.specs.Opening.{byReturns}
+use Rattle.estimators.specs.Order.{notFinite, byReturns}
 use Rattle.estimators.specs.declared.Refusal.the-variants.{NotFinite, CovarianceNotFinite}
 use Rattle.estimators.proofs.Entries.{stored}
 use Rattle.estimators.proofs.Firsts.{first-alone}

@@ -9,8 +9,8 @@ use Rattle.leaves.specs.Loops.{tab}
 use Rattle.matrix.specs.Matrix.{at}
 use Rattle.estimators.specs.Refusals.{Check, passes, refuses, first}
 use Rattle.estimators.specs.Weighted.{logDecay, weights, weightedMean}
-use Rattle.estimators.specs.Order.{opening, badHalfLife, weightedOrder}
-use Rattle.estimators.specs.Opening.{byShape, byReturns, Shaped}
+use Rattle.estimators.specs.Order.{opening, badHalfLife, weightedOrder, byShape, byReturns}
+use Rattle.estimators.specs.Opening.{Shaped}
 use Rattle.estimators.specs.Calls.{answered, settle, exponentiallyWeightedMean, jamesSteinMean, bayesSteinMean, adjustedCovariance}
 use Rattle.estimators.specs.Order.{ofGiven, ofSettings, adjustedOrder, jamesSteinOrder, bayesSteinOrder}
 use Rattle.estimators.specs.declared.Settings.{Settings}

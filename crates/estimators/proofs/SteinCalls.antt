@@ -17,24 +17,24 @@ use Rattle.leaves.specs.Root.{sqrt}
 use Rattle.leaves.proofs.Whole.{over, under, minus, same}
 use Rattle.leaves.proofs.Loops.{tab-ext}
 use Rattle.matrix.specs.Limits.{maxSweeps}
-use Rattle.matrix.specs.Matrix.{Matrix, at, rows, amax, allFinite}
-use Rattle.matrix.specs.Jacobi.{Decomposition, decompose}
+use Rattle.matrix.specs.Matrix.{Matrix, at, amax, allFinite}
 use Rattle.estimators.specs.Refusals as Refusals
 use Rattle.estimators.specs.Refusals.{passes, refuses, when, whenSome, first}
 use Rattle.estimators.specs.Sample.{largest, scaled, constantAsset}
 use Rattle.estimators.specs.Moments.{Moments, moments}
-use Rattle.estimators.specs.JamesStein.{grandMean, unevenness, decomposeUneven, jamesSteinIntensity, towards}
-use Rattle.estimators.specs.BayesStein.{correlation, bayesStein, gathered, pulled, Pull}
-use Rattle.estimators.specs.Order.{sweepLimit, jamesSteinOrder, bayesSteinOrder}
-use Rattle.estimators.specs.Opening.{Shaped, byReturns}
+use Rattle.estimators.specs.Shrinking.{Shrinking, shrunkBy}
+use Rattle.estimators.specs.JamesStein.{jamesStein}
+use Rattle.estimators.specs.BayesStein.{gathered, exponentsOf, largestIn, correlations, bayesStein}
+use Rattle.estimators.specs.Order.{sweepLimit, jamesSteinOrder, bayesSteinOrder, byReturns, byCorrelations, byDecomposition}
+use Rattle.estimators.specs.Opening.{Shaped}
 use Rattle.estimators.specs.Checks.{checked}
 use Rattle.estimators.specs.Calls.{answered, settle, jamesSteinMean, bayesSteinMean}
-use Rattle.estimators.specs.Stein.{byCorrelations, byDecomposition, jamesSteinOf, bayesSteinOf, bayesSteinFrom}
+use Rattle.estimators.specs.Stein.{jamesSteinOf, bayesSteinOf, bayesSteinFrom}
 use Rattle.estimators.specs.declared.Refusal.{Refusal}
 use Rattle.estimators.specs.declared.Refusal.the-variants.{ZeroVariance, Singular, BadSetting}
 use Rattle.estimators.specs.declared.Field.the-variants.{SweepLimitField}
 use Rattle.estimators.specs.declared.Answer.{Answer}
-use Rattle.estimators.specs.declared.Answer.the-variants.{Refused, Shrunk}
+use Rattle.estimators.specs.declared.Answer.the-variants.{Refused}
 use Rattle.estimators.specs.declared.checks.Check.{Check}
 use Rattle.estimators.specs.declared.checks.Check.the-variants.{Passes, Refuses}
 use Rattle.estimators.proofs.Stored.{tab-nth}
@@ -77,69 +77,42 @@ module _ (r : List Float) (n T limit : ℕ) (slice : List Float) (shape : Shaped
   abbrev eⱼ : ℤ
   eⱼ = binaryExponent (amax T n (at r n))
 
-  abbrev mⱼ : Moments
-  mⱼ = moments T n (scaled (λ i. eⱼ) (at r n))
-
-  abbrev μⱼ : Float
-  μⱼ = grandMean n (nth (mⱼ .mean))
-
-  abbrev dⱼ : Decomposition
-  dⱼ = decomposeUneven limit n (unevenness n (nth (mⱼ .mean)) μⱼ) (at (mⱼ .covariance) n)
-
-  abbrev αⱼ : Float
-  αⱼ = jamesSteinIntensity n mⱼ μⱼ dⱼ
-
-  abbrev answerⱼ : Answer
-  answerⱼ = Shrunk αⱼ (pow2Scaled μⱼ eⱼ) (dⱼ .sweeps) (dⱼ .rotations)
-
-  abbrev numberⱼ : ℕ → Float
-  numberⱼ i = pow2Scaled (towards αⱼ μⱼ (nth (mⱼ .mean) i)) eⱼ
+  abbrev wⱼ : Shrinking
+  wⱼ = jamesStein n limit (moments T n (scaled (λ i. eⱼ) (at r n))) eⱼ
 
   pub james-stein-refused : {c : Refusal} → bad ≡ Refuses c → answered (Refused c) slice ≡ jamesSteinMean r n T limit slice
   unfolding jamesSteinMean jamesSteinOrder
-  james-stein-refused h = refused h (when (not (dⱼ .found)) Singular ∷ []) answerⱼ numberⱼ
+  james-stein-refused h = refused h (when (not (wⱼ .decomposition .found)) Singular ∷ []) (shrunkBy wⱼ) (wⱼ .mean)
 
   pub james-stein-accepted : bad ≡ Passes → (m : Moments) (e : ℤ) → m ≡ moments T n (scaled (λ i. e) (at r n)) → e ≡ eⱼ → jamesSteinOf n limit m e slice ≡ jamesSteinMean r n T limit slice
   unfolding jamesSteinMean jamesSteinOrder
   james-stein-accepted h m e is-m is-e =
       ap (λ (m : Moments). jamesSteinOf n limit m e slice) is-m
       ∙ ap (λ (e : ℤ). jamesSteinOf n limit (moments T n (scaled (λ i. e) (at r n))) e slice) is-e
-      ∙ ap (λ (k : Refusals.Check). settle k slice (answered answerⱼ (tab n numberⱼ))) (first-alone (when (not (dⱼ .found)) Singular))
-      ∙ accepted h (when (not (dⱼ .found)) Singular ∷ []) answerⱼ numberⱼ
+      ∙ ap (λ (k : Refusals.Check). settle k slice (answered (shrunkBy wⱼ) (tab n (wⱼ .mean)))) (first-alone (when (not (wⱼ .decomposition .found)) Singular))
+      ∙ accepted h (when (not (wⱼ .decomposition .found)) Singular ∷ []) (shrunkBy wⱼ) (wⱼ .mean)
 
   -- ---- Bayes-Stein
 
   abbrev e : ℕ → ℤ
-  e i = getD (tab n (λ i. binaryExponent (largest T (at r n) i))) i (pos 0)
+  e = exponentsOf T n (at r n)
 
   abbrev m : Moments
   m = moments T n (scaled e (at r n))
 
-  abbrev C : Matrix
-  C = at (rows n n (correlation (at (m .covariance) n))) n
-
-  abbrev d : Decomposition
-  d = decompose limit n C
-
-  abbrev w : Pull
-  w = bayesStein n (m .periods) (nth (m .mean)) (at (m .covariance) n) e d
+  abbrev w : Shrinking
+  w = bayesStein n limit m e
 
   abbrev rest : List Refusals.Check
-  rest = byCorrelations n (λ i. pow2Scaled (largest T (at r n) i) (negℤ (e i))) (at (m .covariance) n) C ++ byDecomposition n d
-
-  abbrev answer : Answer
-  answer = Shrunk (w .intensity) (w .target) (d .sweeps) (d .rotations)
-
-  abbrev number : ℕ → Float
-  number i = pulled w (nth (m .mean) i) (e i)
+  rest = byCorrelations n (largestIn e T (at r n)) (at (m .covariance) n) (correlations n m) ++ byDecomposition n (w .decomposition)
 
   pub bayes-stein-refused : {c : Refusal} → bad ≡ Refuses c → answered (Refused c) slice ≡ bayesSteinMean r n T limit slice
   unfolding bayesSteinMean bayesSteinOrder
-  bayes-stein-refused h = refused h rest answer number
+  bayes-stein-refused h = refused h rest (shrunkBy w) (w .mean)
 
   pub bayes-stein-accepted : bad ≡ Passes → bayesSteinFrom n T limit (at r n) slice ≡ bayesSteinMean r n T limit slice
   unfolding bayesSteinMean bayesSteinOrder
-  bayes-stein-accepted h = accepted h rest answer number
+  bayes-stein-accepted h = accepted h rest (shrunkBy w) (w .mean)
 
 -- ---- the sizes and exponents of Bayes-Stein, as lists
 
@@ -148,12 +121,10 @@ size-ext : (n limit : ℕ) (m : Moments) (e : ℕ → ℤ) (s s′ : ℕ → Flo
 unfolding constantAsset
 size-ext n limit m e s s′ slice h =
     let Σ = at (m .covariance) n in
-    let C = at (rows n n (correlation Σ)) n in
-    let d = decompose limit n C in
-    let w = bayesStein n (m .periods) (nth (m .mean)) Σ e d in
+    let w = bayesStein n limit m e in
     ap
-    (λ (o : Option ℕ). settle (first (whenSome o ZeroVariance ∷ when (not (allFinite n n C)) Singular ∷ byDecomposition n d)) slice
-    (answered (Shrunk (w .intensity) (w .target) (d .sweeps) (d .rotations)) (tab n (λ i. pulled w (nth (m .mean) i) (e i)))))
+    (λ (o : Option ℕ). settle (first (whenSome o ZeroVariance ∷ when (not (allFinite n n (correlations n m))) Singular ∷ byDecomposition n (w .decomposition))) slice
+    (answered (shrunkBy w) (tab n (w .mean))))
     (constant-ext n (λ i. sqrt (Σ i i)) (λ i. sqrt (Σ i i)) s s′ (λ i b. refl) h)
 
 minus-zero : (z : ℤ) → z -ℤ pos 0 ≡ z
@@ -171,7 +142,7 @@ module _ (n T limit : ℕ) (x : Matrix) (slice sizes over : List Float) (es : Li
   exponents : es ≡ tab n (λ i. binaryExponent (largest T x i))
   exponents = is-es ∙ tab-ext (λ i. binaryExponent (nth sizes i)) (λ i. binaryExponent (largest T x i)) n (λ i b. ap binaryExponent (at-size i b))
 
-  at-over : over ≡ gathered n (nth sizes) (λ i. negℤ (unit i)) (pos 0) → (i : ℕ) → i < n → nth over i ≡ pow2Scaled (largest T x i) (negℤ (unit i))
+  at-over : over ≡ gathered n (nth sizes) (λ i. negℤ (unit i)) (pos 0) → (i : ℕ) → i < n → nth over i ≡ largestIn unit T x i
   unfolding gathered
   at-over is-over i b =
       ap (λ (l : List Float). nth l i) is-over ∙ tab-nth (λ i. pow2Scaled (nth sizes i) (negℤ (unit i) -ℤ pos 0)) n i b
@@ -180,5 +151,5 @@ module _ (n T limit : ℕ) (x : Matrix) (slice sizes over : List Float) (es : Li
   pub bayes-stein-lists : (m : Moments) → m ≡ moments T n (scaled unit x) → over ≡ gathered n (nth sizes) (λ i. negℤ (unit i)) (pos 0) → bayesSteinOf n limit m unit (nth over) slice ≡ bayesSteinFrom n T limit x slice
   bayes-stein-lists m is-m is-over =
       ap (λ (m : Moments). bayesSteinOf n limit m unit (nth over) slice) is-m
-      ∙ size-ext n limit (moments T n (scaled unit x)) unit (nth over) (λ i. pow2Scaled (largest T x i) (negℤ (unit i))) slice (at-over is-over)
-      ∙ ap (λ (l : List ℤ). let e : ℕ → ℤ = λ i. getD l i (pos 0) in bayesSteinOf n limit (moments T n (scaled e x)) e (λ i. pow2Scaled (largest T x i) (negℤ (e i))) slice) exponents
+      ∙ size-ext n limit (moments T n (scaled unit x)) unit (nth over) (largestIn unit T x) slice (at-over is-over)
+      ∙ ap (λ (l : List ℤ). let e : ℕ → ℤ = λ i. getD l i (pos 0) in bayesSteinOf n limit (moments T n (scaled e x)) e (largestIn e T x) slice) exponents

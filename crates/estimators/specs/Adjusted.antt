@@ -1,9 +1,10 @@
 -- Document 01, "Estimators": the estimate, shrunk and regularized (covariance.rs, `adjusted_covariance`). Definitions only.
 use Prim.Native.Nat.{ℕ}
 use mathlib.Core.Bool.{Bool, true, false, _||_}
+use mathlib.Core.List.{List}
 use lib.Ieee.{Float, lt}
 use Rattle.leaves.specs.Numbers.{_⊕_, _⊖_, _⊗_, zero⁺, one}
-use Rattle.matrix.specs.Matrix.{Matrix, identity}
+use Rattle.matrix.specs.Matrix.{Matrix, at, rows, identity}
 use Rattle.matrix.specs.Jacobi.{Decomposition, unturned}
 use Rattle.estimators.specs.Sample.{covariance}
 use Rattle.estimators.specs.Weighted.{logDecay, weightedCovariance}
@@ -78,3 +79,13 @@ adjusted s δ n b = regularized (s .regularization) (shrunk (s .shrinkage) δ n 
 unfoldable pub isAdjusted : Float → Regularization → Bool
 isAdjusted δ Unregularized = lt zero⁺ δ
 isAdjusted δ (Ridge ridge) = lt zero⁺ δ || lt zero⁺ ridge
+
+-- ---- stored by rows
+
+-- for the averaged given matrix g
+abbrev pub baseOf : Settings → ℕ → ℕ → Matrix → Matrix → List Float
+baseOf s T n x g = rows n n (base (s .estimate) T x g)
+
+-- of the estimate b
+abbrev pub adjustedOf : Settings → Float → ℕ → List Float → List Float
+adjustedOf s δ n b = rows n n (adjusted s δ n (at b n))

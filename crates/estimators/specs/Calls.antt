@@ -1,26 +1,25 @@
 -- Document 01, the five calls: what each returns, with its answer slice, for all inputs. Definitions only.
 use Prim.Native.Nat.{ℕ, _*_}
 use mathlib.Core.List.{List, []}
-use lib.IntN.{ℤ, pos, negℤ}
-use lib.ListN.{getD}
 use lib.Ieee.{Float}
-use Rattle.leaves.specs.Loops.{tab, fill, nth}
-use Rattle.leaves.specs.Scaling.{binaryExponent, pow2Scaled}
-use Rattle.matrix.specs.Matrix.{at, rows, amax, averaged}
-use Rattle.matrix.specs.Jacobi.{decompose}
+use Rattle.leaves.specs.Loops.{fill, nth}
+use Rattle.leaves.specs.Scaling.{binaryExponent}
+use Rattle.matrix.specs.Matrix.{at, amax}
 use Rattle.estimators.specs.Refusals.{Check, passes, refuses, first}
-use Rattle.estimators.specs.Sample.{largest, scaled}
+use Rattle.estimators.specs.Sample.{scaled}
 use Rattle.estimators.specs.Weighted.{logDecay, weights, weightedMean}
+use Rattle.estimators.specs.Given.{averagedOf}
 use Rattle.estimators.specs.LedoitWolf.{ledoitWolf}
-use Rattle.estimators.specs.Adjusted.{decompositionOf, base, intensity, adjusted}
-use Rattle.estimators.specs.Moments.{Moments, moments}
-use Rattle.estimators.specs.JamesStein.{grandMean, unevenness, decomposeUneven, jamesSteinIntensity, towards}
-use Rattle.estimators.specs.BayesStein.{correlation, bayesStein, pulled}
+use Rattle.estimators.specs.Adjusted.{decompositionOf, intensity, baseOf, adjustedOf}
+use Rattle.estimators.specs.Moments.{moments}
+use Rattle.estimators.specs.Shrinking.{shrunkBy}
+use Rattle.estimators.specs.JamesStein.{jamesStein}
+use Rattle.estimators.specs.BayesStein.{exponentsOf, largestIn, correlations, bayesStein}
 use Rattle.estimators.specs.Order.{adjustedOrder, ledoitWolfOrder, weightedOrder, jamesSteinOrder, bayesSteinOrder}
 use Rattle.estimators.specs.declared.Target.{Target}
 use Rattle.estimators.specs.declared.Settings.{Settings}
 use Rattle.estimators.specs.declared.Answer.{Answer}
-use Rattle.estimators.specs.declared.Answer.the-variants.{Refused, Covariance, Intensity, Mean, Shrunk}
+use Rattle.estimators.specs.declared.Answer.the-variants.{Refused, Covariance, Intensity, Mean}
 
 -- the returned record and the full answer slice
 pub record Answered : Type 0 where
@@ -37,11 +36,11 @@ settle passes slice accepted = accepted
 
 unfoldable pub adjustedCovariance : List Float → ℕ → ℕ → Settings → List Float → ℕ → List Float → Answered
 adjustedCovariance r n T s given side slice =
-    let g = rows side side (averaged (at given side)) in
+    let g = averagedOf given side in
     let d = decompositionOf s side (at g side) in
     let δ = intensity (s .shrinkage) T n (at r n) in
-    let b = rows n n (base (s .estimate) T (at r n) (at g side)) in
-    let a = rows n n (adjusted s δ n (at b n)) in
+    let b = baseOf s T n (at r n) (at g side) in
+    let a = adjustedOf s δ n b in
     let accepted = answered (Covariance δ (d .sweeps) (d .rotations)) (fill (n * n) (nth a) slice) in
     settle (first (adjustedOrder r n T s given side slice d δ (at b n) (at a n))) slice accepted
 
@@ -62,24 +61,15 @@ unfoldable pub jamesSteinMean : List Float → ℕ → ℕ → ℕ → List Floa
 jamesSteinMean r n T limit slice =
     let e = binaryExponent (amax T n (at r n)) in
     let m = moments T n (scaled (λ i. e) (at r n)) in
-    let μ = nth (m .mean) in
-    let μ₀ = grandMean n μ in
-    let d = decomposeUneven limit n (unevenness n μ μ₀) (at (m .covariance) n) in
-    let α = jamesSteinIntensity n m μ₀ d in
-    let accepted = answered (Shrunk α (pow2Scaled μ₀ e) (d .sweeps) (d .rotations)) (fill n (λ i. pow2Scaled (towards α μ₀ (μ i)) e) slice) in
-    settle (first (jamesSteinOrder r n T limit slice d)) slice accepted
+    let w = jamesStein n limit m e in
+    let accepted = answered (shrunkBy w) (fill n (w .mean) slice) in
+    settle (first (jamesSteinOrder r n T limit slice (w .decomposition))) slice accepted
 
 -- each asset's returns over a power of two near its largest
 unfoldable pub bayesSteinMean : List Float → ℕ → ℕ → ℕ → List Float → Answered
 bayesSteinMean r n T limit slice =
-    let exponents = tab n (λ i. binaryExponent (largest T (at r n) i)) in
-    let e : ℕ → ℤ = λ i. getD exponents i (pos 0) in
+    let e = exponentsOf T n (at r n) in
     let m = moments T n (scaled e (at r n)) in
-    let μ = nth (m .mean) in
-    let Σ = at (m .covariance) n in
-    let C = at (rows n n (correlation Σ)) n in
-    let d = decompose limit n C in
-    let size : ℕ → Float = λ i. pow2Scaled (largest T (at r n) i) (negℤ (e i)) in
-    let w = bayesStein n (m .periods) μ Σ e d in
-    let accepted = answered (Shrunk (w .intensity) (w .target) (d .sweeps) (d .rotations)) (fill n (λ i. pulled w (μ i) (e i)) slice) in
-    settle (first (bayesSteinOrder r n T limit slice size Σ C d)) slice accepted
+    let w = bayesStein n limit m e in
+    let accepted = answered (shrunkBy w) (fill n (w .mean) slice) in
+    settle (first (bayesSteinOrder r n T limit slice (largestIn e T (at r n)) (at (m .covariance) n) (correlations n m) (w .decomposition))) slice accepted

@@ -1,26 +1,19 @@
 -- What only the contracts of the functions that gather numbers over one power of two cite. Definitions only.
 use Prim.Native.Nat.{ℕ, _+_, _≤_, _<_}
-use mathlib.Core.Bool.{true, false}
 use mathlib.Core.Path.{_≡_}
 use mathlib.Core.List.{List}
 use mathlib.Core.Option.{Option, none, some}
-use lib.IntN.{ℤ, pos, natAbs, _+ℤ_}
+use lib.IntN.{ℤ, pos, natAbs}
 use lib.ListN.{length, getD}
-use lib.Ieee.{Float, eq}
-use Rattle.leaves.specs.Numbers.{zero⁺}
-use Rattle.leaves.specs.Scaling.{binaryExponent}
+use lib.Ieee.{Float}
 use Rattle.estimators.specs.Held.{maxExponent}
-use Rattle.estimators.specs.BayesStein.{largerZ, orZero, commonExponent, gathered}
+use Rattle.estimators.specs.BayesStein.{orZero, commonExponent, gathered}
 use Rattle.estimators.specs.declared.gather.Largest.{Largest}
 use Rattle.estimators.specs.declared.gather.Largest.the-variants.{Nothing, Exponent}
 
 abbrev pub largestOf : Largest → Option ℤ
 largestOf Nothing = none
 largestOf (Exponent k) = some k
-
--- a step of `commonExponent`
-abbrev pub withExponent : Option ℤ → Float → ℤ → Option ℤ
-withExponent found x k = elim (eq x zero⁺) [ true ↦ found | false ↦ largerZ found (binaryExponent x +ℤ k) ]
 
 -- each is one of an f64
 abbrev pub Exponents : List ℤ → Type 0

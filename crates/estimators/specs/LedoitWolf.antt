@@ -3,8 +3,8 @@
 -- [b] "Honey, I shrunk the sample covariance matrix" (2004): the target has the sample's variances and their average correlation.
 use Prim.Native.Nat.{ℕ, _*_, _-_}
 use mathlib.Core.Bool.{Bool, true, false, not, cond}
+use mathlib.Core.List.{List}
 use lib.Dec.{eqb}
-use lib.IntN.{ℤ}
 use lib.Ieee.{Float, lt}
 use Rattle.leaves.specs.Numbers.{_⊖_, _⊗_, _⊘_, count, zero⁺, clamp01}
 use Rattle.leaves.specs.Loops.{sumTo}
@@ -70,10 +70,14 @@ intensityOf F T n z s =
     let γ = distance F n s in
     elim (lt zero⁺ γ) [ true ↦ clamp01 (error F T n z s ⊘ count T ⊘ γ) | false ↦ zero⁺ ]
 
+-- s, stored by rows
+abbrev pub secondMoments : ℕ → ℕ → Matrix → List Float
+secondMoments T n z = rows n n (λ i j. gram T z i j ⊘ count T)
+
 -- δ is a ratio of fourth moments: the centered returns are taken over a power of two near the largest
 unfoldable pub ledoitWolf : Target → ℕ → ℕ → Matrix → Float
 ledoitWolf F T n x =
     let e = binaryExponent (amax T n (deviation T x)) in
     let z = rows T n (scaled (λ i. e) (deviation T x)) in
-    let s = rows n n (λ i j. gram T (at z n) i j ⊘ count T) in
+    let s = secondMoments T n (at z n) in
     intensityOf F T n (at z n) (at s n)

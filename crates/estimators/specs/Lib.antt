@@ -10,6 +10,7 @@ pub mod LedoitWolf
 pub mod Adjusted
 pub mod Moments
 pub mod Held
+pub mod Shrinking
 pub mod JamesStein
 pub mod BayesStein
 pub mod Gather

@@ -36,36 +36,45 @@ maxPeriods = 4096
 unfoldable pub notFinite : ℕ → ℕ → Matrix → Check
 notFinite m n a = whenSome (firstEntry m n (λ i j. not (isFinite (a i j)))) (λ p. NotFinite (p .0) (p .1))
 
--- 1, 2, 3, 4, 5, sample 6: for every call, with the length that its answer slice needs
-unfoldable pub opening : List Float → ℕ → ℕ → ℕ → List Float → List Check
-opening r n T needed answer =
+-- 1 to 4, by the lengths of the two slices
+abbrev pub byShape : ℕ → ℕ → ℕ → ℕ → ℕ → List Check
+byShape length n T needed room =
     when (eqb n 0) NoAssets ∷
     when (ltb maxSide n || ltb maxPeriods T) TooLarge ∷
     when (ltb T 2) (TooFewPeriods T) ∷
-    when (not (eqb (length r) (T * n)) || ltb (length answer) needed) WrongLength ∷
-    notFinite T n (at r n) ∷
-    when (not (allFinite n n (covariance T (at r n)))) CovarianceNotFinite ∷
+    when (not (eqb length (T * n)) || ltb room needed) WrongLength ∷
     []
+
+-- 5, sample 6
+abbrev pub byReturns : ℕ → ℕ → Matrix → List Check
+byReturns T n x = notFinite T n x ∷ when (not (allFinite n n (covariance T x))) CovarianceNotFinite ∷ []
+
+-- 1, 2, 3, 4, 5, sample 6: for every call, with the length that its answer slice needs
+unfoldable pub opening : List Float → ℕ → ℕ → ℕ → List Float → List Check
+opening r n T needed answer = byShape (length r) n T needed (length answer) ++ byReturns T n (at r n)
 
 -- sweep limit: for given, James-Stein and Bayes-Stein
 unfoldable pub sweepLimit : ℕ → Check
 sweepLimit limit = when (ltb maxSweeps limit) (BadSetting SweepLimitField)
 
+-- the sweep limit; given's 1, 2, 10 (slice)
+abbrev pub bySizes : ℕ → ℕ → ℕ → List Check
+bySizes limit size n = sweepLimit limit ∷ when (eqb n 0) NoAssets ∷ when (ltb maxSide n) TooLarge ∷ when (not (eqb size (n * n))) (WrongSide n) ∷ []
+
+-- given's 5, 11
+abbrev pub byEntries : ℕ → Matrix → List Check
+byEntries n g = notFinite n n g ∷ whenSome (asymmetry n g) (λ p. Asymmetric (p .0) (p .1)) ∷ []
+
+-- 13, 12, by the decomposition d of the averaged matrix a
+abbrev pub byValues : ℕ → Matrix → Decomposition → List Check
+byValues n a d = when (not (d .found)) NotDecomposed ∷ when (indefinite n d) (Indefinite (smallest n d ⊗ amax n n a)) ∷ []
+
+abbrev pub byNumbers : ℕ → Matrix → Decomposition → List Check
+byNumbers n g d = byEntries n g ++ byValues n (averaged g) d
+
 -- the sweep limit; given's 1, 2, 10 (slice), 5, 11, 13, 12
 unfoldable pub ofGiven : Settings → List Float → ℕ → Decomposition → List Check
-ofGiven s g side d = elim (isGiven (s .estimate)) [
-  | true ↦
-      sweepLimit (s .limit) ∷
-      when (eqb side 0) NoAssets ∷
-      when (ltb maxSide side) TooLarge ∷
-      when (not (eqb (length g) (side * side))) (WrongSide side) ∷
-      notFinite side side (at g side) ∷
-      whenSome (asymmetry side (at g side)) (λ p. Asymmetric (p .0) (p .1)) ∷
-      when (not (d .found)) NotDecomposed ∷
-      when (indefinite side d) (Indefinite (smallest side d ⊗ amax side side (averaged (at g side)))) ∷
-      []
-  | false ↦ []
-]
+ofGiven s g side d = elim (isGiven (s .estimate)) [ true ↦ bySizes (s .limit) (length g) side ++ byNumbers side (at g side) d | false ↦ [] ]
 
 -- finite and at least 0, as -0 is
 unfoldable pub badRegularization : Regularization → Check
@@ -110,19 +119,36 @@ noVariance false estimate T n x b =
       | false ↦ whenSome (constantAsset n b (largest T x)) ZeroVariance
     ]
 
--- fields 1 to 4; 8; 9 by constant correlation; 10 (side); unadjusted 9; 6; 14. b is the estimate, a the answer
-unfoldable pub ofSettings : Settings → Float → ℕ → ℕ → ℕ → Matrix → Matrix → Matrix → List Check
-ofSettings s δ T n side x b a =
+-- fields 1 to 4; 8; 9 by constant correlation; 10 (side)
+abbrev pub bySettings : Settings → ℕ → ℕ → ℕ → Matrix → List Check
+bySettings s T n side x =
     badRegularization (s .regularization) ∷
     badShrinkage (s .shrinkage) ∷
     badEstimate (s .estimate) ∷
     notTheSample (s .shrinkage) (s .estimate) ∷
     noCorrelation (s .shrinkage) T n x ∷
     when (isGiven (s .estimate) && not (eqb side n)) (WrongSide side) ∷
-    noVariance (isAdjusted δ (s .regularization)) (s .estimate) T n x b ∷
-    when (not (allFinite n n a)) CovarianceNotFinite ∷
-    when (eq (trace n a) zero⁺) Singular ∷
     []
+
+-- 6 and 14, by the answer a
+abbrev pub byAnswer : ℕ → Matrix → List Check
+byAnswer n a = when (not (allFinite n n a)) CovarianceNotFinite ∷ when (eq (trace n a) zero⁺) Singular ∷ []
+
+-- unadjusted 9, by the estimate b; then by the answer
+abbrev pub byEstimate : Settings → Float → ℕ → ℕ → Matrix → Matrix → Matrix → List Check
+byEstimate s δ T n x b a = noVariance (isAdjusted δ (s .regularization)) (s .estimate) T n x b ∷ byAnswer n a
+
+-- fields 1 to 4; 8; 9 by constant correlation; 10 (side); unadjusted 9; 6; 14. b is the estimate, a the answer
+unfoldable pub ofSettings : Settings → Float → ℕ → ℕ → ℕ → Matrix → Matrix → Matrix → List Check
+ofSettings s δ T n side x b a = bySettings s T n side x ++ byEstimate s δ T n x b a
+
+-- 9, and 14 by the correlations C
+abbrev pub byCorrelations : ℕ → (ℕ → Float) → Matrix → Matrix → List Check
+byCorrelations n largest Σ C = whenSome (constantAsset n Σ largest) ZeroVariance ∷ when (not (allFinite n n C)) Singular ∷ []
+
+-- 14 by their decomposition
+abbrev pub byDecomposition : ℕ → Decomposition → List Check
+byDecomposition n d = when (not (d .found)) Singular ∷ when (singular n d) Singular ∷ []
 
 -- ---- the five calls
 
@@ -140,11 +166,4 @@ jamesSteinOrder r n T limit slice d = opening r n T n slice ++ sweepLimit limit 
 
 -- in each asset's unit: the largest returns, the covariance Σ, and its correlations C with their decomposition
 unfoldable pub bayesSteinOrder : List Float → ℕ → ℕ → ℕ → List Float → (ℕ → Float) → Matrix → Matrix → Decomposition → List Check
-bayesSteinOrder r n T limit slice largest Σ C d =
-    opening r n T n slice ++
-    sweepLimit limit ∷
-    whenSome (constantAsset n Σ largest) ZeroVariance ∷
-    when (not (allFinite n n C)) Singular ∷
-    when (not (d .found)) Singular ∷
-    when (singular n d) Singular ∷
-    []
+bayesSteinOrder r n T limit slice largest Σ C d = opening r n T n slice ++ (sweepLimit limit ∷ byCorrelations n largest Σ C ++ byDecomposition n d)

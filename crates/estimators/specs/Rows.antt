@@ -7,10 +7,9 @@ use mathlib.Core.List.{List, []}
 use lib.Dec.{leb}
 use lib.ListN.{length}
 use lib.Ieee.{Float}
-use Rattle.leaves.specs.Numbers.{_⊕_, _⊖_, _⊗_, _⊘_, count, min0}
+use Rattle.leaves.specs.Numbers.{_⊕_, _⊖_, _⊗_, min0}
 use Rattle.leaves.specs.Loops.{nth}
-use Rattle.matrix.specs.Matrix.{Matrix, at, rows}
-use Rattle.estimators.specs.Sample.{gram}
+use Rattle.matrix.specs.Matrix.{Matrix, at}
 use Rattle.estimators.specs.declared.rows.Row.{Row}
 use Rattle.estimators.specs.declared.rows.Row.the-variants.{Plain, Times, Deviation, Shortfall, Weighted, Scaled}
 use Rattle.estimators.specs.declared.tables.Term.{Term}
@@ -36,10 +35,6 @@ rowsOf row n units centers weights x t i = formed row (inUnit n units i (x t i))
 -- those of the stored returns r less the centers
 abbrev pub centered : Row → ℕ → List Float → List Float → Matrix
 centered row n centers r = rowsOf row n [] centers [] (at r n)
-
--- the averages of the products of T rows' columns
-abbrev pub secondMoments : ℕ → ℕ → Matrix → List Float
-secondMoments T n z = rows n n (λ i j. gram T z i j ⊘ count T)
 
 -- ---- tables of sums: of the second moments, of π and of θ
 

@@ -26,7 +26,7 @@ fn add_period(
     requires { ⌜ (length (now r) ≡ periods * n) × (n ≤ maxSide) × (t < periods) × (length (now centers) ≡ n) × (length (now out) ≡ n) ⌝ }
     ensures { λ _. ⌜ now (out .exit) ≡ tab n (λ (i : ℕ). nth (now (out .entry)) i ⊕ rowsOf row n (now (units .entry)) (now (centers .entry)) (now (weights .entry)) (at (now (r .entry)) n) t i) ⌝ }
 {
-    let mut buffer = [0.0; 32];
+    let mut buffer = [0.0; matrix::MAX_SIDE];
     let d = &mut buffer[..n];
     form(row, r, n, periods, t, units, centers, weights, d);
     vectors::add(d, out);
@@ -47,7 +47,7 @@ fn raise_period(
     requires { ⌜ (length (now r) ≡ periods * n) × (n ≤ maxSide) × (t < periods) × (length (now centers) ≡ n) × (length (now out) ≡ n) ⌝ }
     ensures { λ _. ⌜ now (out .exit) ≡ tab n (λ (i : ℕ). larger (nth (now (out .entry)) i) (abs (rowsOf row n (now (units .entry)) (now (centers .entry)) (now (weights .entry)) (at (now (r .entry)) n) t i))) ⌝ }
 {
-    let mut buffer = [0.0; 32];
+    let mut buffer = [0.0; matrix::MAX_SIDE];
     let d = &mut buffer[..n];
     form(row, r, n, periods, t, units, centers, weights, d);
     vectors::raise(d, out);

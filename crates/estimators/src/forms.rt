@@ -7,7 +7,7 @@ ghost use Rattle.leaves.specs.Loops.{sumTo, tab, nth};
 ghost use Rattle.matrix.specs.Matrix.{at};
 ghost use Rattle.matrix.specs.Jacobi.{Decomposition};
 ghost use Rattle.estimators.specs.BayesStein as BayesStein;
-ghost use Rattle.estimators.specs.Stein.{ratioOf, distanceOf};
+ghost use Rattle.estimators.specs.BayesStein.{ratioOf, distanceOf};
 
 // x times column e of V.
 fn project_on(vectors: &[f64], n: usize, e: usize, x: &[f64]) -> f64

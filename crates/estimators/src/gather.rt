@@ -11,7 +11,8 @@ ghost use Rattle.leaves.specs.Scaling.{binaryExponent, pow2Scaled};
 ghost use Rattle.matrix.specs.Limits.{maxSide};
 ghost use Rattle.estimators.specs.Held.{maxExponent};
 ghost use Rattle.estimators.specs.BayesStein as BayesStein;
-ghost use Rattle.estimators.specs.Gather.{largestOf, withExponent, Exponents, Summed, Gathered, twoExponents};
+ghost use Rattle.estimators.specs.Gather.{largestOf, Exponents, Summed, Gathered, twoExponents};
+ghost use Rattle.estimators.specs.BayesStein.{withExponent};
 use crate::moments::exponent;
 
 // The largest exponent so far, if there is one.

@@ -10,8 +10,8 @@ ghost use Rattle.matrix.specs.Inner.{decomposed};
 ghost use Rattle.matrix.specs.Places.{placed};
 ghost use Rattle.estimators.specs.Refusals as Refusals;
 ghost use Rattle.estimators.specs.Given as Given;
-ghost use Rattle.estimators.specs.Checks as Checks;
 ghost use Rattle.estimators.specs.Checks.{checked, examined, judged};
+ghost use Rattle.estimators.specs.Order.{bySizes, byEntries, byNumbers};
 use crate::Refusal;
 use crate::checks::Check;
 use crate::checks::when;
@@ -21,7 +21,7 @@ use matrix::places::Place;
 
 // The sweep limit; 1, 2, 10 for the slice's length.
 pub(crate) fn check_sizes(limit: usize, size: usize, n: usize) -> Check
-    ensures { λ r. ⌜ checked r ≡ Refusals.first (Checks.bySizes limit size n) ⌝ }
+    ensures { λ r. ⌜ checked r ≡ Refusals.first (bySizes limit size n) ⌝ }
 {
     let bad = bad_sweep_limit(limit);
     if let Check::Refuses(refusal) = bad {
@@ -48,7 +48,7 @@ fn asymmetry(g: &[f64], n: usize) -> Place
 // 5 and 11.
 fn check_entries(g: &[f64], n: usize) -> Check
     requires { ⌜ length (now g) ≡ n * n ⌝ }
-    ensures { λ r. ⌜ checked r ≡ Refusals.first (Checks.byEntries n (at (now (g .entry)) n)) ⌝ }
+    ensures { λ r. ⌜ checked r ≡ Refusals.first (byEntries n (at (now (g .entry)) n)) ⌝ }
 {
     let bad = matrix::places::first_not_finite(g, n, n);
     if let Place::At(i, j) = bad {
@@ -142,7 +142,7 @@ fn take_apart(a: &[f64], n: usize, limit: usize) -> Examined
 // The average of a given matrix with its transpose, and whether it is refused: 5, 11, 13, 12.
 pub(crate) fn examine(g: &[f64], n: usize, limit: usize, out: &mut [f64]) -> Examined
     requires { ⌜ (0 < n) × (n ≤ maxSide) × (limit ≤ maxSweeps) × (length (now g) ≡ n * n) × (length (now out) ≡ n * n) ⌝ }
-    ensures { λ r. ⌜ (now (out .exit) ≡ rows n n (averaged (at (now (g .entry)) n))) × (r ≡ examined (Refusals.first (Checks.byNumbers n (at (now (g .entry)) n) (Given.decomposeGiven limit n (at (now (out .exit)) n)))) (Given.decomposeGiven limit n (at (now (out .exit)) n))) ⌝ }
+    ensures { λ r. ⌜ (now (out .exit) ≡ rows n n (averaged (at (now (g .entry)) n))) × (r ≡ examined (Refusals.first (byNumbers n (at (now (g .entry)) n) (Given.decomposeGiven limit n (at (now (out .exit)) n)))) (Given.decomposeGiven limit n (at (now (out .exit)) n))) ⌝ }
 {
     matrix::tables::average(g, n, out);
     let bad = check_entries(g, n);

@@ -16,6 +16,7 @@ mod ledoit_wolf;
 mod moments;
 mod opening;
 mod powers;
+pub mod refusals;
 mod rows;
 mod sample;
 mod scales;

@@ -8,6 +8,7 @@ ghost use Rattle.estimators.specs.Refusals as Refusals;
 ghost use Rattle.estimators.specs.Sample as Sample;
 ghost use Rattle.estimators.specs.Checks.{checked};
 ghost use Rattle.estimators.specs.Opening as Opening;
+ghost use Rattle.estimators.specs.Order.{byShape, byReturns};
 use crate::Refusal;
 use crate::checks::Check;
 use crate::checks::when;
@@ -41,7 +42,7 @@ pub(crate) fn check_shape(
     filled: Filled,
     room: usize,
 ) -> Check
-    ensures { λ r. ⌜ checked r ≡ Refusals.first (Opening.byShape length n periods (Opening.needed filled n) room) ⌝ }
+    ensures { λ r. ⌜ checked r ≡ Refusals.first (byShape length n periods (Opening.needed filled n) room) ⌝ }
 {
     if n == 0 {
         return Check::Refuses(Refusal::NoAssets);
@@ -64,7 +65,7 @@ pub(crate) fn check_shape(
 // 5, sample 6. The sample covariance is left in `out`.
 pub(crate) fn check_returns(r: &[f64], n: usize, periods: usize, out: &mut [f64]) -> Check
     requires { ⌜ (length (now r) ≡ periods * n) × (n ≤ maxSide) × (1 ≤ periods) × (length (now out) ≡ n * n) ⌝ }
-    ensures { λ k. ⌜ (now (out .exit) ≡ rows n n (Sample.covariance periods (at (now (r .entry)) n))) × (checked k ≡ Refusals.first (Opening.byReturns periods n (at (now (r .entry)) n))) ⌝ }
+    ensures { λ k. ⌜ (now (out .exit) ≡ rows n n (Sample.covariance periods (at (now (r .entry)) n))) × (checked k ≡ Refusals.first (byReturns periods n (at (now (r .entry)) n))) ⌝ }
 {
     covariance(r, n, periods, out);
     let bad = matrix::places::first_not_finite(r, periods, n);
@@ -80,7 +81,7 @@ pub(crate) fn check_returns(r: &[f64], n: usize, periods: usize, out: &mut [f64]
 // 5, sample 6.
 pub(crate) fn check_opened(returns: &[f64], n: usize, periods: usize) -> Check
     requires { ⌜ (length (now returns) ≡ periods * n) × (n ≤ maxSide) × (1 ≤ periods) ⌝ }
-    ensures { λ k. ⌜ checked k ≡ Refusals.first (Opening.byReturns periods n (at (now (returns .entry)) n)) ⌝ }
+    ensures { λ k. ⌜ checked k ≡ Refusals.first (byReturns periods n (at (now (returns .entry)) n)) ⌝ }
 {
     let mut sample = [0.0; matrix::MAX_SIDE * matrix::MAX_SIDE];
     let size = n * n;

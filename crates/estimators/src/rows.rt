@@ -63,7 +63,7 @@ fn numbers(row: Row, xs: &[f64], units: &[f64], centers: &[f64], w: f64, out: &m
 {
     let n = out.len();
     if n + n <= units.len() {
-        let mut buffer = [0.0; 32];
+        let mut buffer = [0.0; matrix::MAX_SIDE];
         let scaled = &mut buffer[..n];
         scale(xs, units, scaled);
         entries(row, scaled, centers, w, out);

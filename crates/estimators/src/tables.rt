@@ -166,7 +166,7 @@ fn add_period(
     requires { ⌜ (length (now r) ≡ periods * n) × (n ≤ maxSide) × (t < periods) × (length (now centers) ≡ n) × Sized term (n * n) (now s) × (length (now out) ≡ n * n) ⌝ }
     ensures { λ _. ⌜ now (out .exit) ≡ rows n n (λ (p q : ℕ). plus term (at (now (s .entry)) n) (rowsOf row n (now (units .entry)) (now (centers .entry)) (now (weights .entry)) (at (now (r .entry)) n) t) p q (at (now (out .entry)) n p q)) ⌝ }
 {
-    let mut buffer = [0.0; 32];
+    let mut buffer = [0.0; matrix::MAX_SIDE];
     let d = &mut buffer[..n];
     form(row, r, n, periods, t, units, centers, weights, d);
     add_rows(term, n, d, s, out);
@@ -189,8 +189,8 @@ fn add_periods(
     requires { ⌜ (length (now r) ≡ periods * n) × (n ≤ maxSide) × (t + 1 < periods) × (length (now centers) ≡ n) × Sized term (n * n) (now s) × (length (now out) ≡ n * n) ⌝ }
     ensures { λ _. ⌜ now (out .exit) ≡ rows n n (λ (p q : ℕ). plus term (at (now (s .entry)) n) (rowsOf row n (now (units .entry)) (now (centers .entry)) (now (weights .entry)) (at (now (r .entry)) n) (t + 1)) p q (plus term (at (now (s .entry)) n) (rowsOf row n (now (units .entry)) (now (centers .entry)) (now (weights .entry)) (at (now (r .entry)) n) t) p q (at (now (out .entry)) n p q))) ⌝ }
 {
-    let mut buffer = [0.0; 32];
-    let mut other = [0.0; 32];
+    let mut buffer = [0.0; matrix::MAX_SIDE];
+    let mut other = [0.0; matrix::MAX_SIDE];
     let d = &mut buffer[..n];
     let e = &mut other[..n];
     form(row, r, n, periods, t, units, centers, weights, d);

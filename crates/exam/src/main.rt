@@ -3,7 +3,7 @@
 fn main() {
     let mut paper = io::large_buffer();
     let n = io::read_full(0, &mut paper);
-    let mut text = [0u8; 8192];
+    let mut text = [0u8; paper::TEXT];
     let k = paper::mark(&paper[..n], &mut text);
     io::write_all(1, &text[..k]);
 }

@@ -7,31 +7,32 @@ use lib.IntN.{ℤ}
 use lib.Ieee.{Float}
 use Rattle.leaves.specs.Loops.{fill, nth}
 use Rattle.leaves.specs.Scaling.{binaryExponent, pow2Scaled}
-use Rattle.matrix.specs.Matrix.{Matrix, at, rows, amax, averaged, allFinite}
+use Rattle.matrix.specs.Matrix.{Matrix, at, amax}
 use Rattle.matrix.specs.Jacobi.{Decomposition}
-use Rattle.estimators.specs.Refusals.{Check, when, whenSome, first}
-use Rattle.estimators.specs.Sample.{constantAsset, scaled}
+use Rattle.estimators.specs.Refusals.{Check, when, first}
+use Rattle.estimators.specs.Sample.{scaled}
 use Rattle.estimators.specs.Moments.{Moments, moments}
-use Rattle.estimators.specs.Adjusted.{decompositionOf, base, intensity, adjusted}
+use Rattle.estimators.specs.Given.{averagedOf}
+use Rattle.estimators.specs.Adjusted.{decompositionOf, intensity, baseOf, adjustedOf}
 use Rattle.estimators.specs.JamesStein.{grandMean, unevenness, decomposeUneven, jamesSteinIntensity, towards}
-use Rattle.estimators.specs.BayesStein.{singular, Pull, bayesStein, pulled}
-use Rattle.estimators.specs.Order.{opening, sweepLimit, ofGiven, ofSettings, adjustedOrder, jamesSteinOrder, bayesSteinOrder}
+use Rattle.estimators.specs.BayesStein.{Pull, bayesSteinPull, pulled}
+use Rattle.estimators.specs.Order.{opening, sweepLimit, ofGiven, ofSettings, byCorrelations, byDecomposition, adjustedOrder, jamesSteinOrder, bayesSteinOrder}
 use Rattle.estimators.specs.Calls.{Answered, answered, settle, adjustedCovariance, jamesSteinMean, bayesSteinMean}
 use Rattle.estimators.specs.declared.Settings.{Settings}
-use Rattle.estimators.specs.declared.Refusal.the-variants.{ZeroVariance, Singular}
+use Rattle.estimators.specs.declared.Refusal.the-variants.{Singular}
 use Rattle.estimators.specs.declared.Answer.the-variants.{Covariance, Shrunk}
 use Rattle.law.proofs.Columns.{exps, found, Σ, C, taken, sizeOf}
 
 -- ---- the adjusted covariance
 module _ (r : List Float) (n P : ℕ) (s : Settings) (given : List Float) (side : ℕ) where
   abbrev pub averages : Matrix
-  averages = at (rows side side (averaged (at given side))) side
+  averages = at (averagedOf given side) side
 
   abbrev pub estimated : List Float
-  estimated = rows n n (base (s .estimate) P (at r n) averages)
+  estimated = baseOf s P n (at r n) averages
 
   abbrev pub covariances : List Float
-  covariances = rows n n (adjusted s (intensity (s .shrinkage) P n (at r n)) n (at estimated n))
+  covariances = adjustedOf s (intensity (s .shrinkage) P n (at r n)) n estimated
 
   abbrev pub ofAnswer : List Check
   ofAnswer = ofSettings s (intensity (s .shrinkage) P n (at r n)) P n side (at r n) (at estimated n) (at covariances n)
@@ -69,12 +70,12 @@ module _ (r : List Float) (n P : ℕ) where
 
   -- ---- the Bayes-Stein mean
   abbrev pub pullBy : Decomposition → Pull
-  pullBy d = let m = found P n (at r n) in bayesStein n (m .periods) (nth (m .mean)) (Σ n m) (exps P n (at r n)) d
+  pullBy d = let m = found P n (at r n) in bayesSteinPull n (m .periods) (nth (m .mean)) (Σ n m) (exps P n (at r n)) d
 
   abbrev pub bayesBy : List Float → Decomposition → Check → Answered
   bayesBy slice d c =
       let m = found P n (at r n) in
-      settle (first (opening r n P n slice ++ c ∷ whenSome (constantAsset n (Σ n m) (sizeOf P n (at r n))) ZeroVariance ∷ when (not (allFinite n n (C n m))) Singular ∷ when (not (d .found)) Singular ∷ when (singular n d) Singular ∷ [])) slice
+      settle (first (opening r n P n slice ++ (c ∷ byCorrelations n (sizeOf P n (at r n)) (Σ n m) (C n m) ++ byDecomposition n d))) slice
       (answered (Shrunk (pullBy d .intensity) (pullBy d .target) (d .sweeps) (d .rotations)) (fill n (λ i. pulled (pullBy d) (nth (m .mean) i) (exps P n (at r n) i)) slice))
 
   pub bayes-is : (limit : ℕ) (slice : List Float) → bayesSteinMean r n P limit slice ≡ bayesBy slice (taken limit n (found P n (at r n))) (sweepLimit limit)

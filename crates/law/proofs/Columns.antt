@@ -8,11 +8,10 @@ use native.Mathlib.Omega.{arith}
 use mathlib.Core.Bool.{false}
 use lib.Dec.{lit≤}
 use lib.IntN.{ℤ, pos, negℤ, _+ℤ_}
-use lib.ListN.{getD}
 use lib.Pow.{pow-pos}
 use lib.Ieee.{Float, nan, le, eq, ofBits}
 use Rattle.leaves.specs.Numbers.{_⊗_, _⊘_, zero⁺, one, 1e-10}
-use Rattle.leaves.specs.Loops.{tab, nth}
+use Rattle.leaves.specs.Loops.{nth}
 use Rattle.leaves.specs.Root.{sqrt}
 use Rattle.leaves.specs.Scaling.{binaryExponent, pow2Scaled}
 use Rattle.leaves.specs.Shift.{shift}
@@ -26,12 +25,12 @@ use Rattle.leaves.proofs.Range.{Range, range-value, range-size}
 use Rattle.leaves.proofs.Operations.{Moved, still, moved-mul, moved-over}
 use Rattle.leaves.proofs.Signs.{sign-mul, sign-sqrt, sign-not-below}
 use Rattle.leaves.proofs.PowersOfTwo.{shift-null, exponent-shift}
-use Rattle.matrix.specs.Matrix.{Matrix, at, rows}
+use Rattle.matrix.specs.Matrix.{Matrix, at}
 use Rattle.matrix.specs.Jacobi.{Decomposition, decompose}
 use Rattle.matrix.proofs.Stored.{rows-at}
 use Rattle.estimators.specs.Sample.{mean, deviation, gram, covariance, largest, constantAsset, scaled}
 use Rattle.estimators.specs.Moments.{Moments, moments}
-use Rattle.estimators.specs.BayesStein.{correlation, Pull, bayesStein}
+use Rattle.estimators.specs.BayesStein.{Pull, bayesSteinPull, exponentsOf, largestIn, correlations}
 use borrow.Author.Tests.{ne-eqb}
 use Rattle.law.proofs.Numbers.{nth-tab}
 use Rattle.law.proofs.Sizes.{plus-val, le-no}
@@ -45,7 +44,7 @@ use Rattle.law.proofs.Ratio.{product-is, quotient-is}
 
 -- ---- the parts of the call
 abbrev pub exps : ℕ → ℕ → Matrix → ℕ → ℤ
-exps P n x i = getD (tab n (λ i. binaryExponent (largest P x i))) i (pos 0)
+exps P n x = exponentsOf P n x
 
 abbrev pub found : ℕ → ℕ → Matrix → Moments
 found P n x = moments P n (scaled (exps P n x) x)
@@ -54,16 +53,16 @@ abbrev pub Σ : ℕ → Moments → Matrix
 Σ n m = at (m .covariance) n
 
 abbrev pub C : ℕ → Moments → Matrix
-C n m = at (rows n n (correlation (at (m .covariance) n))) n
+C n m = correlations n m
 
 abbrev pub taken : ℕ → ℕ → Moments → Decomposition
 taken limit n m = decompose limit n (C n m)
 
 abbrev pub sizeOf : ℕ → ℕ → Matrix → ℕ → Float
-sizeOf P n x i = pow2Scaled (largest P x i) (negℤ (exps P n x i))
+sizeOf P n x = largestIn (exps P n x) P x
 
 abbrev pub pull : ℕ → ℕ → Moments → (ℕ → ℤ) → Pull
-pull limit n m e = bayesStein n (m .periods) (nth (m .mean)) (Σ n m) e (taken limit n m)
+pull limit n m e = bayesSteinPull n (m .periods) (nth (m .mean)) (Σ n m) e (taken limit n m)
 
 pub exps-at : (P n : ℕ) (x : Matrix) (i : ℕ) → i < n → exps P n x i ≡ binaryExponent (largest P x i)
 exps-at P n x i l = nth-tab n (λ i. binaryExponent (largest P x i)) i (pos 0) l

@@ -20,10 +20,10 @@ use Rattle.leaves.proofs.Arithmetic.{div-alike}
 use Rattle.leaves.proofs.Range.{sized, range-sized, count-pos}
 use Rattle.leaves.proofs.Operations.{Moved, still, moved-weaken, moved-abs, moved-add, moved-sub, moved-mul, moved-over}
 use Rattle.matrix.specs.Limits.{maxSide}
-use Rattle.matrix.specs.Matrix.{Matrix, at, rows, amax, averaged}
+use Rattle.matrix.specs.Matrix.{Matrix, at, amax, averaged}
 use Rattle.matrix.specs.Jacobi.{Decomposition, unturned}
 use Rattle.matrix.proofs.Alike.{first-entry-alike, decompose-alike}
-use Rattle.estimators.specs.Given.{asymmetry, smallest, indefinite, decomposeGiven}
+use Rattle.estimators.specs.Given.{asymmetry, smallest, indefinite, decomposeGiven, averagedOf}
 use Rattle.estimators.specs.Order.{notFinite, sweepLimit, ofGiven}
 use Rattle.estimators.specs.declared.Estimate.the-variants.{Given}
 use Rattle.estimators.specs.declared.Shrinkage.{Shrinkage}
@@ -43,7 +43,7 @@ trillionth-moved = still 1034 1035 (range-sized 982 1035 1e-12 tt)
 
 -- the matrix averaged with its transpose, stored
 abbrev pub average : ℕ → List Float → Matrix
-average side g = at (rows side side (averaged (at g side))) side
+average side g = at (averagedOf g side) side
 
 module _ (k : ℕ) (small : k ≤ 160) (side limit : ℕ) (g : List Float) (sizes : All (Sized 80) g) where
   abbrev g' : List Float

@@ -34,7 +34,7 @@ use Rattle.matrix.proofs.Alike.{decomposedBy, decompose-is}
 use Rattle.matrix.proofs.Turn.{Limit}
 use Rattle.matrix.proofs.Vectors.{Small, vectors-small}
 use Rattle.estimators.specs.Moments.{Moments, moments}
-use Rattle.estimators.specs.BayesStein.{singular, commonExponent, gathered, project, form, bayesStein, pulled}
+use Rattle.estimators.specs.BayesStein.{singular, commonExponent, gathered, project, form, bayesSteinPull, pulled}
 use borrow.Author.Tests.{ne-eqb}
 use Rattle.leaves.proofs.Zero.{not-above}
 use Rattle.leaves.proofs.Laws.{room→fits}
@@ -168,7 +168,7 @@ distance n d P x y b =
 
 pull-is : (limit n : ℕ) (m : Moments) (e : ℕ → ℤ) → let d = taken limit n m in
     (pull limit n m e .intensity ≡ intensityOf n (distance n d (m .periods) (ones n m e) (means n m) (bOf n m))) × (pull limit n m e .target ≡ pow2Scaled (ratio n d (ones n m e) (means n m)) (bOf n m -ℤ aOf n m e))
-unfolding bayesStein
+unfolding bayesSteinPull
 pull-is limit n m e = (refl, refl)
 
 -- the intensity, not below 0 and not above 1

@@ -1,6 +1,17 @@
-// What only looks at a number, and document 01's min, max and clamp.
+// What only looks at a number, document 01's min, max and clamp, and a number from its bits.
 ghost use mathlib.Core.Path.{_≡_};
 ghost use Rattle.leaves.specs.Numbers as Numbers;
+
+// The float with these bits; those of any NaN give a NaN.
+pub fn float(bits: u64) -> f64
+    ensures { λ r. ⌜ r ≡ Numbers.float bits ⌝ }
+{
+    if bits % 0x8000000000000000 > 0x7FF0000000000000 {
+        0.0 / 0.0
+    } else {
+        f64::from_bits(bits)
+    }
+}
 
 pub fn is_finite(x: f64) -> bool
     ensures { λ r. ⌜ r ≡ Numbers.isFinite x ⌝ }

@@ -9,11 +9,12 @@ use lib.ListN.{take, replicate}
 use lib.Dec.{eqb}
 use lib.Ieee.{Float, binary64, ofBits}
 use borrow.Author.Tests.{eq-eqb, ne-eqb}
+use Rattle.leaves.specs.Numbers.{float}
 use Rattle.estimators.specs.Calls.{Answered, adjustedCovariance, exponentiallyWeightedMean, jamesSteinMean, bayesSteinMean}
 use Rattle.estimators.specs.declared.Settings.{Settings}
 use Rattle.paper.specs.declared.rules.Outline.{Outline}
 use Rattle.paper.specs.Rules.{value, assets, periods}
-use Rattle.paper.specs.Marking.{float, settingsOf, limitOf, asked, columns, printed, answerOf}
+use Rattle.paper.specs.Marking.{settingsOf, limitOf, asked, columns, printed, answerOf}
 
 -- ---- the question asked, from what the code holds: n, t and the settings
 

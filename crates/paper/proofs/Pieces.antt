@@ -8,8 +8,8 @@ use native.Mathlib.Omega.{arith}
 use lib.ListN.{length, getD, take, drop, length-map, length-drop, length-append}
 use lib.Seq.{drop-drop, take-nil, length-take-le, take-at, drop-at}
 use lib.Ieee.{Float}
+use Rattle.leaves.specs.Numbers.{float}
 use Rattle.leaves.specs.Loops.{tab, fill}
-use Rattle.paper.specs.Marking.{float}
 use Rattle.paper.specs.Inner.{split, total, FilledWith}
 
 total-suc : (cs : List ℕ) (i : ℕ) → i < length cs → total (take (suc i) cs) ≡ total (take i cs) + getD cs i 0

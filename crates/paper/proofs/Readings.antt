@@ -11,7 +11,7 @@ use Rattle.paper.specs.declared.rules.Outline.{Outline}
 use Rattle.paper.specs.declared.reader.Scanned.{Scanned}
 use Rattle.paper.specs.declared.reader.Parsed.{Parsed}
 use Rattle.paper.specs.Text.{out}
-use Rattle.paper.specs.Grammar.{kinds, sheet}
+use Rattle.paper.specs.Grammar.{maxRecords, kinds, sheet}
 use Rattle.paper.specs.Rules.{outline, wellFormed, Reading, malformed, question, readPaper}
 use Rattle.paper.specs.Answer.{refused, outcomeText}
 use Rattle.paper.specs.Marking.{answerOf, floats, examined, marking}
@@ -36,13 +36,13 @@ module _ (s v v' : List ℕ) (r : Scanned) (x : ScannedIs (sheet kinds s) s v v'
   pub good-no : (r .end ≡ length s → ⊥) → false ≡ good
   good-no n = rw (ne-eqb (length (sheet kinds s .rest)) 0 (λ e. n (omega (arith, left-over, x .within))))
 
-  cut : length v ≡ 1097 → split (r .outline .counts) v' ≡ lists
+  cut : length v ≡ maxRecords → split (r .outline .counts) v' ≡ lists
   unfolding outline
   cut h =
       let room : 0 + length (flat lists) ≤ length v = omega (arith, numbers-fit s) in
       rw (x .outline-is, x .numbers, write-room (flat lists) v 0 room) (split-flat lists (drop (0 + length (flat lists)) v))
 
-  pub read-is : (ok : Bool) → length v ≡ 1097 → 1097 ≡ length v' → ok ≡ good → ReadIs s v v' (record { ok = ok; outline = r .outline })
+  pub read-is : (ok : Bool) → length v ≡ maxRecords → maxRecords ≡ length v' → ok ≡ good → ReadIs s v v' (record { ok = ok; outline = r .outline })
   unfolding reading readPaper
   read-is ok h h' e = record { room = h'; reading-is = rw (cut h, e); outline-is = x .outline-is; numbers = x .numbers }
 
@@ -65,7 +65,7 @@ module _ (s v v' : List ℕ) (r : Parsed) (x : ReadIs s v v' r) where
   abbrev parts : List (List ℕ)
   parts = split (r .outline .counts) v'
 
-  room-is : total (r .outline .counts) ≤ 1097
+  room-is : total (r .outline .counts) ≤ maxRecords
   unfolding outline
   room-is = rw (x .outline-is, total-flat (sheet kinds s .lists)) (numbers-fit s)
 

@@ -11,7 +11,7 @@ use lib.Seq.{take-suc-set, take-all, take-append-seam, drop-append-seam}
 use Rattle.paper.specs.declared.kinds.Kind.{Kind}
 use Rattle.paper.specs.declared.reader.Took.{Took}
 use Rattle.paper.specs.Text.{Out, out, write}
-use Rattle.paper.specs.Grammar.{starts, body, none, more, taken, Sheet, sheet, kinds, missing}
+use Rattle.paper.specs.Grammar.{maxRecords, starts, body, none, more, taken, Sheet, sheet, kinds, missing}
 use Rattle.paper.specs.Rules.{firstOf, outline}
 use Rattle.paper.specs.Inner.{TookIs, ScannedIs, flat, buffer, split}
 use Rattle.paper.proofs.Table.{how-many, some-most, next-kind}
@@ -81,7 +81,7 @@ unfolding sheet flat most-of
 flat-length [] bs = omega arith
 flat-length (k ∷ ks) bs = let t = taken k (k .most) bs in rw length-append (add-le-add (taken-length k (k .most) bs) (flat-length ks (t .rest)))
 
-pub numbers-fit : (s : List ℕ) → length (flat (sheet kinds s .lists)) ≤ 1097
+pub numbers-fit : (s : List ℕ) → length (flat (sheet kinds s .lists)) ≤ maxRecords
 unfolding kinds most-of
 numbers-fit s = flat-length kinds s
 

@@ -15,6 +15,10 @@ maxAssets = 8
 abbrev pub maxPeriods : ℕ
 maxPeriods = 128
 
+-- the most records of a file
+abbrev pub maxRecords : ℕ
+maxRecords = maxPeriods * maxAssets + maxAssets * maxAssets + 9
+
 abbrev pub kind : ℕ → ℕ → ℕ → Kind
 kind b l m = record { byte = b; body = l; most = m }
 

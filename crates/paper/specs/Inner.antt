@@ -9,7 +9,7 @@ use Rattle.paper.specs.declared.reader.Took.{Took}
 use Rattle.paper.specs.declared.reader.Scanned.{Scanned}
 use Rattle.paper.specs.declared.reader.Parsed.{Parsed}
 use Rattle.paper.specs.Text.{Out, out, write, Counts}
-use Rattle.paper.specs.Grammar.{Taken, Sheet, kinds, sheet}
+use Rattle.paper.specs.Grammar.{maxRecords, Taken, Sheet, kinds, sheet}
 use Rattle.paper.specs.Rules.{outline, Reading, malformed, question, readPaper}
 
 -- t was taken of the file s; its bodies went into the numbers v at i, which became v'
@@ -46,7 +46,7 @@ reading r ns = cond (r .ok) (question (split (r .outline .counts) ns)) malformed
 
 -- the file s was read; the numbers v became v'
 pub record ReadIs (s v v' : List ℕ) (r : Parsed) : Type 0 where
-  pub room : 1097 ≡ length v'
+  pub room : maxRecords ≡ length v'
   pub reading-is : reading r v' ≡ readPaper s
   pub outline-is : r .outline ≡ outline (sheet kinds s .lists)
   pub numbers : v' ≡ buffer (write (out v 0) (flat (sheet kinds s .lists)))

@@ -4,8 +4,8 @@ use mathlib.Core.Bool.{true, false, cond}
 use mathlib.Core.List.{List, [], map}
 use lib.ListN.{getD, replicate}
 use lib.Dec.{eqb}
-use lib.Ieee.{Float, binary64, ofBits}
-use Rattle.leaves.specs.Numbers.{zero⁺}
+use lib.Ieee.{Float}
+use Rattle.leaves.specs.Numbers.{zero⁺, float}
 use Rattle.estimators.specs.Calls.{Answered, adjustedCovariance, exponentiallyWeightedMean, jamesSteinMean, bayesSteinMean}
 use Rattle.estimators.specs.declared.Estimate.{Estimate}
 use Rattle.estimators.specs.declared.Estimate.the-variants.{Sample, Given, Weighted, Semi, SemiBelow}
@@ -20,9 +20,6 @@ use Rattle.paper.specs.declared.rules.Outline.{Outline}
 use Rattle.paper.specs.Grammar.{kinds, placeIn}
 use Rattle.paper.specs.Rules.{outline, has, value, assets, periods, Reading, malformed, question, readPaper}
 use Rattle.paper.specs.Answer.{Outcome, refused, outcome, outcomeText}
-
-abbrev pub float : ℕ → Float
-float bits = ofBits binary64 bits
 
 -- ---- the settings record
 

@@ -3,7 +3,6 @@ ghost use mathlib.Core.Path.{_≡_};
 ghost use mathlib.Core.List.{[], _∷_, _++_};
 ghost use lib.ListN.{length};
 ghost use lib.Ieee.{binary64, toBits};
-ghost use Rattle.estimators.specs.Refusals as Refusals;
 ghost use Rattle.paper.specs.Text.{out as into, write};
 ghost use Rattle.paper.specs.Answer as Answers;
 use crate::screen::put_screen;
@@ -12,7 +11,7 @@ use crate::text::put_decimal;
 use crate::text::put_digits;
 use crate::text::put_text;
 use estimators::Answer;
-use estimators::Refusal;
+use estimators::refusals::number;
 
 // The bits of x, those of one NaN for every NaN.
 fn bits(x: f64) -> u64
@@ -73,27 +72,6 @@ fn put_ok(rows: usize, columns: usize, xs: &[f64], out: &mut [u8], at: usize) ->
     put_lines(columns, xs, out, c)
 }
 
-fn number(r: Refusal) -> u64
-    ensures { λ k. ⌜ k ≡ Refusals.number r ⌝ }
-{
-    match r {
-        Refusal::NoAssets => 1,
-        Refusal::TooLarge => 2,
-        Refusal::TooFewPeriods(_) => 3,
-        Refusal::WrongLength => 4,
-        Refusal::NotFinite(_, _) => 5,
-        Refusal::CovarianceNotFinite => 6,
-        Refusal::BadSetting(_) => 7,
-        Refusal::NotTheSample => 8,
-        Refusal::ZeroVariance(_) => 9,
-        Refusal::WrongSide(_) => 10,
-        Refusal::Asymmetric(_, _) => 11,
-        Refusal::Indefinite(_) => 12,
-        Refusal::NotDecomposed => 13,
-        Refusal::Singular => 14,
-    }
-}
-
 // The engine's answer, with the answer slice.
 pub fn put_answer(
     answer: Answer,
@@ -107,7 +85,7 @@ pub fn put_answer(
     ensures { λ r. ⌜ into (now (out .exit)) r ≡ write (into (now (out .entry)) at) (Answers.outcomeText (Answers.outcome rows columns answer (now (xs .entry)))) ⌝ }
 {
     match answer {
-        Answer::Refused(r) => put_refused(number(r), out, at),
+        Answer::Refused(r) => put_refused(number(r) as u64, out, at),
         _ => put_ok(rows, columns, xs, out, at),
     }
 }

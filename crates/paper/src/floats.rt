@@ -2,28 +2,19 @@
 ghost use mathlib.Core.Path.{_≡_};
 ghost use Prim.Native.Nat.{ℕ, _≤_, _<_};
 ghost use lib.ListN.{length, getD, take};
+ghost use Rattle.leaves.specs.Numbers as Numbers;
 ghost use Rattle.leaves.specs.Loops.{fill};
 ghost use Rattle.paper.specs.Grammar.{kinds, placeIn};
 ghost use Rattle.paper.specs.Marking as Marking;
 ghost use Rattle.paper.specs.Inner.{split, total, FilledWith};
 use crate::kinds::KINDS;
 use crate::kinds::place;
-
-// A float from its bits, also those of any NaN.
-pub fn float(bits: u64) -> f64
-    ensures { λ r. ⌜ r ≡ Marking.float bits ⌝ }
-{
-    if bits % 0x8000000000000000 > 0x7FF0000000000000 {
-        0.0 / 0.0
-    } else {
-        f64::from_bits(bits)
-    }
-}
+use leaves::numbers::float;
 
 // Fills the front of `to` with the floats of these bits.
 fn fill_floats(bits: &[u64], to: &mut [f64])
     requires { ⌜ length (now bits) ≤ length (now to) ⌝ }
-    ensures { λ _. ⌜ now (to .exit) ≡ fill (length (now (bits .entry))) (λ (i : ℕ). Marking.float (getD (now (bits .entry)) i 0)) (now (to .entry)) ⌝ }
+    ensures { λ _. ⌜ now (to .exit) ≡ fill (length (now (bits .entry))) (λ (i : ℕ). Numbers.float (getD (now (bits .entry)) i 0)) (now (to .entry)) ⌝ }
 {
     let mut i = 0;
     while i < bits.len() {

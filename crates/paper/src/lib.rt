@@ -17,8 +17,11 @@ use crate::kinds::RECORDS;
 use crate::marking::examine;
 use crate::reader::read;
 
+// Bytes that are always enough for what is printed.
+pub const TEXT: usize = 8192;
+
 // Marks a question file: writes what is printed of it to the front of `out`, and answers how many bytes that is.
-// An `out` that is too short takes the text's beginning; 8,192 bytes are always enough.
+// An `out` that is too short takes the text's beginning.
 pub fn mark(paper: &[u8], out: &mut [u8]) -> usize
     ensures { λ r. ⌜ into (now (out .exit)) r ≡ write (into (now (out .entry)) 0) (marking (now (paper .entry))) ⌝ }
     ensures { λ r. ⌜ Counts r (now (out .exit)) ⌝ }

@@ -1,8 +1,8 @@
 // The engine's settings, from what was read.
 ghost use mathlib.Core.Path.{_≡_};
+ghost use Rattle.leaves.specs.Numbers as Numbers;
 ghost use Rattle.paper.specs.Rules as Rules;
 ghost use Rattle.paper.specs.Marking as Marking;
-use crate::floats::float;
 use crate::rules::Outline;
 use crate::rules::has;
 use crate::rules::value;
@@ -11,10 +11,11 @@ use estimators::Regularization;
 use estimators::Settings;
 use estimators::Shrinkage;
 use estimators::Target;
+use leaves::numbers::float;
 
 // The number of a kind.
 pub fn number_of(o: Outline, kind: u8) -> f64
-    ensures { λ r. ⌜ r ≡ Marking.float (Rules.value o kind) ⌝ }
+    ensures { λ r. ⌜ r ≡ Numbers.float (Rules.value o kind) ⌝ }
 {
     float(value(o, kind))
 }

@@ -13,14 +13,8 @@ fn word() -> u64 {
     low | high << 32
 }
 
-// The bits of any NaN give a NaN.
 pub(crate) fn float() -> f64 {
-    let bits = word();
-    if bits % 0x8000000000000000 > 0x7FF0000000000000 {
-        0.0 / 0.0
-    } else {
-        f64::from_bits(bits)
-    }
+    leaves::numbers::float(word())
 }
 
 pub(crate) fn whole() -> usize {

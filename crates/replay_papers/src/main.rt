@@ -9,7 +9,7 @@ fn wide(b: u8) -> usize
 }
 
 fn mark(paper: &[u8]) {
-    let mut text = [0u8; 8192];
+    let mut text = [0u8; paper::TEXT];
     let k = paper::mark(paper, &mut text);
     io::write_all(1, &text[..k]);
 }

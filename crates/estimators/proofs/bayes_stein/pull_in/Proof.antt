@@ -1,4 +1,4 @@
--- `estimators::bayes_stein::pull_in` meets its contract: the steps of `bayesStein`, one after the other.
+-- `estimators::bayes_stein::pull_in` meets its contract: the steps of `bayesSteinPull`, one after the other.
 use mathlib.Core.Path.{_≡_, refl, ap, _∙_}
 use mathlib.Core.List.{List}
 use Prim.Native.Nat.{ℕ, _<_}
@@ -12,9 +12,9 @@ use Rattle.leaves.specs.Loops.{tab, nth}
 use Rattle.leaves.specs.Root.{sqrt}
 use Rattle.matrix.specs.Matrix.{Matrix}
 use Rattle.matrix.specs.Jacobi.{Decomposition}
-use Rattle.estimators.specs.BayesStein.{Pull, bayesStein}
+use Rattle.estimators.specs.BayesStein.{Pull, bayesSteinPull, ratioOf, distanceOf, pulledBy}
 use Rattle.estimators.specs.Gather.{Gathered}
-use Rattle.estimators.specs.Stein.{pullOf, ratioOf, distanceOf, pulledBy}
+use Rattle.estimators.specs.Stein.{pullOf}
 use Rattle.estimators.proofs.Stored.{tab-nth}
 use Rattle.estimators.proofs.Exponents.{read}
 use Rattle.estimators.proofs.Gathered.{gathered-as}
@@ -23,8 +23,8 @@ use Rattle.estimators.proofs.bayes_stein.pull_in.Tie as tie
 
 steps : (n : ℕ) (T : Float) (μ : ℕ → Float) (Σ : Matrix) (e : ℕ → ℤ) (d : Decomposition) (a b : ℤ) (ones scaled : List Float) (r s : Float) (w : Pull)
     → Gathered n (λ i. one ⊘ sqrt (Σ i i)) (λ i. negℤ (e i)) a ones → Gathered n (λ i. μ i ⊘ sqrt (Σ i i)) (λ i. pos 0) b scaled
-    → r ≡ ratioOf n d ones scaled → s ≡ distanceOf n d ones scaled r → w ≡ pulledBy n T r s a b → w ≡ bayesStein n T μ Σ e d
-unfolding bayesStein
+    → r ≡ ratioOf n d ones scaled → s ≡ distanceOf n d ones scaled r → w ≡ pulledBy n T r s a b → w ≡ bayesSteinPull n T μ Σ e d
+unfolding bayesSteinPull
 steps n T μ Σ e d a b ones scaled r s w A B is-r is-s is-w = rw (is-w, is-s, is-r, A .numbers, B .numbers, A .power, B .power)
 
 gather-ones-requires : tie.Need-gather-ones-requires

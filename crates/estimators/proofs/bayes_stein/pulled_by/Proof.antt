@@ -7,7 +7,8 @@ use lib.Ieee.{Float, ofBits}
 use borrow.Author.Needs.{needs}
 use Rattle.leaves.specs.Numbers.{_⊕_, _⊗_, _⊘_, count, two, max0}
 use Rattle.leaves.specs.Scaling.{pow2Scaled}
-use Rattle.estimators.specs.Stein.{pullOf, pulledBy}
+use Rattle.estimators.specs.Stein.{pullOf}
+use Rattle.estimators.specs.BayesStein.{pulledBy}
 use Rattle.estimators.proofs.Exponents.{plus-fits, plus-read, minus-fits, minus-read}
 use Rattle.estimators.proofs.bayes_stein.pulled_by.Statement.{statement}
 use Rattle.estimators.proofs.bayes_stein.pulled_by.Tie as tie

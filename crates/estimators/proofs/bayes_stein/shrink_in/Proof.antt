@@ -13,11 +13,12 @@ use Rattle.matrix.specs.Jacobi.{Decomposition, decompose}
 use Rattle.estimators.specs.Refusals as Refusals
 use Rattle.estimators.specs.Refusals.{first}
 use Rattle.estimators.specs.LedoitWolf.{deviationOf}
-use Rattle.estimators.specs.BayesStein.{correlation, Pull, bayesStein, pulled}
+use Rattle.estimators.specs.BayesStein.{correlation, Pull, bayesSteinPull, pulled}
 use Rattle.estimators.specs.Checks.{checked}
 use Rattle.estimators.specs.Held.{momentsOf}
 use Rattle.estimators.specs.Calls.{Answered, answered, settle}
-use Rattle.estimators.specs.Stein.{pullOf, Pulls, byCorrelations, byDecomposition, bayesSteinOf}
+use Rattle.estimators.specs.Stein.{pullOf, Pulls, bayesSteinOf}
+use Rattle.estimators.specs.Order.{byCorrelations, byDecomposition}
 use Rattle.estimators.specs.declared.Refusal.{Refusal}
 use Rattle.estimators.specs.declared.Answer.the-variants.{Refused, Shrunk}
 use Rattle.estimators.specs.declared.checks.Check.{Check}
@@ -36,7 +37,7 @@ module _ (n limit : ℕ) (μ Σ : List Float) (T : Float) (es : List ℤ) (size 
   outcome w sweeps rotations = answered (Shrunk (w .intensity) (w .target) sweeps rotations) (tab n (λ i. pulled w (nth μ i) (e i)))
 
   abbrev accepts : List Float → Answered
-  accepts C = let d = decompose limit n (at C n) in outcome (bayesStein n T (nth μ) (at Σ n) e d) (d .sweeps) (d .rotations)
+  accepts C = let d = decompose limit n (at C n) in outcome (bayesSteinPull n T (nth μ) (at Σ n) e d) (d .sweeps) (d .rotations)
 
   abbrev checks : List Float → List Refusals.Check
   checks C = byCorrelations n size (at Σ n) (at C n) ++ byDecomposition n (decompose limit n (at C n))

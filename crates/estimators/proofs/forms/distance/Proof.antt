@@ -9,8 +9,7 @@ use Rattle.leaves.specs.Numbers.{_⊖_, _⊗_}
 use Rattle.leaves.specs.Loops.{sumTo, tab, nth}
 use Rattle.matrix.specs.Matrix.{at}
 use Rattle.matrix.specs.Jacobi.{Decomposition}
-use Rattle.estimators.specs.BayesStein.{project, form}
-use Rattle.estimators.specs.Stein.{distanceOf}
+use Rattle.estimators.specs.BayesStein.{project, form, distanceOf}
 use Rattle.leaves.proofs.Loops.{tab-ext, sum-ext}
 use Rattle.estimators.proofs.Stored.{tab-nth}
 use Rattle.estimators.proofs.forms.distance.Statement.{statement}

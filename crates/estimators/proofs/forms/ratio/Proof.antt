@@ -7,8 +7,7 @@ use borrow.Author.Needs.{needs}
 use Rattle.leaves.specs.Numbers.{_⊘_}
 use Rattle.leaves.specs.Loops.{nth}
 use Rattle.matrix.specs.Jacobi.{Decomposition}
-use Rattle.estimators.specs.BayesStein.{project, form}
-use Rattle.estimators.specs.Stein.{ratioOf}
+use Rattle.estimators.specs.BayesStein.{project, form, ratioOf}
 use Rattle.estimators.proofs.forms.ratio.Statement.{statement}
 use Rattle.estimators.proofs.forms.ratio.Tie as tie
 

@@ -12,8 +12,8 @@ use mir.Val.{toZ, ofZ}
 use borrow.Author.Needs.{needs}
 use Rattle.leaves.specs.Loops.{loop, nth}
 use Rattle.leaves.proofs.Loops.{loop-start, loop-turn, loop-end}
-use Rattle.estimators.specs.BayesStein.{orZero, commonExponent}
-use Rattle.estimators.specs.Gather.{largestOf, withExponent, Exponents, Summed, twoExponents}
+use Rattle.estimators.specs.BayesStein.{orZero, commonExponent, withExponent}
+use Rattle.estimators.specs.Gather.{largestOf, Exponents, Summed, twoExponents}
 use Rattle.estimators.proofs.Exponents.{read}
 use Rattle.estimators.proofs.gather.common_exponent.Statement.{statement}
 use Rattle.estimators.proofs.gather.common_exponent.Tie as tie

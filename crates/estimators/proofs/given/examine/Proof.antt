@@ -9,7 +9,8 @@ use Rattle.matrix.specs.Matrix.{Matrix, at, rows, amax, averaged}
 use Rattle.matrix.specs.Jacobi.{Decomposition}
 use Rattle.estimators.specs.Refusals.{when, first}
 use Rattle.estimators.specs.Given.{smallest, indefinite, decomposeGiven}
-use Rattle.estimators.specs.Checks.{checked, byEntries, byValues, byNumbers, examined, judged}
+use Rattle.estimators.specs.Checks.{checked, examined, judged}
+use Rattle.estimators.specs.Order.{byEntries, byValues, byNumbers}
 use Rattle.estimators.specs.declared.Refusal.{Refusal}
 use Rattle.estimators.specs.declared.Refusal.the-variants.{Indefinite, NotDecomposed}
 use Rattle.estimators.specs.declared.checks.Check.{Check}

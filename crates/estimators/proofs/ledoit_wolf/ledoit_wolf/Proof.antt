@@ -12,9 +12,9 @@ use Rattle.leaves.specs.Scaling.{binaryExponent}
 use Rattle.leaves.proofs.Loops.{length-tab}
 use Rattle.matrix.specs.Matrix.{at, amax}
 use Rattle.estimators.specs.Sample.{mean, deviation}
-use Rattle.estimators.specs.LedoitWolf.{intensityOf, ledoitWolf}
+use Rattle.estimators.specs.LedoitWolf.{intensityOf, ledoitWolf, secondMoments}
 use Rattle.estimators.specs.Powers.{Factored}
-use Rattle.estimators.specs.Rows.{centered, secondMoments}
+use Rattle.estimators.specs.Rows.{centered}
 use Rattle.estimators.specs.declared.Target.{Target}
 use Rattle.estimators.specs.declared.rows.Row.the-variants.{Scaled}
 use Rattle.estimators.proofs.Exponents.{size-neg, neg-fits, neg-read}

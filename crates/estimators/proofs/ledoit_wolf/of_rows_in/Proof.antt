@@ -4,8 +4,8 @@ use mathlib.Core.List.{List}
 use Prim.Native.Nat.{ℕ}
 use lib.Ieee.{Float}
 use Rattle.matrix.specs.Matrix.{Matrix, at}
-use Rattle.estimators.specs.LedoitWolf.{intensityOf}
-use Rattle.estimators.specs.Rows.{centered, secondMoments}
+use Rattle.estimators.specs.LedoitWolf.{intensityOf, secondMoments}
+use Rattle.estimators.specs.Rows.{centered}
 use Rattle.estimators.specs.declared.Target.{Target}
 use borrow.Author.Needs.{needs}
 use Rattle.estimators.proofs.ledoit_wolf.of_rows_in.Statement.{statement}

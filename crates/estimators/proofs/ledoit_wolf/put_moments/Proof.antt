@@ -9,7 +9,8 @@ use Rattle.leaves.specs.Loops.{tab, nth}
 use Rattle.matrix.specs.Matrix.{Matrix, rows}
 use Rattle.matrix.proofs.Stored.{length-rows}
 use Rattle.estimators.specs.Sample.{gram}
-use Rattle.estimators.specs.Rows.{centered, secondMoments, Symmetric}
+use Rattle.estimators.specs.Rows.{centered, Symmetric}
+use Rattle.estimators.specs.LedoitWolf.{secondMoments}
 use Rattle.estimators.proofs.Halves.{rows-over}
 use Rattle.estimators.proofs.Centered.{moments-symmetric}
 use borrow.Author.Needs.{needs}

@@ -22,6 +22,9 @@ enum-known-answer c = search needs
 number-requires : tie.Need-number-requires
 number-requires c κs = search needs
 
+cast-put-refused : tie.Need-cast-put-refused
+cast-put-refused c = search needs
+
 put-refused-requires : tie.Need-put-refused-requires
 put-refused-requires c κs = search needs
 
@@ -53,4 +56,4 @@ returns-2 : tie.Need-returns-2
 returns-2 c = c .before .before .put-ok .ensures ∙ ap (write _) (ap outcomeText (accepted _ _ _ _ (c .before .before .before .before .match .keys2)))
 
 pub put-answer-spec : {M : Type 1} → statement M
-put-answer-spec = tie.close (tie.spec enum-known-answer number-requires put-refused-requires put-ok-requires same-length returns same-length-2 returns-2)
+put-answer-spec = tie.close (tie.spec enum-known-answer number-requires cast-put-refused put-refused-requires put-ok-requires same-length returns same-length-2 returns-2)

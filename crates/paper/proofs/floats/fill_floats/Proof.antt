@@ -3,8 +3,8 @@ use Prim.Native.Nat.{ℕ, _-_}
 use native.Mathlib.Omega.{arith}
 use lib.ListN.{length, getD}
 use borrow.Author.Needs.{needs}
+use Rattle.leaves.specs.Numbers.{float}
 use Rattle.leaves.proofs.Loops.{Filled, filled-none, filled-more, filled-all}
-use Rattle.paper.specs.Marking.{float}
 use Rattle.paper.proofs.floats.fill_floats.Statement.{statement}
 use Rattle.paper.proofs.floats.fill_floats.Tie as tie
 

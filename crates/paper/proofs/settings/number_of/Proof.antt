@@ -1,7 +1,7 @@
 -- `paper::settings::number_of` meets its contract, call after call.
 use mathlib.Core.Path.{_≡_, ap, _∙_}
 use borrow.Author.Needs.{needs}
-use Rattle.paper.specs.Marking.{float}
+use Rattle.leaves.specs.Numbers.{float}
 use Rattle.paper.proofs.settings.number_of.Statement.{statement}
 use Rattle.paper.proofs.settings.number_of.Tie as tie
 

@@ -1,14 +1,14 @@
--- `paper::floats::float` meets its contract: the patterns above an infinity's are those of NaN.
+-- `leaves::numbers::float` meets its contract: the patterns above an infinity's are those of NaN.
 use mathlib.Core.Path.{_≡_, refl, sym, _∙_, subst}
-use mathlib.Core.Bool.{true, not}
-use Prim.Native.Nat.{ℕ, _%_, _≤_, _<_}
+use mathlib.Core.Bool.{true}
+use Prim.Native.Nat.{ℕ, _%_, _<_}
 use lib.Dec.{T}
-use lib.Ieee.{Float, nan, inf, fin, binary64, div, ofBits, nanBits, isNan}
+use lib.Ieee.{Float, nan, inf, fin, binary64, div, ofBits, isNan}
 use lib.Ieee.Bits.{nanBits-is, nanBits-above}
 use borrow.Author.Tests.{lt-ltb, le-ltb}
 use borrow.Author.Needs.{needs}
-use Rattle.paper.proofs.floats.float.Statement.{statement}
-use Rattle.paper.proofs.floats.float.Tie as tie
+use Rattle.leaves.proofs.numbers.float.Statement.{statement}
+use Rattle.leaves.proofs.numbers.float.Tie as tie
 
 nan-pattern : (n : ℕ) → 0x7FF0_0000_0000_0000 < n % 0x8000_0000_0000_0000 → nan ≡ ofBits binary64 n
 unfolding isNan
