@@ -16,6 +16,7 @@ use Rattle.leaves.specs.Numbers.{_⊗_, zero⁺, one, 1e-10, isFinite, clamp01}
 use Rattle.leaves.specs.Loops.{fill, nth}
 use Rattle.leaves.specs.Root.{sqrt}
 use Rattle.leaves.specs.Shift.{shift}
+use Rattle.leaves.proofs.Loops.{first-all}
 use Rattle.leaves.proofs.Shift.{isFinite-shift, eq-shift, shift-zero⁺}
 use Rattle.leaves.proofs.Units.{sign}
 use Rattle.leaves.proofs.Range.{range-zero}
@@ -24,7 +25,8 @@ use Rattle.leaves.proofs.Signs.{sign-not-below}
 use Rattle.leaves.proofs.SqrtNearest.{moved-sqrt}
 use Rattle.matrix.specs.Matrix.{Matrix, at, rows, trace, allFinite}
 use Rattle.matrix.specs.Jacobi.{Decomposition}
-use Rattle.matrix.proofs.Stored.{entry-at, rows-at}
+use Rattle.matrix.proofs.Stored.{entry-at, rows-at, by-cell}
+use Rattle.matrix.proofs.Alike.{finite-same, finite-all}
 use Rattle.estimators.specs.Refusals.{Check, passes, when, first}
 use Rattle.estimators.specs.Sample.{covariance, largest, constantAsset}
 use Rattle.estimators.specs.LedoitWolf.{constantCorrelation, intensityOf, ledoitWolf}
@@ -48,8 +50,8 @@ use Rattle.law.proofs.Numbers.{times-itself, means-alike}
 use Rattle.law.proofs.Chain.{Chain, ends, pass-must, pass-some, chain-same, chain-test, chain-must, chain-map, chain-append, chained, parts, settled}
 use Rattle.law.proofs.Sizes.{le-not-lt}
 use Rattle.law.proofs.Sample.{tolerance-moved}
-use Rattle.law.proofs.Matrices.{by-cell, first-nothing, finite-entry, trace-moved, rows-moved}
-use Rattle.law.proofs.Opening.{Shape, returns, sample-moved, finite-same, opening-chain}
+use Rattle.law.proofs.Matrices.{trace-moved, rows-moved}
+use Rattle.law.proofs.Opening.{Shape, returns, sample-moved, opening-chain}
 use Rattle.law.proofs.LedoitWolf.{ledoitWolf-same, correlation-same}
 use Rattle.law.proofs.Correlation.{sign-variance, sign-largest, above-zero, target-moved}
 use Rattle.law.proofs.Settings.{sets}
@@ -141,7 +143,7 @@ module _ (k : ℕ) (small : k ≤ 80) (r : List Float) (sizes : All (Sized 40) r
         target-moved k n small (s .assets) (s .few) b b' moved plus
         (λ i l. above-zero (b i i) (largest P x i) (moved-sqrt (moved i i l l) (sign-not-below (b i i) (plus i l)) 860 1133 (lit≤ tt) (lit≤ tt) .range)
         (tolerance-moved (returns k small r sizes n P s) (lit≤ tt) (lit≤ tt) (omega arith) i l .range) (plus i l) (sign-largest P x i)
-        (ap (λ (v : Float). le (sqrt v) (1e-10 ⊗ largest P x i)) (is i i l l) ∙ first-nothing n (λ i. le (sqrt (covariance P x i i)) (1e-10 ⊗ largest P x i)) nothing i l))
+        (ap (λ (v : Float). le (sqrt v) (1e-10 ⊗ largest P x i)) (is i i l l) ∙ first-all (λ i. le (sqrt (covariance P x i i)) (1e-10 ⊗ largest P x i)) n nothing i l))
 
     shrunk-moved : (S : Shrinkage) → Shrinking.Intensity δ → notTheSample S E ≡ passes → noCorrelation S P n (at r n) ≡ passes → (i j : ℕ) → i < n → j < n → Shrunken (k + k) (shrunk S δ n b i j) (shrunk S δ n b' i j)
     unfolding shrunk notTheSample noCorrelation
@@ -195,7 +197,7 @@ module _ (k : ℕ) (small : k ≤ 80) (r : List Float) (sizes : All (Sized 40) r
       let f : (i j : ℕ) → i < n → j < n → a i j ≡ nan = λ i j l m. rows-at (regularized H (shrunk S δ n b)) n n i j l m ∙ h .nans (shrunk S δ n b) i j (void b i j) .0 in
       let f' : (i j : ℕ) → i < n → j < n → a' i j ≡ nan = λ i j l m. rows-at (regularized H' (shrunk S δ n b')) n n i j l m ∙ h .nans (shrunk S δ n b') i j (void b' i j) .1 in
       chain-must (allFinite n n a) CovarianceNotFinite (finite-same n n a' a (λ i j l m. ap isFinite (f' i j l m ∙ sym (f i j l m)))) (λ e₈.
-      not-finite-nan (sym (ap isFinite (f 0 0 (s .assets) (s .assets))) ∙ finite-entry n n a e₈ 0 0 (s .assets) (s .assets)))
+      not-finite-nan (sym (ap isFinite (f 0 0 (s .assets) (s .assets))) ∙ finite-all n n a e₈ 0 0 (s .assets) (s .assets)))
 
   pub settings-chain : Chain Done (ofSettings (sets E S H limit) δ P n side x b a) (ofSettings (sets E' S H' limit) δ P n side y b' a')
   unfolding ofSettings

@@ -12,6 +12,7 @@ use Rattle.leaves.specs.Numbers.{_⊗_, 1e-10}
 use Rattle.leaves.specs.Loops.{fill, nth}
 use Rattle.leaves.specs.Root.{sqrt}
 use Rattle.leaves.specs.Shift.{shift}
+use Rattle.leaves.proofs.Loops.{first-all}
 use Rattle.leaves.proofs.Whole.{over}
 use Rattle.matrix.specs.Limits.{maxSweeps}
 use Rattle.matrix.specs.Matrix.{at, allFinite}
@@ -28,7 +29,6 @@ use borrow.Author.Tests.{ltb-false}
 use Rattle.law.specs.Law.{All, Sized, AtLeast, Alike, ask}
 use Rattle.law.specs.Law as Law
 use Rattle.law.proofs.Chain.{Chain, ends, chain-same, chain-test, chain-must, chain-some, chained, parts, settled}
-use Rattle.law.proofs.Matrices.{first-nothing}
 use Rattle.law.proofs.Moments.{large, Copied, shrunk-alike}
 use Rattle.law.proofs.Opening.{Shape, returns, opening-chain}
 use Rattle.law.proofs.Columns.{C, column, constant-same, exps, exps-at, found, found-same, pull, sizeOf, taken, Σ}
@@ -72,7 +72,7 @@ module _ (k : ℕ) (small : k ≤ 80) (r : List Float) (sizes : All (Sized 40) r
             s,
             record {
               limited = unfold sweepLimit in limits e₁;
-              above = unfold constantAsset in first-nothing n (λ i. le (sqrt (Σ n m i i)) (1e-10 ⊗ sizeOf P n (at r n) i)) e₂;
+              above = unfold constantAsset in first-all (λ i. le (sqrt (Σ n m i i)) (1e-10 ⊗ sizeOf P n (at r n) i)) n e₂;
               regular = e₅;
             },
           )))))))

@@ -15,7 +15,7 @@ use Rattle.leaves.specs.Loops.{nth}
 use Rattle.leaves.specs.Root.{sqrt}
 use Rattle.leaves.specs.Scaling.{binaryExponent, pow2Scaled}
 use Rattle.leaves.specs.Shift.{shift}
-use Rattle.leaves.proofs.Loops.{first-ext}
+use Rattle.leaves.proofs.Loops.{first-ext, nth-tab}
 use Rattle.leaves.proofs.Whole.{over, under, plus}
 use Rattle.leaves.proofs.SqrtLaws.{sqrt-shift}
 use Rattle.leaves.proofs.SqrtNearest.{moved-sqrt}
@@ -32,7 +32,6 @@ use Rattle.estimators.specs.Sample.{mean, deviation, gram, covariance, largest,
 use Rattle.estimators.specs.Moments.{Moments, moments}
 use Rattle.estimators.specs.BayesStein.{Pull, bayesSteinPull, exponentsOf, largestIn, correlations}
 use borrow.Author.Tests.{ne-eqb}
-use Rattle.law.proofs.Numbers.{nth-tab}
 use Rattle.law.proofs.Sizes.{plus-val, le-no}
 use Rattle.law.proofs.Sample.{Returns, entries-as, mean-moved, covariance-moved, largest-moved, largest-above, tenth-moved, tenth-above}
 use Rattle.law.proofs.Scaled.{Scaling, scaling, scaled-least, exponent-within, exponent-null}
@@ -115,9 +114,6 @@ module _ {k n P : ℕ} {x y : Matrix} (small : k ≤ 80) (r : Returns k n P 982 
 
   variance-plus : (i : ℕ) → i < n → sign (Σ n (found P n x) i i) ≡ false
   variance-plus i a = ap sign (variance-is i a) ∙ sign-variance P u i
-
-  abbrev v : ℕ → Float
-  v i = sqrt (Σ n m i i)
 
   v-range : (i : ℕ) → i < n → Range 820 (2 ^ 872) (2 ^ 1094) (sqrt (Σ n (found P n x) i i))
   v-range i a = moved-sqrt {k = 0} (still 670 1114 (variance-range i a)) (sign-not-below (Σ n m i i) (variance-plus i a)) 820 1094 (lit≤ tt) (lit≤ tt) .range

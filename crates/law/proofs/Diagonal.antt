@@ -22,10 +22,9 @@ use Rattle.leaves.proofs.Totals.{amax-one}
 use Rattle.leaves.proofs.Units.{sign, mag, eq-zero}
 use Rattle.matrix.specs.Matrix.{Matrix, at, rows, identity, amax, averaged, sumOver, squares, firstEntry, allFinite}
 use Rattle.matrix.specs.Jacobi.{Decomposition, Test, fails, converged, goesOn, offDiagonal, test, start, decompose, unturned}
-use Rattle.matrix.proofs.First.{finite-all}
 use Rattle.matrix.proofs.Stored.{rows-at}
 use Rattle.matrix.proofs.Identity.{Finite, scaledEntry, start-is, quotients-finite}
-use Rattle.matrix.proofs.Alike.{decompose-is}
+use Rattle.matrix.proofs.Alike.{decompose-is, finite-all}
 use Rattle.estimators.specs.Given.{decomposeGiven}
 use Rattle.law.proofs.Sizes.{number}
 use Rattle.law.proofs.Counts.{begins, found-at-once}

@@ -17,6 +17,7 @@ use Rattle.leaves.specs.Numbers.{_⊕_, _⊖_, _⊗_, _⊘_, zero⁺, one, two,
 use Rattle.leaves.specs.Loops.{loop, maxTo, fill, nth}
 use Rattle.leaves.specs.Scaling.{pow2, times, binaryExponent, pow2Scaled}
 use Rattle.leaves.specs.Shift.{shift}
+use Rattle.leaves.proofs.Loops.{nth-tab}
 use Rattle.leaves.proofs.Units.{U, Val, sign, mag, val-mag, mag-val}
 use Rattle.leaves.proofs.Shift.{shift-nan}
 use Rattle.leaves.proofs.Range.{Range, range-zero, range-size, count-pos}
@@ -34,7 +35,6 @@ use Rattle.estimators.specs.declared.Refusal.the-variants.{Singular}
 use Rattle.estimators.specs.declared.Answer.the-variants.{Shrunk}
 use Rattle.law.specs.Law.{All, Sized, AtLeast, Alike, ask}
 use Rattle.law.specs.Law as Law
-use Rattle.law.proofs.Numbers.{nth-tab}
 use Rattle.law.proofs.Chain.{Chain, ends, chain-same, chain-must, chained, parts, settled}
 use Rattle.law.proofs.Sizes.{at-least, lt-no}
 use Rattle.law.proofs.Sample.{Returns, entries-as, count-moved, mean-moved}

@@ -1,53 +1,22 @@
 -- Matrices and their copies, entry by entry 2 ^ k times as large: their largest size, trace and sums of chosen entries, and the stored ones. Assumes nothing.
-use mathlib.Core.Path.{_≡_, refl, sym, ap, _∙_, subst, subst₂}
-use mathlib.Core.Logic.{_⊎_, inl, inr}
-use Prim.Native.Nat.{ℕ, zero, suc, _+_, _*_, _/_, _%_, _^_, _≤_, _<_}
-use native.Mathlib.Nat.{div-lt-iff-lt-mul, mod-lt, not-suc-le-zero, le-of-suc-le-suc, eq-or-lt-of-le}
+use mathlib.Core.Path.{sym, subst₂}
+use Prim.Native.Nat.{ℕ, _+_, _*_, _/_, _%_, _≤_, _<_}
 use native.Mathlib.Omega.{arith}
-use mathlib.Core.Bool.{Bool, true, false, not, cond}
-use mathlib.Core.Option.{Option, none, some}
-use lib.Dec.{T}
-use lib.IntN.{pos}
+use mathlib.Core.Bool.{Bool, true, false}
 use lib.Ieee.{Float}
-use Rattle.leaves.specs.Numbers.{_⊕_, zero⁺, isFinite}
-use Rattle.leaves.specs.Loops.{loop, amaxTo, firstTo}
-use Rattle.leaves.specs.Shift.{shift}
-use Rattle.leaves.proofs.Loops.{cell, cell-row, cell-col, amax-ext}
+use Rattle.leaves.specs.Numbers.{_⊕_, zero⁺}
+use Rattle.leaves.specs.Loops.{loop, amaxTo}
+use Rattle.leaves.proofs.Loops.{cell, cell-row, cell-col}
 use Rattle.leaves.proofs.Units.{mag}
-use Rattle.leaves.proofs.Range.{Range, range-zero, range-abs}
 use Rattle.leaves.proofs.Operations.{Moved}
-use Rattle.leaves.proofs.Totals.{Part, part-zero, part-add, part-more, part-loop, part-moved, moved-sum, amax-shift, amax-one, amax-most}
-use Rattle.matrix.specs.Matrix.{Matrix, at, rows, trace, amax, sumOver, firstEntry, allFinite}
-use Rattle.matrix.proofs.Stored.{has-column, rows-at}
-
--- what a search that finds nothing has passed
-pub first-nothing : (n : ℕ) (f : ℕ → Bool) → firstTo n f ≡ none → (i : ℕ) → i < n → f i ≡ false
-unfolding firstTo
-first-nothing zero f h i l = absurd (not-suc-le-zero l)
-first-nothing (suc n) f h i l = go (firstTo n f) refl (f n) refl h (eq-or-lt-of-le (le-of-suc-le-suc l)) (first-nothing n f)
-  where
-    pick : Option ℕ → Bool → Option ℕ
-    pick o b = elim o [ none ↦ cond b (some n) none | some k ↦ some k ]
-
-    go : (o : Option ℕ) → firstTo n f ≡ o → (b : Bool) → f n ≡ b → pick o b ≡ none → (i ≡ n) ⊎ (i < n) → (firstTo n f ≡ none → (i : ℕ) → i < n → f i ≡ false) → f i ≡ false
-    go (some k) p b q e d rec = let y : true ≡ false = cc in absurd (subst T y tt)
-    go none p true q e d rec = let y : true ≡ false = cc in absurd (subst T y tt)
-    go none p false q e (inl d) rec = ap f d ∙ q
-    go none p false q e (inr d) rec = rec p i d
-
--- every cell of m rows and n columns
-pub by-cell : (m n : ℕ) (P : ℕ → ℕ → Type 0) → ((i j : ℕ) → i < m → j < n → P i j) → (k : ℕ) → k < m * n → P (k / n) (k % n)
-by-cell m n P h k l = let p = has-column k m n l in h (k / n) (k % n) (div-lt-iff-lt-mul p .1 l) (mod-lt k p)
+use Rattle.leaves.proofs.Totals.{moved-amax, Part, part-zero, part-add, part-more, part-loop, part-moved, moved-sum, amax-most}
+use Rattle.matrix.specs.Matrix.{Matrix, at, rows, trace, amax, sumOver}
+use Rattle.matrix.proofs.Stored.{by-cell, rows-at}
 
 module _ {k g l h : ℕ} (m n : ℕ) (f f' : Matrix) (each : (i j : ℕ) → i < m → j < n → Moved k g l h (f i j) (f' i j)) where
   pub amax-moved : Moved k g l h (amax m n f) (amax m n f')
   unfolding amax
-  amax-moved =
-      let cells = by-cell m n (λ i j. Moved k g l h (f i j) (f' i j)) each in
-      record {
-        range = amax-one (Range g (2 ^ l) (2 ^ h)) (m * n) (λ c. f (c / n) (c % n)) (range-zero g (2 ^ l) (2 ^ h)) (λ c d. range-abs (cells c d .range));
-        copy = amax-ext (m * n) (λ c. f' (c / n) (c % n)) (λ c. shift (pos k) (f (c / n) (c % n))) (λ c d. cells c d .copy) ∙ amax-shift (pos k) (m * n) (λ c. f (c / n) (c % n));
-      }
+  amax-moved = moved-amax (m * n) (λ c. f (c / n) (c % n)) (λ c. f' (c / n) (c % n)) (by-cell m n (λ i j. Moved k g l h (f i j) (f' i j)) each)
 
   pub amax-above : (i j : ℕ) → i < m → j < n → mag (f i j) ≤ mag (amax m n f)
   unfolding amax
@@ -55,22 +24,6 @@ module _ {k g l h : ℕ} (m n : ℕ) (f f' : Matrix) (each : (i j : ℕ) → i <
       let cells = by-cell m n (λ i j. Moved k g l h (f i j) (f' i j)) each in
       subst₂ (λ (r c : ℕ). mag (f r c) ≤ mag (amaxTo (m * n) (λ c. f (c / n) (c % n)))) (cell-row i n j b) (cell-col i n j b)
       (amax-most (λ c. f (c / n) (c % n)) (m * n) (λ c d. (cells c d .range .fit, cells c d .range .finite)) (i * n + j) (cell i m j n a b))
-
-pub finite-entry : (m n : ℕ) (f : Matrix) → allFinite m n f ≡ true → (i j : ℕ) → i < m → j < n → isFinite (f i j) ≡ true
-unfolding allFinite firstEntry
-finite-entry m n f h i j a b =
-    subst₂ (λ (r c : ℕ). isFinite (f r c) ≡ true) (cell-row i n j b) (cell-col i n j b) (not-no (isFinite (f ((i * n + j) / n) ((i * n + j) % n))) (first-nothing (m * n) test (nothing (firstTo (m * n) test) h) (i * n + j) (cell i m j n a b)))
-  where
-    test : ℕ → Bool
-    test k = not (isFinite (f (k / n) (k % n)))
-
-    nothing : (o : Option ℕ) → (elim (elim o as (λ z. Option (ℕ × ℕ)) [ none ↦ none | some k ↦ some (k / n, k % n) ]) as (λ z. Bool) [ none ↦ true | some k ↦ false ]) ≡ true → o ≡ none
-    nothing none h = refl
-    nothing (some k) h = absurd (subst T (sym h) tt)
-
-    not-no : (b : Bool) → not b ≡ false → b ≡ true
-    not-no true h = refl
-    not-no false h = sym h
 
 pub trace-moved : {k g h l : ℕ} (n : ℕ) (f f' : Matrix) → n ≤ 32 → 5 + h + k ≤ 2097 → ((i : ℕ) → i < n → Moved k g l h (f i i) (f' i i)) → Moved k g g (5 + h) (trace n f) (trace n f')
 unfolding trace

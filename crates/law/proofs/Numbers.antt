@@ -7,7 +7,7 @@ use mathlib.Core.Bool.{Bool, true, false}
 use mathlib.Core.List.{List, [], _∷_, _++_, map}
 use lib.Dec.{T}
 use lib.IntN.{ℤ, pos, negsuc, negℤ, natAbs, _+ℤ_, _*ℤ_, *ℤ-one}
-use lib.ListN.{getD, take, drop}
+use lib.ListN.{take, drop}
 use lib.Ieee.{Float, nan, inf, fin, binary64, fits}
 use Rattle.leaves.specs.Numbers.{isFinite, signum}
 use Rattle.leaves.specs.Loops.{tab, fill}
@@ -88,12 +88,6 @@ pub each-tab : (R : Float → Float → Type 0) (n : ℕ) (f f' : ℕ → Float)
 unfolding tab
 each-tab R zero f f' h = tt
 each-tab R (suc n) f f' h = (h 0 (omega arith), each-tab R n (λ i. f (suc i)) (λ i. f' (suc i)) (λ i l. h (suc i) (omega arith)))
-
-pub nth-tab : {A : Type 0} (n : ℕ) (f : ℕ → A) (i : ℕ) (d : A) → i < n → getD (tab n f) i d ≡ f i
-unfolding tab
-nth-tab zero f i d l = absurd (omega arith)
-nth-tab (suc n) f zero d l = refl
-nth-tab (suc n) f (suc i) d l = nth-tab n (λ i. f (suc i)) i d (omega arith)
 
 take-tab : (n : ℕ) (f : ℕ → Float) (rest : List Float) → take n (tab n f ++ rest) ≡ tab n f
 unfolding tab

@@ -6,7 +6,7 @@ use native.Mathlib.Nat.{le-trans, le-of-eq, lt-of-lt-of-le}
 use native.Mathlib.Omega.{arith}
 use mathlib.Core.Bool.{Bool, true, false, not, _||_}
 use mathlib.Core.List.{List, [], _++_, map}
-use mathlib.Core.Option.{Option, none, some}
+use mathlib.Core.Option.{Option}
 use lib.Dec.{T, eqb, ltb, lit≤}
 use lib.IntN.{ℤ, pos}
 use lib.ListN.{length, getD, length-map, List·getD-map}
@@ -19,7 +19,7 @@ use Rattle.leaves.proofs.Shift.{isFinite-shift, shift-nan}
 use Rattle.leaves.proofs.Operations.{Moved}
 use Rattle.matrix.specs.Limits.{maxSide}
 use Rattle.matrix.specs.Matrix.{Matrix, at, allFinite}
-use Rattle.matrix.proofs.Alike.{first-entry-alike}
+use Rattle.matrix.proofs.Alike.{finite-same, first-entry-alike}
 use Rattle.estimators.specs.Refusals.{Check, passes, whenSome, first}
 use Rattle.estimators.specs.Sample.{covariance}
 use Rattle.estimators.specs.Order.{maxPeriods, notFinite, opening}
@@ -35,10 +35,6 @@ at-copy k l n i j = ap (getD (map (shift k) l) (i * n + j)) (sym (shift-nan k)) 
 
 pub sized-moved : (k l : ℕ) → l ≤ 1022 → (x y : Float) → Sized l x → y ≡ shift (pos k) x → Moved k (1022 - l) (1022 - l + 52) (1074 + l) x y
 sized-moved k l h x y s e = record { range = sized-range l h x s; copy = e }
-
-pub finite-same : (m n : ℕ) (f g : Matrix) → ((i j : ℕ) → i < m → j < n → isFinite (f i j) ≡ isFinite (g i j)) → allFinite m n f ≡ allFinite m n g
-unfolding allFinite
-finite-same m n f g h = ap (λ (o : Option (ℕ × ℕ)). elim o as (λ z. Bool) [ none ↦ true | some k ↦ false ]) (first-entry-alike m n (λ i j. not (isFinite (f i j))) (λ i j. not (isFinite (g i j))) (λ i j a b. ap not (h i j a b)))
 
 -- 5
 pub entries-same : (k : ℕ) (l : List Float) (m n : ℕ) → notFinite m n (at (map (shift (pos k)) l) n) ≡ notFinite m n (at l n)

@@ -12,8 +12,7 @@ use Rattle.leaves.specs.Loops.{tab, fill, nth}
 use Rattle.leaves.proofs.Loops.{cell, length-tab, length-fill, fill-at}
 use Rattle.matrix.specs.Matrix.{Matrix, at, trace, allFinite}
 use Rattle.matrix.specs.Jacobi.{Decomposition}
-use Rattle.matrix.proofs.First.{finite-all}
-use Rattle.matrix.proofs.Alike.{trace-alike}
+use Rattle.matrix.proofs.Alike.{trace-alike, finite-all}
 use Rattle.estimators.specs.Refusals.{Check, passes, refuses, first}
 use Rattle.estimators.specs.Adjusted.{decompositionOf, intensity, adjusted}
 use Rattle.estimators.specs.Order.{opening, ofGiven, ofSettings, adjustedOrder, weightedOrder, jamesSteinOrder, bayesSteinOrder}

@@ -17,7 +17,7 @@ use Rattle.leaves.specs.Loops.{sumTo, nth}
 use Rattle.leaves.specs.Root.{sqrt}
 use Rattle.leaves.specs.Scaling.{pow2, binaryExponent, pow2Scaled}
 use Rattle.leaves.specs.Shift.{shift}
-use Rattle.leaves.proofs.Loops.{tab-ext}
+use Rattle.leaves.proofs.Loops.{tab-ext, nth-tab}
 use Rattle.leaves.proofs.Whole.{over, under, plus, minus, same, one-side, over-neg, under-neg}
 use Rattle.leaves.proofs.Shift.{shift-nan, isFinite-shift}
 use Rattle.leaves.proofs.Rounding.{near-most, held-pow}
@@ -39,7 +39,6 @@ use borrow.Author.Tests.{ne-eqb}
 use Rattle.leaves.proofs.Zero.{not-above}
 use Rattle.leaves.proofs.Laws.{room→fits}
 use Rattle.law.specs.Law.{AtLeast}
-use Rattle.law.proofs.Numbers.{nth-tab}
 use Rattle.law.proofs.Sizes.{pow2-val, at-least}
 use Rattle.law.proofs.Sample.{Returns}
 use Rattle.law.proofs.Scaled.{scaled-range, lead}

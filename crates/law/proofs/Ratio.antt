@@ -21,7 +21,7 @@ use borrow.Author.Tests.{lt-ltb, le-ltb, ltb-true, ltb-false}
 use Rattle.leaves.specs.Numbers.{_⊕_, _⊗_, _⊘_, ε, count, isFinite, larger, smaller}
 use Rattle.leaves.specs.Loops.{loop, sumTo, minTo, maxTo}
 use Rattle.leaves.proofs.Rounding.{near, Near, near-most, near-error, near-held, held-small, held-times}
-use Rattle.leaves.proofs.Units.{U, U-pos, Top, pow-under-Top, Val, zero-mag, sign, mag, val-mag, mag-val, mag-held, rounded, rounded-val, rounded-under, lt-val}
+use Rattle.leaves.proofs.Units.{U, U-pos, Top, pow-under-Top, Val, zero-mag, sign, mag, val-mag, mag-val, mag-held, rounded, finite-mag, rounded-val, lt-val}
 use Rattle.leaves.proofs.Arithmetic.{sumSign, total, total-le, add-finite, mul-finite, div-finite, add-rounded, mul-rounded, div-rounded}
 use Rattle.leaves.proofs.Range.{range-weaken, count-val}
 use Rattle.leaves.proofs.Operations.{still}
@@ -35,21 +35,14 @@ module _ (x y : Float) (fx : T (fits binary64 x)) (fy : T (fits binary64 y)) whe
   pub product-is : T (isFinite (x ⊗ y)) → mag (x ⊗ y) ≡ near (mag x * mag y) U
   product-is f =
       let q = mul-finite x y f in
-      let e = mul-rounded x y (sign x) (sign y) (mag x) (mag y) (mag-val x fx (q .0)) (mag-val y fy (q .1)) in
-      let n = mag x * mag y in
-      let v = rounded-val (unlike (sign x) (sign y)) n U U-pos (rounded-under (unlike (sign x) (sign y)) n U U-pos (subst (λ (z : Float). T (isFinite z)) e f)) in
-      ap mag e ∙ val-mag (rounded (unlike (sign x) (sign y)) n U) (unlike (sign x) (sign y)) (near n U) v .1
+      finite-mag (x ⊗ y) (unlike (sign x) (sign y)) (mag x * mag y) U U-pos (mul-rounded x y (sign x) (sign y) (mag x) (mag y) (mag-val x fx (q .0)) (mag-val y fy (q .1))) f
 
   product : T (isFinite (x ⊗ y)) → Near (mag (x ⊗ y)) (mag x * mag y) U
   product f = subst (λ (g : ℕ). Near g (mag x * mag y) U) (sym (product-is f)) (near-error (mag x * mag y) U U-pos)
 
   module _ (ny : T (isFinite y)) (p : 0 < mag y) where
     pub quotient-is : T (isFinite (x ⊘ y)) → mag (x ⊘ y) ≡ near (mag x * U) (mag y)
-    quotient-is f =
-        let e = div-rounded x y (sign x) (sign y) (mag x) (mag y) (mag-val x fx (div-finite x y f)) (mag-val y fy ny) p in
-        let n = mag x * U in
-        let v = rounded-val (unlike (sign x) (sign y)) n (mag y) p (rounded-under (unlike (sign x) (sign y)) n (mag y) p (subst (λ (z : Float). T (isFinite z)) e f)) in
-        ap mag e ∙ val-mag (rounded (unlike (sign x) (sign y)) n (mag y)) (unlike (sign x) (sign y)) (near n (mag y)) v .1
+    quotient-is f = finite-mag (x ⊘ y) (unlike (sign x) (sign y)) (mag x * U) (mag y) p (div-rounded x y (sign x) (sign y) (mag x) (mag y) (mag-val x fx (div-finite x y f)) (mag-val y fy ny) p) f
 
     quotient : T (isFinite (x ⊘ y)) → Near (mag (x ⊘ y)) (mag x * U) (mag y)
     quotient f = subst (λ (g : ℕ). Near g (mag x * U) (mag y)) (sym (quotient-is f)) (near-error (mag x * U) (mag y) p)

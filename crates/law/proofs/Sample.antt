@@ -13,13 +13,13 @@ use Rattle.leaves.specs.Numbers.{_⊖_, _⊗_, _⊘_, zero⁺, count, 1e-10, is
 use Rattle.leaves.specs.Loops.{sumTo}
 use Rattle.leaves.specs.Root.{sqrt}
 use Rattle.leaves.specs.Shift.{shift}
-use Rattle.leaves.proofs.Loops.{amax-ext, first-ext}
+use Rattle.leaves.proofs.Loops.{first-ext}
 use Rattle.leaves.proofs.Shift.{le-shift, min0-shift}
 use Rattle.leaves.proofs.SqrtLaws.{sqrt-shift}
 use Rattle.leaves.proofs.Units.{U, mag}
-use Rattle.leaves.proofs.Range.{Range, sized, range-zero, range-abs, range-sized, range-count, count-pos}
+use Rattle.leaves.proofs.Range.{Range, sized, range-zero, range-sized, range-count, count-pos}
 use Rattle.leaves.proofs.Operations.{Moved, moved-weaken, moved-sub, moved-mul, moved-over, still}
-use Rattle.leaves.proofs.Totals.{moved-sum, amax-shift, amax-one, amax-most}
+use Rattle.leaves.proofs.Totals.{moved-amax, moved-sum, amax-most}
 use Rattle.matrix.specs.Matrix.{Matrix}
 use Rattle.estimators.specs.Sample.{mean, deviation, gram, covariance, largest, constantAsset}
 use Rattle.estimators.specs.Semi.{shortfall, semicovariance, semicovarianceBelow}
@@ -62,10 +62,7 @@ module _ {k n T g l h : ℕ} {x y : Matrix} (r : Returns k n T g l h x y) (d : �
 
 pub largest-moved : {k n T g l h : ℕ} {x y : Matrix} → Returns k n T g l h x y → (i : ℕ) → i < n → Moved k g l h (largest T x i) (largest T y i)
 unfolding largest
-largest-moved {k} {T = T} {g = g} {l = l} {h = h} {x = x} {y = y} r i a = record {
-  range = amax-one (Range g (2 ^ l) (2 ^ h)) T (λ t. x t i) (range-zero g (2 ^ l) (2 ^ h)) (λ t b. range-abs (r .entries t i b a .range));
-  copy = amax-ext T (λ t. y t i) (λ t. shift (pos k) (x t i)) (λ t b. r .entries t i b a .copy) ∙ amax-shift (pos k) T (λ t. x t i);
-}
+largest-moved {T = T} {x = x} {y = y} r i a = moved-amax T (λ t. x t i) (λ t. y t i) (λ t b. r .entries t i b a)
 
 pub largest-above : {k n T g l h : ℕ} {x y : Matrix} → Returns k n T g l h x y → (t i : ℕ) → t < T → i < n → mag (x t i) ≤ mag (largest T x i)
 unfolding largest

@@ -17,7 +17,7 @@ use borrow.Author.Tests.{not-true, not-false, lt-ltb, le-ltb, ltb-true, ltb-fals
 use Rattle.leaves.specs.Numbers.{zero⁺, two, count, isFinite, abs}
 use Rattle.leaves.specs.Scaling.{pow2}
 use Rattle.leaves.proofs.Whole.{over, under, over-neg, under-neg, up-is, down-is}
-use Rattle.leaves.proofs.Units.{U, Val, sign, mag, zero-val, mag-val, lt-val, eq-zero}
+use Rattle.leaves.proofs.Units.{U, Val, abs-val, sign, mag, zero-val, mag-val, lt-val, eq-zero}
 use Rattle.leaves.proofs.Range.{Range, range-value, range-size, count-val}
 use Rattle.law.specs.Law.{All, Sized, AtLeast}
 
@@ -110,12 +110,6 @@ module _ (x y : Float) {a b : ℕ} (v : Val x false a) (w : Val y false b) where
 
 pub plus-val : {g L B : ℕ} {x : Float} → Range g L B x → sign x ≡ false → Val x false (mag x)
 plus-val {x = x} r e = subst (λ (s : Bool). Val x s (mag x)) e (range-value r)
-
-pub abs-val : (x : Float) → Val x (sign x) (mag x) → Val (abs x) false (mag x)
-unfolding abs
-abs-val nan v = v
-abs-val (inf s) v = v
-abs-val (fin s m e) v = (refl, v .1)
 
 pub pow2-val : (j : ℤ) (n : ℕ) → n + under j ≡ 1074 + over j → Val (pow2 j) false (2 ^ n)
 unfolding U

@@ -24,21 +24,18 @@ use Rattle.law.specs.Law.{AtLeast}
 use Rattle.law.proofs.Sizes.{pow2-val, at-least}
 use Rattle.law.proofs.JamesStein.{scaled-fits}
 
+plain : (s : Bool) → unlike s false ≡ s
+plain true = refl
+plain false = refl
+
 -- one step of pow2_scaled
 pub one-step : (x : Float) (j : ℤ) → over j ≤ 1022 → under j ≤ 1022 → pow2Scaled x j ≡ x ⊗ pow2 j
 one-step x j a b = sym (scale-last x j (let c = cut-range j in same _ j (omega (arith, c .top, c .bottom, one-side j))))
 
 pub inf-scaled : (s : Bool) (j : ℤ) → over j ≤ 1022 → under j ≤ 1022 → pow2Scaled (inf s) j ≡ inf s
-inf-scaled s j a b = one-step (inf s) j a b ∙ unfold mul in go s
-  where
-    go : (s : Bool) → inf (unlike s false) ≡ inf s
-    go true = refl
-    go false = refl
+inf-scaled s j a b = one-step (inf s) j a b ∙ unfold mul in ap inf (plain s)
 
 module _ (R : Float) (fit : T (fits binary64 R)) (finite : T (isFinite R)) (h : ℕ) (most : mag R ≤ 2 ^ h) (j : ℤ) (k : ℕ) (small : k ≤ 80) (low : under j ≤ 900) (high : over j ≤ 900) (room : h + over (j +ℤ pos k) ≤ 2097 + under (j +ℤ pos k)) where
-  abbrev j' : ℤ
-  j' = j +ℤ pos k
-
   bounds : (over (j +ℤ pos k) ≤ 980) × (under (j +ℤ pos k) ≤ 900) × (over j ≤ over (j +ℤ pos k) + under j)
   unfolding over under
   bounds = (omega (arith, plus j (pos k), one-side (j +ℤ pos k)), omega (arith, plus j (pos k), one-side (j +ℤ pos k)), omega (arith, plus j (pos k)))
@@ -78,10 +75,6 @@ module _ (R : Float) (fit : T (fits binary64 R)) (finite : T (isFinite R)) (h : 
     where
       U-pow : 2 ^ 1074 ≡ U
       U-pow = unfold U in refl
-
-      plain : (s : Bool) → unlike s false ≡ s
-      plain true = refl
-      plain false = refl
 
   null : (i : ℤ) → over i ≤ 980 → under i ≤ 900 → mag R * 2 ^ over i ≤ 2 ^ 200 * 2 ^ under i → AtLeast 400 (pow2Scaled R i) → Val (pow2Scaled R i) (sign R) 0
   null i a b l q =

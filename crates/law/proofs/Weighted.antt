@@ -19,9 +19,9 @@ use Rattle.leaves.specs.Root.{sqrt}
 use Rattle.leaves.specs.Scaling.{binaryExponent, pow2Scaled}
 use Rattle.leaves.specs.Shift.{shift}
 use Rattle.leaves.specs.Exp.{exp}
-use Rattle.leaves.proofs.Loops.{sum-ext}
+use Rattle.leaves.proofs.Loops.{sum-ext, nth-tab}
 use Rattle.leaves.proofs.Rounding.{near, near-least}
-use Rattle.leaves.proofs.Units.{Val, sign, mag, val-mag, mag-val, mag-held, rounded-val, rounded-under}
+use Rattle.leaves.proofs.Units.{Val, sign, mag, mag-val, mag-held, finite-mag}
 use Rattle.leaves.proofs.Arithmetic.{add-rounded, add-finite}
 use Rattle.leaves.proofs.Range.{Range}
 use Rattle.leaves.proofs.Operations.{Moved, still, moved-weaken, moved-sub, moved-mul, moved-over}
@@ -38,7 +38,7 @@ use Rattle.estimators.specs.declared.Refusal.the-variants.{BadSetting}
 use Rattle.estimators.specs.declared.Answer.the-variants.{Mean}
 use Rattle.law.specs.Law.{All, Sized, LongHalfLife, Alike, ask}
 use Rattle.law.specs.Law as Law
-use Rattle.law.proofs.Numbers.{nth-tab, means-alike}
+use Rattle.law.proofs.Numbers.{means-alike}
 use Rattle.law.proofs.Chain.{Chain, ends, chain-must, chained, parts, settled}
 use Rattle.law.proofs.Sizes.{is-true}
 use Rattle.law.proofs.Sample.{Returns, largest-moved, largest-above}
@@ -57,9 +57,7 @@ plus-least x y tx ty sx sy F =
     let q = add-finite x y F in
     let v : Val x false (mag x) = subst (λ (s : Bool). Val x s (mag x)) sx (mag-val x tx (q .0)) in
     let w : Val y false (mag y) = subst (λ (s : Bool). Val y s (mag y)) sy (mag-val y ty (q .1)) in
-    let e = add-rounded x y false false (mag x) (mag y) v w in
-    let r = rounded-val false (mag x + mag y) 1 (lit< tt) (rounded-under false (mag x + mag y) 1 (lit< tt) (subst (λ (z : Float). T (isFinite z)) e F)) in
-    let i : mag (x ⊕ y) ≡ near (mag x + mag y) 1 = ap mag e ∙ val-mag _ false (near (mag x + mag y) 1) r .1 in
+    let i : mag (x ⊕ y) ≡ near (mag x + mag y) 1 = finite-mag (x ⊕ y) false (mag x + mag y) 1 (lit< tt) (add-rounded x y false false (mag x) (mag y) v w) F in
     (rw i (near-least (mag x + mag y) 1 (mag x) (lit< tt) (mag-held x tx (q .0) .0) (omega arith)), rw i (near-least (mag x + mag y) 1 (mag y) (lit< tt) (mag-held y ty (q .1) .0) (omega arith)))
 
 pub sum-least : (n : ℕ) (f : ℕ → Float) → ((t : ℕ) → t < n → T (fits binary64 (f t)) × (sign (f t) ≡ false)) → T (isFinite (sumTo n f)) → (t : ℕ) → t < n → mag (f t) ≤ mag (sumTo n f)

@@ -17,7 +17,7 @@ use borrow.Author.Tests.{ltb-true}
 use Rattle.leaves.specs.Numbers.{_⊗_, _⊘_, zero⁺, two, count, isFinite}
 use Rattle.leaves.specs.Exp.{ln2, exp, expM1}
 use Rattle.leaves.proofs.Rounding.{near, Held, near-most, near-least, near-error, near-held, held-pow, held-up}
-use Rattle.leaves.proofs.Units.{U, U-pos, Top, pow-under-Top, Val, rounded, sign, mag, zero-mag, val-mag, val-finite, mag-val, mag-held, zero-val, neg-val, rounded-val, rounded-cases, rounded-under, lt-val}
+use Rattle.leaves.proofs.Units.{U, U-pos, Top, pow-under-Top, Val, sign, mag, zero-mag, val-mag, val-finite, mag-val, mag-held, zero-val, neg-val, finite-mag, rounded-val, rounded-cases, lt-val}
 use Rattle.leaves.proofs.Arithmetic.{mul-rounded, div-rounded}
 use Rattle.leaves.proofs.Range.{Range, count-val, range-size}
 use Rattle.leaves.proofs.Whole.{le-or-lt}
@@ -80,8 +80,7 @@ module _ (h : Float) (fit : T (fits binary64 h)) (ok : accepted (logDecay h) ≡
               let q = log-is x ∙ div-rounded (neg ln2) x true (sign x) N H n w above in
               let i : unlike true (sign x) ≡ true = sym (ap sign q ∙ sign-round (unlike true (sign x)) (N * U) (H * U)) ∙ val-mag (logDecay x) true (mag (logDecay x)) v .0 in
               let z : sign x ≡ false = not-true (sign x) i in
-              let r = rounded-val (unlike true (sign x)) (N * U) H above (rounded-under (unlike true (sign x)) (N * U) H above (subst (λ (z : Float). T (isFinite z)) q (val-finite (logDecay x) true (mag (logDecay x)) v))) in
-              (H, subst (λ (b : Bool). Val x b H) z w, above, k, ap mag q ∙ val-mag (rounded (unlike true (sign x)) (N * U) H) (unlike true (sign x)) (near (N * U) H) r .1)
+              (H, subst (λ (b : Bool). Val x b H) z w, above, k, finite-mag (logDecay x) (unlike true (sign x)) (N * U) H above q (val-finite (logDecay x) true (mag (logDecay x)) v))
             where
               not-true : (b : Bool) → unlike true b ≡ true → b ≡ false
               not-true true i = sym i

@@ -1,5 +1,5 @@
--- How the code finds the whole part of a square root: digit by digit in a loop, which keeps `Digits`, or by a guess, from which it takes what is left over in two steps (`rest-is`). Either way the
--- root is known by what is left over (`exact`, `inexact`). Assumes nothing.
+-- How the code finds the whole part of a square root: digit by digit in a loop, which keeps `Digits`, and whose root is known by what is left over (`exact`, `inexact`). And how it finds what is
+-- left over a root that it has guessed, in two steps (`rest-is`). Assumes nothing.
 use mathlib.Core.Path.{_≡_}
 use Prim.Native.Nat.{ℕ, _+_, _-_, _*_, _/_, _%_, _^_, _≤_, _<_}
 use native.Mathlib.Nat.{mul-right-comm, sub-add-cancel, lt-of-le-of-lt, le-of-eq, mul-assoc, mul-left-comm, mul-le-mul, le-antisymm, le-trans, lt-of-lt-of-le, pow-suc}

@@ -1,9 +1,10 @@
 -- Laws of `specs/Loops.antt`'s loop, tab and fill, and of a cell's index in a table stored row by row. Assumes nothing.
 use mathlib.Core.Path.{_≡_, refl, sym, ap, ap₂, _∙_}
-use mathlib.Core.List.{[], List, _∷_, _++_}
+use mathlib.Core.Logic.{_⊎_, inl, inr}
+use mathlib.Core.List.{[], List, _∷_, _++_, append-nil}
 use mathlib.Core.Option.{Option, none, some}
 use Prim.Native.Nat.{ℕ, zero, suc, _+_, _*_, _/_, _%_, _≤_, _<_, zero-le, suc-le-suc}
-use native.Mathlib.Nat.{lt-suc-self, lt-trans, le-antisymm, suc-mul, mul-le-mul-right, not-suc-le-zero, le-of-suc-le-suc, mul-add-div-right, div-eq-of-lt, add-zero, mul-add-mod-self-right, mod-eq-of-lt, mul-zero, mod-lt, div-lt-iff-lt-mul, le-step}
+use native.Mathlib.Nat.{lt-suc-self, lt-trans, le-antisymm, suc-mul, mul-le-mul-right, not-suc-le-zero, le-of-suc-le-suc, mul-add-div-right, div-eq-of-lt, add-zero, mul-add-mod-self-right, mod-eq-of-lt, mul-zero, mod-lt, div-lt-iff-lt-mul, le-step, eq-or-lt-of-le}
 use native.Mathlib.Numerals.{add-one}
 use native.Mathlib.Omega.{arith}
 use mathlib.Core.Bool.{Bool, true, false, cond}
@@ -90,6 +91,9 @@ module _ {A : Type 0} where
   tab-at f (suc n) l zero d h = refl
   tab-at f (suc n) l (suc k) d h = tab-at (λ k. f (suc k)) n l k d (le-of-suc-le-suc h)
 
+  pub nth-tab : (n : ℕ) (f : ℕ → A) (k : ℕ) (d : A) → k < n → getD (tab n f) k d ≡ f k
+  nth-tab n f k d h = rw append-nil at (tab-at f n [] k d h)
+
   -- the first n elements are f's
   pub fill-at : (f : ℕ → A) (n : ℕ) (old : List A) (k : ℕ) (d : A) → k < n → getD (fill n f old) k d ≡ f k
   unfolding fill
@@ -107,11 +111,6 @@ module _ {A : Type 0} where
   unfolding tab
   tab-ext f g zero h = refl
   tab-ext f g (suc n) h = λ i. h 0 (suc-le-suc zero-le) i ∷ tab-ext (λ k. f (suc k)) (λ k. g (suc k)) n (λ k l. h (suc k) (suc-le-suc l)) i
-
-  -- two fills are equal where the functions are, below n
-  pub fill-ext : (f g : ℕ → A) (n : ℕ) (old : List A) → ((k : ℕ) → k < n → f k ≡ g k) → fill n f old ≡ fill n g old
-  unfolding fill
-  fill-ext f g n old h = ap (λ (l : List A). l ++ drop n old) (tab-ext f g n h)
 
 -- A loop that goes over the first n cells of a table, storing f k at cell k: what it has reached before cell i, where it began with old and has out.
 pub record Filled {A : Type 0} (f : ℕ → A) (i n : ℕ) (old out : List A) : Type 0 where
@@ -184,6 +183,18 @@ first-below test (suc n) k e = go (firstTo n test) (first-below test n k) (test 
     go none h true e = let q : n ≡ k = cc in omega arith
     go none h false e = let z : _≡_ {A = ℕ} 0 1 = cc in omega arith
     go (some j) h b e = le-step (h e)
+
+-- where nothing is found, no test holds
+pub first-all : (test : ℕ → Bool) (n : ℕ) → firstTo n test ≡ none → (k : ℕ) → k < n → test k ≡ false
+unfolding firstTo
+first-all test zero e k l = absurd (not-suc-le-zero l)
+first-all test (suc n) e k l = go (firstTo n test) refl (test n) refl e (eq-or-lt-of-le (le-of-suc-le-suc l)) (first-all test n)
+  where
+    go : (o : Option ℕ) → firstTo n test ≡ o → (b : Bool) → test n ≡ b → pick n b o ≡ none → (k ≡ n) ⊎ (k < n) → (firstTo n test ≡ none → (k : ℕ) → k < n → test k ≡ false) → test k ≡ false
+    go (some j) p b q e d before = let z : _≡_ {A = ℕ} 0 1 = cc in absurd (omega arith)
+    go none p true q e d before = let z : _≡_ {A = ℕ} 0 1 = cc in absurd (omega arith)
+    go none p false q e (inl d) before = ap test d ∙ q
+    go none p false q e (inr d) before = before p k d
 
 -- a number made for i, at the end
 pub at-end : {A : Type 0} (g : ℕ → A) (i n : ℕ) (s : A) → s ≡ g i → i ≤ n → n ≤ i → s ≡ g n

@@ -32,7 +32,7 @@ pub sign-round : (s : Bool) (a c : ℕ) → sign (round binary64 s a c) ≡ s
 sign-round s a c = ap sign (round-is binary64 s a c) ∙ sign-units s _ _
 
 -- ---- the operations
-same-signs : (s t : Bool) → s ≡ t → unlike s t ≡ false
+pub same-signs : (s t : Bool) → s ≡ t → unlike s t ≡ false
 same-signs s t e = subst (λ (u : Bool). unlike s u ≡ false) e (self s)
   where
     self : (s : Bool) → unlike s s ≡ false

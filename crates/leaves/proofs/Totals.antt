@@ -1,7 +1,7 @@
 -- Sums from +0 in rising index and the largest size, under a shift. `Part` is a sum under way: m terms of 2 ^ h units at most make m * 2 ^ h units at most, since that number has few
 -- digits and rounding does not pass it. So a sum of at most 2 ^ c terms stays exact under a shift as long as 2 ^ (c + h) units, shifted, do not overflow (`moved-sum`); a sum of products
 -- is this with `moved-mul` for each term. Assumes nothing.
-use mathlib.Core.Path.{_≡_, refl, sym, ap₂, _∙_, subst}
+use mathlib.Core.Path.{_≡_, sym, ap₂, _∙_, subst}
 use mathlib.Core.Logic.{inl, inr}
 use Prim.Native.Nat.{ℕ, zero, suc, _+_, _*_, _^_, _≤_, _<_}
 use native.Mathlib.Nat.{le-refl, le-trans, le-of-eq, le-of-lt, le-of-suc-le-suc, lt-of-le-of-lt, lt-trans, lt-suc-self, eq-or-lt-of-le, not-suc-le-zero, mul-one, suc-mul, mul-le-mul-left, mul-le-mul-right}
@@ -10,15 +10,16 @@ use mathlib.Core.Bool.{Bool, true, false, cond}
 use lib.Dec.{T, ltb}
 use lib.IntN.{ℤ, pos}
 use lib.Pow.{pow-add, pow-pos, pow-mono, pow-lt}
-use lib.Ieee.{Float, nan, inf, fin, binary64, lt, fits}
+use lib.Ieee.{Float, binary64, lt, fits}
 use borrow.Author.Tests.{ltb-true, ltb-false}
 use Rattle.leaves.specs.Numbers.{_⊕_, zero⁺, isFinite, abs, larger}
 use Rattle.leaves.specs.Loops.{loop, sumTo, amaxTo}
 use Rattle.leaves.specs.Shift.{shift}
 use Rattle.leaves.proofs.Shift.{shift-zero⁺, abs-shift, larger-shift}
+use Rattle.leaves.proofs.Loops.{amax-ext}
 use Rattle.leaves.proofs.Rounding.{Held, held-times, held-up}
-use Rattle.leaves.proofs.Units.{zero-val, zero-mag, Top, pow-under-Top, Val, sign, mag, mag-val, mag-abs, lt-val}
-use Rattle.leaves.proofs.Range.{Range, range-weaken, range-zero}
+use Rattle.leaves.proofs.Units.{zero-val, zero-mag, Top, pow-under-Top, Val, mag, mag-val, mag-abs, abs-val, lt-val}
+use Rattle.leaves.proofs.Range.{Range, range-weaken, range-abs, range-zero}
 use Rattle.leaves.proofs.Operations.{Moved, range-add, add-copy}
 
 -- ---- a sum under way, and its copy: m terms so far
@@ -90,14 +91,15 @@ amax-one P (suc n) f z h = go (lt (amaxTo n f) (abs (f n))) (amax-one P n f z (�
     go true p q = q
     go false p q = p
 
+pub moved-amax : {k g l h : ℕ} (n : ℕ) (u u' : ℕ → Float) → ((t : ℕ) → t < n → Moved k g l h (u t) (u' t)) → Moved k g l h (amaxTo n u) (amaxTo n u')
+moved-amax {k} {g} {l} {h} n u u' each = record {
+  range = amax-one (Range g (2 ^ l) (2 ^ h)) n u (range-zero g (2 ^ l) (2 ^ h)) (λ t i. range-abs (each t i .range));
+  copy = amax-ext n u' (λ t. shift (pos k) (u t)) (λ t i. each t i .copy) ∙ amax-shift (pos k) n u;
+}
+
 -- and none is larger, of finite values of the format
-abs-val : (x : Float) → T (fits binary64 x) → T (isFinite x) → Val (abs x) false (mag (abs x))
-abs-val x t f = rw (mag-abs x) (go x (mag-val x t f))
-  where
-    go : (x : Float) → Val x (sign x) (mag x) → Val (abs x) false (mag x)
-    go nan v = absurd v
-    go (inf s) v = absurd v
-    go (fin s m e) v = unfold abs in (refl, v .1)
+size-val : (x : Float) → T (fits binary64 x) → T (isFinite x) → Val (abs x) false (mag (abs x))
+size-val x t f = rw (mag-abs x) (abs-val x (mag-val x t f))
 
 larger-mag : (m x : Float) → Val m false (mag m) → Val x false (mag x) → (mag m ≤ mag (larger m x)) × (mag x ≤ mag (larger m x))
 unfolding larger
@@ -109,14 +111,14 @@ larger-mag m x v w = go (lt m x) (sym (lt-val m x false false (mag m) (mag x) v 
 
 module _ (f : ℕ → Float) where
   amax-val : (n : ℕ) → ((t : ℕ) → t < n → T (fits binary64 (f t)) × T (isFinite (f t))) → Val (amaxTo n f) false (mag (amaxTo n f))
-  amax-val n h = amax-one (λ z. Val z false (mag z)) n f (rw (zero-mag false (pos 0)) (zero-val false (pos 0))) (λ t l. abs-val (f t) (h t l .0) (h t l .1))
+  amax-val n h = amax-one (λ z. Val z false (mag z)) n f (rw (zero-mag false (pos 0)) (zero-val false (pos 0))) (λ t l. size-val (f t) (h t l .0) (h t l .1))
 
   pub amax-most : (n : ℕ) → ((t : ℕ) → t < n → T (fits binary64 (f t)) × T (isFinite (f t))) → (t : ℕ) → t < n → mag (f t) ≤ mag (amaxTo n f)
   unfolding amaxTo loop
   amax-most zero h t l = absurd (not-suc-le-zero l)
   amax-most (suc n) h t l =
       let h' : (t : ℕ) → t < n → T (fits binary64 (f t)) × T (isFinite (f t)) = λ t l. h t (lt-trans l (lt-suc-self n)) in
-      let b = larger-mag (amaxTo n f) (abs (f n)) (amax-val n h') (abs-val (f n) (h n (lt-suc-self n) .0) (h n (lt-suc-self n) .1)) in
+      let b = larger-mag (amaxTo n f) (abs (f n)) (amax-val n h') (size-val (f n) (h n (lt-suc-self n) .0) (h n (lt-suc-self n) .1)) in
       elim (eq-or-lt-of-le (le-of-suc-le-suc l)) [
         | inl e ↦ subst (λ (i : ℕ). mag (f i) ≤ mag (amaxTo (suc n) f)) (sym e) (le-trans (le-of-eq (sym (mag-abs (f n)))) (b .1))
         | inr i ↦ le-trans (amax-most n h' t i) (b .0)

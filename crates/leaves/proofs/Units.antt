@@ -136,6 +136,12 @@ mag-abs nan = refl
 mag-abs (inf s) = refl
 mag-abs (fin s m e) = refl
 
+pub abs-val : (x : Float) → Val x (sign x) (mag x) → Val (abs x) false (mag x)
+unfolding abs
+abs-val nan v = v
+abs-val (inf s) v = v
+abs-val (fin s m e) v = (refl, v .1)
+
 pub neg-val : (x : Float) (s : Bool) (u : ℕ) → Val x s u → Val (neg x) (not s) u
 unfolding neg
 neg-val nan s u v = v
@@ -224,6 +230,10 @@ rounded-cases s n d D = go (ltb (near n d) (2 ^ 2098)) refl (round-near s n d D)
 pub rounded-under : (s : Bool) (n d : ℕ) → 0 < d → T (isFinite (rounded s n d)) → near n d < Top
 unfolding isFinite
 rounded-under s n d D t = elim (rounded-cases s n d D) [ inl h ↦ h | inr (h, e) ↦ absurd (rw e at t) ]
+
+-- so its size is the rounded fraction
+pub finite-mag : (x : Float) (s : Bool) (n d : ℕ) → 0 < d → x ≡ rounded s n d → T (isFinite x) → mag x ≡ near n d
+finite-mag x s n d D e f = ap mag e ∙ val-mag (rounded s n d) s (near n d) (rounded-val s n d D (rounded-under s n d D (rw e at f))) .1
 
 pub rounded-shift : (s : Bool) (n d t : ℕ) → 0 < d → Grained 0 n d → near (n * 2 ^ t) d < Top → rounded s (n * 2 ^ t) d ≡ shift (pos t) (rounded s n d)
 rounded-shift s n d t D c o =

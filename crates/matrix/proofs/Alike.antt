@@ -1,13 +1,15 @@
 -- Two matrices with the same entries, within m rows and n columns, are alike in all that is looked for, summed or decomposed. So a stored matrix
 -- stands for the function that it stores. Assumes nothing.
-use mathlib.Core.Path.{_≡_, refl, ap, _∙_}
-use mathlib.Core.Bool.{Bool, true, false, not}
+use mathlib.Core.Path.{_≡_, refl, sym, ap, _∙_}
+use mathlib.Core.Bool.{Bool, true, false, not, true≢false}
 use mathlib.Core.List.{List}
 use mathlib.Core.Option.{Option, none, some}
-use Prim.Native.Nat.{ℕ, _*_, _/_, _%_, _<_}
+use Prim.Native.Nat.{ℕ, _+_, _*_, _/_, _%_, _<_}
 use lib.Ieee.{Float, eq}
+use borrow.Author.Tests.{not-false}
 use Rattle.leaves.specs.Numbers.{_⊕_, _⊗_, _⊘_, zero⁺, half, isFinite}
-use Rattle.leaves.proofs.Loops.{sum-ext, amax-ext, first-ext}
+use Rattle.leaves.specs.Loops.{firstTo}
+use Rattle.leaves.proofs.Loops.{cell, cell-row, cell-col, sum-ext, amax-ext, first-ext, first-all}
 use Rattle.matrix.specs.Matrix.{Matrix, at, rows, identity, product, transpose, trace, amax, firstEntry, allFinite}
 use Rattle.matrix.specs.Jacobi.{Decomposition, start, swept, scaledBack, unturned, decompose}
 use Rattle.matrix.proofs.Stored.{cell-ext, rows-ext, product-ext}
@@ -17,15 +19,31 @@ unfolding firstEntry
 first-entry-alike m n f g h =
     ap (λ (o : Option ℕ). elim o as (λ z. Option (ℕ × ℕ)) [ none ↦ none | some k ↦ some (k / n, k % n) ]) (first-ext (m * n) (λ k. f (k / n) (k % n)) (λ k. g (k / n) (k % n)) (cell-ext m n f g h))
 
+pub finite-same : (m n : ℕ) (f g : Matrix) → ((i j : ℕ) → i < m → j < n → isFinite (f i j) ≡ isFinite (g i j)) → allFinite m n f ≡ allFinite m n g
+unfolding allFinite
+finite-same m n f g h = ap (λ (o : Option (ℕ × ℕ)). elim o as (λ z. Bool) [ none ↦ true | some k ↦ false ]) (first-entry-alike m n (λ i j. not (isFinite (f i j))) (λ i j. not (isFinite (g i j))) (λ i j a b. ap not (h i j a b)))
+
 module _ (m n : ℕ) (f g : Matrix) (h : (i j : ℕ) → i < m → j < n → f i j ≡ g i j) where
   pub amax-alike : amax m n f ≡ amax m n g
   unfolding amax
   amax-alike = amax-ext (m * n) (λ k. f (k / n) (k % n)) (λ k. g (k / n) (k % n)) (cell-ext m n f g h)
 
   pub finite-alike : allFinite m n f ≡ allFinite m n g
-  unfolding allFinite
-  finite-alike =
-      ap (λ (o : Option (ℕ × ℕ)). elim o as (λ z. Bool) [ none ↦ true | some k ↦ false ]) (first-entry-alike m n (λ i j. not (isFinite (f i j))) (λ i j. not (isFinite (g i j))) (λ i j hi hj. ap (λ (x : Float). not (isFinite x)) (h i j hi hj)))
+  finite-alike = finite-same m n f g (λ i j a b. ap isFinite (h i j a b))
+
+-- a matrix all of whose entries are finite
+pub finite-all : (m n : ℕ) (a : Matrix) → allFinite m n a ≡ true → (i j : ℕ) → i < m → j < n → isFinite (a i j) ≡ true
+unfolding allFinite firstEntry
+finite-all m n a h i j hi hj =
+    not-false (isFinite (a i j))
+    (sym (λ t. bad (cell-row i n j hj t) (cell-col i n j hj t)) ∙ first-all (λ k. bad (k / n) (k % n)) (m * n) (none-there (firstTo (m * n) (λ k. bad (k / n) (k % n))) h) (i * n + j) (cell i m j n hi hj))
+  where
+    bad : ℕ → ℕ → Bool
+    bad i j = not (isFinite (a i j))
+
+    none-there : (o : Option ℕ) → elim (elim o as (λ z. Option (ℕ × ℕ)) [ none ↦ none | some k ↦ some (k / n, k % n) ]) as (λ z. Bool) [ none ↦ true | some k ↦ false ] ≡ true → o ≡ none
+    none-there none e = refl
+    none-there (some k) e = absurd (true≢false (sym e))
 
 module _ (n : ℕ) (f g : Matrix) (h : (i j : ℕ) → i < n → j < n → f i j ≡ g i j) where
   pub trace-alike : trace n f ≡ trace n g

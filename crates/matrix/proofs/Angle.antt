@@ -15,6 +15,7 @@ use Rattle.leaves.specs.Root.{sqrt}
 use Rattle.leaves.proofs.Rounding.{near, near-error}
 use Rattle.leaves.proofs.Units.{U, U-pos, Top, Val, rounded, sign, mag, val-mag, zero-val, val-finite, mag-val, lt-val, rounded-val, rounded-cases}
 use Rattle.leaves.proofs.Arithmetic.{add-rounded, mul-rounded, div-rounded}
+use Rattle.leaves.proofs.Signs.{same-signs}
 use Rattle.leaves.proofs.SqrtNearest.{Nearest, nearest-of}
 use Rattle.matrix.specs.Rotation.{cosine}
 use Rattle.matrix.proofs.Squares.{Close, square-mono, square-back, half-u, t-c, circle}
@@ -138,17 +139,13 @@ module _ (t : Float) (σ : Bool) (n : ℕ) (v : Val t σ n) where
 
   finite-angle : Circle (cosine t) (t ⊗ cosine t)
   finite-angle =
-      let like = same σ in
+      let like = same-signs σ σ refl in
       let e : t ⊗ t ≡ rounded false (n * n) U = mul-rounded t t σ σ n n v v ∙ ap (λ (s : Bool). rounded s (n * n) U) like in
       elim (rounded-cases false (n * n) U U-pos) [
         | inr h ↦ flat (t ⊗ t ⊕ one) (ap (λ (z : Float). z ⊕ one) (e ∙ h .1) ∙ over)
         | inl h ↦ second (rw e (rounded-val false (n * n) U U-pos h))
       ]
     where
-      same : (s : Bool) → unlike s s ≡ false
-      same true = refl
-      same false = refl
-
       over : inf false ⊕ one ≡ inf false
       over = unfold add in refl
 

@@ -1,15 +1,13 @@
 -- Laws of `firstTo`, the first index at which a test holds, and of `firstEntry`. Assumes nothing.
 use mathlib.Core.Path.{_≡_, refl, sym, ap, _∙_}
-use mathlib.Core.Bool.{Bool, true, false, not, true≢false}
-use mathlib.Core.Option.{Option, none, some}
+use mathlib.Core.Bool.{Bool, true, false}
+use mathlib.Core.Option.{none, some}
 use Prim.Native.Nat.{ℕ, zero, suc, _+_, _*_, _/_, _%_, _-_, _≤_, _<_}
-use native.Mathlib.Nat.{le-antisymm, le-of-lt}
+use native.Mathlib.Nat.{le-antisymm}
 use native.Mathlib.Numerals.{add-one}
 use native.Mathlib.Omega.{arith}
-use Rattle.leaves.specs.Numbers.{isFinite}
 use Rattle.leaves.specs.Loops.{firstTo}
-use Rattle.leaves.proofs.Loops.{cell, cell-row, cell-col}
-use Rattle.matrix.specs.Matrix.{Matrix, firstEntry, allFinite}
+use Rattle.matrix.specs.Matrix.{firstEntry}
 
 module _ (test : ℕ → Bool) where
   pub first-none : firstTo 0 test ≡ none
@@ -36,21 +34,6 @@ module _ (test : ℕ → Bool) where
   pub first-at : (k n : ℕ) → firstTo k test ≡ none → test k ≡ true → k < n → firstTo n test ≡ some k
   first-at k n e t h = first-later (suc k) n k h (first-is k e t)
 
-  -- none found: none found before, and none holds
-  earlier : (n k : ℕ) → firstTo n test ≡ none → k < n → firstTo k test ≡ none
-  earlier n k e h = go (firstTo k test) refl
-    where
-      go : (o : Option ℕ) → firstTo k test ≡ o → firstTo k test ≡ none
-      go none f = f
-      go (some j) f = let g = first-later k n j (le-of-lt h) f in let z : _≡_ {A = ℕ} 0 1 = cc in absurd (omega arith)
-
-  pub first-all : (n : ℕ) → firstTo n test ≡ none → (k : ℕ) → k < n → test k ≡ false
-  first-all n e k h = go (test k) refl
-    where
-      go : (b : Bool) → test k ≡ b → b ≡ false
-      go false t = refl
-      go true t = let f = first-at k n (earlier n k e h) t h in let z : _≡_ {A = ℕ} 0 1 = cc in absurd (omega arith)
-
 -- a search through a matrix, at cell k: the answer, if the test holds there, and at the end
 module _ (test : ℕ → ℕ → Bool) (m n k : ℕ) where
   pub entry-at-cell : firstTo k (λ j. test (j / n) (j % n)) ≡ none → test (k / n) (k % n) ≡ true → k < m * n → some (k / n, k % n) ≡ firstEntry m n test
@@ -60,21 +43,3 @@ module _ (test : ℕ → ℕ → Bool) (m n k : ℕ) where
   pub entry-nowhere : firstTo k (λ j. test (j / n) (j % n)) ≡ none → k ≤ m * n → m * n ≤ k → none ≡ firstEntry m n test
   unfolding firstEntry
   entry-nowhere e h l = rw (firstEntry, sym (ap (λ (j : ℕ). firstTo j (λ j. test (j / n) (j % n))) (le-antisymm h l)) ∙ e)
-
--- a matrix all of whose entries are finite
-pub finite-all : (m n : ℕ) (a : Matrix) → allFinite m n a ≡ true → (i j : ℕ) → i < m → j < n → isFinite (a i j) ≡ true
-unfolding allFinite firstEntry
-finite-all m n a h i j hi hj =
-    denied (isFinite (a i j))
-    (sym (λ t. bad (cell-row i n j hj t) (cell-col i n j hj t)) ∙ first-all (λ k. bad (k / n) (k % n)) (m * n) (none-there (firstTo (m * n) (λ k. bad (k / n) (k % n))) h) (i * n + j) (cell i m j n hi hj))
-  where
-    bad : ℕ → ℕ → Bool
-    bad i j = not (isFinite (a i j))
-
-    denied : (b : Bool) → not b ≡ false → b ≡ true
-    denied true e = refl
-    denied false e = sym e
-
-    none-there : (o : Option ℕ) → elim (elim o as (λ z. Option (ℕ × ℕ)) [ none ↦ none | some k ↦ some (k / n, k % n) ]) as (λ z. Bool) [ none ↦ true | some k ↦ false ] ≡ true → o ≡ none
-    none-there none e = refl
-    none-there (some k) e = absurd (true≢false (sym e))

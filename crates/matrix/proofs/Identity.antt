@@ -23,7 +23,7 @@ use Rattle.leaves.proofs.Totals.{amax-one, amax-most}
 use Rattle.leaves.proofs.Loops.{cell, cell-row, cell-col, row-below, col-below, sum-ext}
 use Rattle.matrix.specs.Matrix.{Matrix, at, rows, identity, product, transpose, amax, allFinite}
 use Rattle.matrix.specs.Jacobi.{start}
-use Rattle.matrix.proofs.First.{finite-all}
+use Rattle.matrix.proofs.Alike.{finite-all}
 use Rattle.matrix.proofs.Stored.{rows-ext, rows-at}
 use Rattle.matrix.proofs.Angle.{one-val, Top-big}
 
