@@ -27,6 +27,7 @@ use Rattle.paper.specs.Answer.{Outcome, refused, ok, lineText, linesText
 use Rattle.paper.specs.Grammar.{starts, body, none, more, taken, sheet, kinds}
 use Rattle.paper.specs.Rules.{outline, value, assets, periods, wellFormed, malformed, question, readPaper}
 use Rattle.paper.specs.Marking.{asked, columns, answerOf, floats, examined, marking}
+use Rattle.paper.specs.Inner.{buffer}
 use Rattle.paper.proofs.Digits.{digits-length}
 use Rattle.paper.proofs.Writes.{write-room}
 use Rattle.paper.proofs.Outlines.{sizes}
@@ -99,7 +100,11 @@ abbrev entries : Outcome → ℕ
 entries (refused k) = 0
 entries (ok n c xs) = length xs
 
-outcome-length : (a : Outcome) → entries a ≤ 64 → length (outcomeText a) ≤ 8192
+-- the code's `TEXT`
+abbrev pub maxText : ℕ
+maxText = 8192
+
+outcome-length : (a : Outcome) → entries a ≤ 64 → length (outcomeText a) ≤ maxText
 unfolding outcomeText
 outcome-length (refused k) h = simp length-append (omega (arith, decimal-length k))
 outcome-length (ok n c xs) h = simp length-append (omega (arith, decimal-length n, decimal-length c, lines-length c 0 xs))
@@ -169,17 +174,17 @@ answer-entries o r g e =
     let blank : length slice ≡ n * c = length-replicate (n * c) zero⁺ in
     omega (arith, outcome-entries n c (a .answer) (a .slice), asked-length q o r g slice (omega arith), answer-fits o n q c refl (sizes o e .assets-few) refl refl)
 
-pub text-length : (paper : List ℕ) → length (marking paper) ≤ 8192
+pub text-length : (paper : List ℕ) → length (marking paper) ≤ maxText
 unfolding marking examined readPaper
 text-length paper = go (eqb (length (sheet kinds paper .rest)) 0) (wellFormed (outline (sheet kinds paper .lists))) refl
   where
-    go : (a b : Bool) → wellFormed (outline (sheet kinds paper .lists)) ≡ b → length (outcomeText (examined (cond (a && b) (question (sheet kinds paper .lists)) malformed))) ≤ 8192
+    go : (a b : Bool) → wellFormed (outline (sheet kinds paper .lists)) ≡ b → length (outcomeText (examined (cond (a && b) (question (sheet kinds paper .lists)) malformed))) ≤ maxText
     go true true e = outcome-length _ (answer-entries (outline (sheet kinds paper .lists)) _ _ e)
     go true false e = outcome-length (refused 15) (omega arith)
     go false b e = outcome-length (refused 15) (omega arith)
 
 -- what `mark` leaves at the front of a buffer with room is the whole text
-pub whole-text : (paper s v : List ℕ) (n : ℕ) → 8192 ≤ length s → out v n ≡ write (out s 0) (marking paper) → (take n v ≡ marking paper) × (n ≡ length (marking paper))
+pub whole-text : (paper s v : List ℕ) (n : ℕ) → maxText ≤ length s → out v n ≡ write (out s 0) (marking paper) → (take n v ≡ marking paper) × (n ≡ length (marking paper))
 whole-text paper s v n h e =
     let t = marking paper in
     let w : out v n ≡ out (take 0 s ++ t ++ drop (0 + length t) s) (0 + length t) = e ∙ write-room t s 0 (omega (arith, text-length paper)) in
@@ -188,6 +193,3 @@ whole-text paper s v n h e =
   where
     place : Out → ℕ
     place (out v n) = n
-
-    buffer : Out → List ℕ
-    buffer (out v n) = v

@@ -17,7 +17,7 @@ use crate::kinds::RECORDS;
 use crate::marking::examine;
 use crate::reader::read;
 
-// Bytes that are always enough for what is printed.
+// Bytes that are always enough for what is printed: the laws' `maxText`.
 pub const TEXT: usize = 8192;
 
 // Marks a question file: writes what is printed of it to the front of `out`, and answers how many bytes that is.
