@@ -12,11 +12,11 @@ use Rattle.leaves.specs.Numbers.{_⊖_, _⊗_, _⊘_, count, zero⁺, clamp01}
 use Rattle.leaves.specs.Loops.{amaxTo, tab, nth}
 use Rattle.leaves.specs.Scaling.{binaryExponent, pow2Scaled}
 use Rattle.leaves.proofs.Loops.{sum-ext, amax-ext, length-tab}
-use Rattle.matrix.specs.Matrix.{Matrix, at, rows, amax, trace, total, sumOver, every}
+use Rattle.matrix.specs.Matrix.{Matrix, at, rows, amax, trace, total, sumOver, every, Symmetric}
 use Rattle.matrix.proofs.Stored.{rows-at, rows-ext}
 use Rattle.estimators.specs.Sample.{mean, deviation, gram, scaled}
 use Rattle.estimators.specs.LedoitWolf.{apart, deviationOf, averageCorrelation, variation, covariation, targetVariation, error, distance, intensityOf, ledoitWolf, secondMoments}
-use Rattle.estimators.specs.Rows.{inUnit, formed, rowsOf, Symmetric}
+use Rattle.estimators.specs.Rows.{inUnit, formed, rowsOf}
 use Rattle.estimators.specs.declared.Target.{Target}
 use Rattle.estimators.specs.declared.Target.the-variants.{ConstantVariance, ConstantCorrelation}
 use Rattle.estimators.specs.declared.rows.Row.the-variants.{Deviation, Scaled}

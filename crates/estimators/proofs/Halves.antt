@@ -10,13 +10,13 @@ use lib.Ieee.{Float}
 use borrow.Author.Tests.{ltb-true, ltb-false}
 use Rattle.leaves.specs.Numbers.{_⊖_, _⊗_, _⊘_, zero⁺, count}
 use Rattle.leaves.specs.Loops.{loop, sumTo, tab, nth}
-use Rattle.matrix.specs.Matrix.{Matrix, at, rows}
+use Rattle.matrix.specs.Matrix.{Matrix, at, rows, Symmetric}
 use Rattle.leaves.proofs.Loops.{sum-ext}
 use Rattle.leaves.proofs.Commutative.{product-comm}
 use Rattle.matrix.proofs.Stored.{rows-at, rows-ext}
 use Rattle.estimators.specs.Sample.{gram}
 use Rattle.estimators.specs.LedoitWolf.{variation, covariation}
-use Rattle.estimators.specs.Rows.{factor, joined, summand, start, plus, Symmetric}
+use Rattle.estimators.specs.Rows.{factor, joined, summand, start, plus}
 use Rattle.estimators.specs.declared.tables.Term.{Term}
 use Rattle.estimators.specs.declared.tables.Term.the-variants.{Product, Square, Cube}
 use Rattle.estimators.proofs.Stored.{tab-then}

@@ -70,7 +70,3 @@ abbrev pub Sized : Term → ℕ → List Float → Type 0
 Sized Product k s = Unit {0}
 Sized Square k s = k ≤ length s
 Sized Cube k s = k ≤ length s
-
--- a stored matrix that is its transpose
-abbrev pub Symmetric : ℕ → List Float → Type 0
-Symmetric n s = (i j : ℕ) → i < n → j < n → at s n i j ≡ at s n j i

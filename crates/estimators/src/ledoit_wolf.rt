@@ -10,13 +10,13 @@ ghost use Rattle.leaves.specs.Numbers.{_⊖_, _⊗_, _⊘_, count, zero⁺, cla
 ghost use Rattle.leaves.specs.Loops.{tab, nth};
 ghost use Rattle.leaves.specs.Scaling.{binaryExponent};
 ghost use Rattle.matrix.specs.Limits.{maxSide};
-ghost use Rattle.matrix.specs.Matrix.{Matrix, at, rows, trace, amax, sumOver, squares};
+ghost use Rattle.matrix.specs.Matrix.{Matrix, at, rows, trace, amax, sumOver, squares, Symmetric};
 ghost use Rattle.matrix.specs.Inner.{sumRow};
 ghost use Rattle.estimators.specs.Held.{maxExponent};
 ghost use Rattle.estimators.specs.Sample as Sample;
 ghost use Rattle.estimators.specs.LedoitWolf as LedoitWolf;
 ghost use Rattle.estimators.specs.LedoitWolf.{apart, variation, covariation, intensityOf, secondMoments};
-ghost use Rattle.estimators.specs.Rows.{centered, Symmetric};
+ghost use Rattle.estimators.specs.Rows.{centered};
 use crate::Target;
 use crate::columns;
 use crate::gram;

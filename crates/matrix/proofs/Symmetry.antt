@@ -17,10 +17,10 @@ use Rattle.leaves.specs.Loops.{loop}
 use Rattle.leaves.proofs.Whole.{le-or-lt}
 use Rattle.leaves.proofs.Commutative.{plus-comm}
 use Rattle.leaves.proofs.Loops.{cell}
-use Rattle.matrix.specs.Matrix.{Matrix, at, rows, identity, product, transpose}
+use Rattle.matrix.specs.Matrix.{Matrix, at, rows, identity, product, transpose, Symmetric}
 use Rattle.matrix.specs.Rotation.{State, tangent, cotangent, cosine, turnColumns, turnRows, rotated, rotateBy, rotate}
 use Rattle.matrix.specs.Jacobi.{afterSweeps, start}
-use Rattle.matrix.specs.Inner.{state, turnedBoth, Symmetric, turnedBlock, mirrored}
+use Rattle.matrix.specs.Inner.{state, turnedBoth, turnedBlock, mirrored}
 use Rattle.matrix.proofs.Stored.{rows-at, rows-ext}
 use Rattle.matrix.proofs.Counts.{row-keeps, rows-keep, sweeps-keep}
 use Rattle.matrix.proofs.Rows.{turnedRow}

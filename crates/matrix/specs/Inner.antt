@@ -40,10 +40,6 @@ sumRow n keep f i = loop n (addKept keep f i)
 abbrev pub turnedBoth : ℕ → ℕ → ℕ → Float → Float → List Float → List Float
 turnedBoth n p q c s a = set (set (turnRows n p q c s (turnColumns n p q c s a)) (p * n + q) zero⁺) (q * n + p) zero⁺
 
--- a square matrix, stored row by row, that is its transpose to the last bit
-abbrev pub Symmetric : ℕ → List Float → Type 0
-Symmetric n a = (i j : ℕ) → i < n → j < n → at a n i j ≡ at a n j i
-
 -- where rows and columns p and q meet: the columns turned, with 0 off the diagonal
 abbrev pub turnedBlock : ℕ → ℕ → ℕ → Float → Float → List Float → List Float
 turnedBlock n p q c s a =

@@ -119,6 +119,31 @@ fn with_given(
     )
 }
 
+// The two means that decompose a matrix.
+fn with_limit(
+    call: u32,
+    returns: &[f64],
+    assets: usize,
+    periods: usize,
+    answer: &mut [f64],
+    numbers: &mut [f64; 2],
+    wholes: &mut [usize; 2],
+) -> u32 {
+    let limit = input::whole();
+    if call == 3 {
+        return calls::engine_james_stein_mean(
+            returns,
+            assets,
+            periods,
+            limit,
+            answer,
+            numbers,
+            wholes,
+        );
+    }
+    calls::engine_bayes_stein_mean(returns, assets, periods, limit, answer, numbers, wholes)
+}
+
 // 0 the adjusted covariance, 1 Ledoit-Wolf, 2 the weighted mean, 3 James-Stein, 4 Bayes-Stein.
 fn made(
     returns: &[f64],
@@ -148,19 +173,7 @@ fn made(
             wholes,
         );
     }
-    let limit = input::whole();
-    if call == 3 {
-        return calls::engine_james_stein_mean(
-            returns,
-            assets,
-            periods,
-            limit,
-            answer,
-            numbers,
-            wholes,
-        );
-    }
-    calls::engine_bayes_stein_mean(returns, assets, periods, limit, answer, numbers, wholes)
+    with_limit(call, returns, assets, periods, answer, numbers, wholes)
 }
 
 fn compared(returns: &[f64], assets: usize, periods: usize, answer: &mut [f64]) -> Outcome {

@@ -6,10 +6,10 @@ use lib.ListN.{length}
 use lib.Ieee.{Float}
 use Rattle.leaves.specs.Numbers.{_⊘_, count}
 use Rattle.leaves.specs.Loops.{tab, nth}
-use Rattle.matrix.specs.Matrix.{Matrix, rows}
+use Rattle.matrix.specs.Matrix.{Matrix, rows, Symmetric}
 use Rattle.matrix.proofs.Stored.{length-rows}
 use Rattle.estimators.specs.Sample.{gram}
-use Rattle.estimators.specs.Rows.{centered, Symmetric}
+use Rattle.estimators.specs.Rows.{centered}
 use Rattle.estimators.specs.LedoitWolf.{secondMoments}
 use Rattle.estimators.proofs.Halves.{rows-over}
 use Rattle.estimators.proofs.Centered.{moments-symmetric}
