@@ -3,7 +3,7 @@
 use mathlib.Core.Path.{_≡_, refl, sym, ap, _∙_}
 use mathlib.Core.Bool.{Bool, true, false, not, _&&_}
 use mathlib.Core.List.{List, [], _∷_, _++_}
-use Prim.Native.Nat.{ℕ, _*_, _≤_}
+use Prim.Native.Nat.{ℕ, _*_}
 use native.Mathlib.Omega.{arith}
 use borrow.Author.Tests.{eqb-true, not-false}
 use lib.Dec.{eqb}
@@ -14,19 +14,18 @@ use Rattle.leaves.specs.Loops.{tab, nth}
 use Rattle.matrix.specs.Matrix.{Matrix, at, rows}
 use Rattle.matrix.specs.Jacobi.{Decomposition, unturned}
 use Rattle.matrix.proofs.Stored.{length-rows}
-use Rattle.estimators.specs.Refusals.{Check, passes, refuses, when, first}
+use Rattle.estimators.specs.Refusals.{Check, passes, refuses, first}
 use Rattle.estimators.specs.Given.{decomposeGiven, averagedOf}
 use Rattle.estimators.specs.Adjusted.{isGiven, decompositionOf, base, intensity, isAdjusted, baseOf, adjustedOf}
 use Rattle.estimators.specs.Order.{opening, ofGiven, ofSettings, adjustedOrder, noVariance, byReturns, bySettings, byAnswer, byEstimate, bySizes, byNumbers}
 use Rattle.estimators.specs.Opening.{Shaped}
 use Rattle.estimators.specs.Checks.{examined}
-use Rattle.estimators.specs.Calls.{Answered, answered, settle, adjustedCovariance}
+use Rattle.estimators.specs.Calls.{answered, settle, adjustedCovariance}
 use Rattle.estimators.specs.Estimated.{finished, estimated, decompositionBy, ofGivenBy}
 use Rattle.estimators.specs.declared.Estimate.{Estimate}
 use Rattle.estimators.specs.declared.Estimate.the-variants.{Sample, Given, Weighted, Semi, SemiBelow}
 use Rattle.estimators.specs.declared.Settings.{Settings}
 use Rattle.estimators.specs.declared.Refusal.{Refusal}
-use Rattle.estimators.specs.declared.Refusal.the-variants.{WrongSide}
 use Rattle.estimators.specs.declared.Answer.{Answer}
 use Rattle.estimators.specs.declared.Answer.the-variants.{Refused, Covariance}
 use Rattle.estimators.specs.declared.given.Examined as Examined

@@ -1,7 +1,6 @@
 -- How a period's row of numbers is formed from its returns, and what it adds to a table of sums. What only the contracts of this crate's
 -- inner functions cite. Definitions only.
-use mathlib.Core.Path.{_≡_}
-use Prim.Native.Nat.{ℕ, _+_, _-_, _%_, _≤_, _<_}
+use Prim.Native.Nat.{ℕ, _+_, _-_, _%_, _≤_}
 use mathlib.Core.Bool.{cond}
 use mathlib.Core.List.{List, []}
 use lib.Dec.{leb}

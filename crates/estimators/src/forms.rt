@@ -2,7 +2,7 @@
 ghost use mathlib.Core.Path.{_≡_};
 ghost use Prim.Native.Nat.{ℕ, _*_, _<_};
 ghost use lib.ListN.{length};
-ghost use Rattle.leaves.specs.Numbers.{_⊖_, _⊗_, _⊘_};
+ghost use Rattle.leaves.specs.Numbers.{_⊖_, _⊗_};
 ghost use Rattle.leaves.specs.Loops.{sumTo, tab, nth};
 ghost use Rattle.matrix.specs.Matrix.{at};
 ghost use Rattle.matrix.specs.Jacobi.{Decomposition};

@@ -1,13 +1,10 @@
 // Numbers xᵢ · 2^-eᵢ, gathered: a vector whose largest number is near 1, and one power of two (expected_returns.rs, `gather`).
 ghost use mathlib.Core.Path.{_≡_};
-ghost use mathlib.Core.Bool.{true, false};
 ghost use Prim.Native.Nat.{ℕ, _+_, _≤_};
-ghost use lib.IntN.{pos, negℤ, natAbs, _+ℤ_};
+ghost use lib.IntN.{pos, negℤ, natAbs};
 ghost use lib.ListN.{length, getD};
-ghost use lib.Ieee.{eq};
-ghost use Rattle.leaves.specs.Numbers.{_⊘_, one, zero⁺};
+ghost use Rattle.leaves.specs.Numbers.{_⊘_, one};
 ghost use Rattle.leaves.specs.Loops.{tab, nth};
-ghost use Rattle.leaves.specs.Scaling.{binaryExponent, pow2Scaled};
 ghost use Rattle.matrix.specs.Limits.{maxSide};
 ghost use Rattle.estimators.specs.Held.{maxExponent};
 ghost use Rattle.estimators.specs.BayesStein as BayesStein;

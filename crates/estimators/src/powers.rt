@@ -1,6 +1,6 @@
 // Powers of two as two factors: multiplied by both, one after the other, a number is scaled as by `pow2_scaled`.
 ghost use mathlib.Core.Path.{_≡_};
-ghost use Prim.Native.Nat.{ℕ, _+_, _≤_};
+ghost use Prim.Native.Nat.{_+_, _≤_};
 ghost use lib.IntN.{natAbs};
 ghost use lib.ListN.{length};
 ghost use Rattle.estimators.specs.Held.{maxExponent};

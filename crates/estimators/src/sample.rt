@@ -1,6 +1,6 @@
 // The sample means and covariance, and the largest returns (returns.rs).
 ghost use mathlib.Core.Path.{_≡_};
-ghost use Prim.Native.Nat.{ℕ, _*_, _≤_};
+ghost use Prim.Native.Nat.{_*_, _≤_};
 ghost use lib.ListN.{length};
 ghost use Rattle.leaves.specs.Loops.{tab};
 ghost use Rattle.matrix.specs.Limits.{maxSide};

@@ -1,7 +1,7 @@
 // What a covariance s, an n × n table, is shrunk to: its average variance, or its volatilities with their average correlation
 // (covariance.rs, `average_correlation`, `constant_correlation`).
 ghost use mathlib.Core.Path.{_≡_};
-ghost use mathlib.Core.Bool.{Bool, true, false, cond};
+ghost use mathlib.Core.Bool.{cond};
 ghost use Prim.Native.Nat.{ℕ, _*_, _≤_, _<_};
 ghost use lib.Dec.{eqb};
 ghost use lib.ListN.{length};

@@ -1,7 +1,5 @@
 // The checks of the settings, refusals 7 and 8 (covariance.rs, `validate`).
 ghost use mathlib.Core.Path.{_≡_};
-ghost use mathlib.Core.List.{[], _∷_};
-ghost use Rattle.estimators.specs.Refusals as Refusals;
 ghost use Rattle.estimators.specs.Checks.{checked};
 ghost use Rattle.estimators.specs.Adjusted as Adjusted;
 ghost use Rattle.estimators.specs.Order as Order;

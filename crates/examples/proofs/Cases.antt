@@ -9,11 +9,10 @@ use Rattle.leaves.specs.Numbers.{count, zero⁺, half, one, two}
 use Rattle.leaves.specs.Scaling.{binaryExponent, pow2, pow2Scaled}
 use Rattle.leaves.specs.Root.{sqrt}
 use Rattle.examples.proofs.Evaluated.{evaluated}
-use Rattle.estimators.specs.Refusals.{Check, passes, refuses}
+use Rattle.estimators.specs.Refusals.{passes, refuses}
 use Rattle.estimators.specs.Weighted.{logDecay, weights}
 use Rattle.estimators.specs.Order.{badHalfLife}
 use Rattle.estimators.specs.Calls.{Answered, answered, adjustedCovariance, exponentiallyWeightedMean, jamesSteinMean}
-use Rattle.estimators.specs.declared.Estimate.{Estimate}
 use Rattle.estimators.specs.declared.Estimate.the-variants.{Sample, Given}
 use Rattle.estimators.specs.declared.Shrinkage.{Shrinkage}
 use Rattle.estimators.specs.declared.Shrinkage.the-variants.{Unshrunk, Fixed}

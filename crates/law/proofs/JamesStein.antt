@@ -130,9 +130,6 @@ pull-range limit n m a = go (eq (unevenness n (nth (m .mean)) (centre n m)) zero
     d : Decomposition
     d = taken limit n m
 
-    shift' : ℤ
-    shift' = binaryExponent (unevenness n (nth (m .mean)) (centre n m))
-
     z : Float
     z = pow2Scaled ((trace n (at (m .covariance) n) ⊖ two ⊗ maxTo n (nth (taken limit n m .values))) ⊘ (m .periods ⊗ spread n (nth (m .mean)) (centre n m) (binaryExponent (unevenness n (nth (m .mean)) (centre n m)))))
         (negℤ (binaryExponent (unevenness n (nth (m .mean)) (centre n m)) +ℤ binaryExponent (unevenness n (nth (m .mean)) (centre n m))))

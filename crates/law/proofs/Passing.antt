@@ -7,13 +7,12 @@ use lib.Dec.{T, eqb, ltb}
 use lib.ListN.{length}
 use lib.Ieee.{Float}
 use borrow.Author.Tests.{ltb-false}
-use Rattle.matrix.specs.Limits.{maxSide, maxSweeps}
+use Rattle.matrix.specs.Limits.{maxSide}
 use Rattle.estimators.specs.Refusals.{Check, passes, refuses, first}
-use Rattle.estimators.specs.Order.{maxPeriods, opening, sweepLimit}
+use Rattle.estimators.specs.Order.{maxPeriods, opening}
 use Rattle.estimators.specs.Calls.{Answered, settle}
-use Rattle.estimators.specs.declared.Field.the-variants.{SweepLimitField}
 use Rattle.estimators.specs.declared.Refusal.{Refusal}
-use Rattle.estimators.specs.declared.Refusal.the-variants.{TooLarge, WrongLength, BadSetting}
+use Rattle.estimators.specs.declared.Refusal.the-variants.{TooLarge, WrongLength}
 use Rattle.estimators.specs.declared.Answer.the-variants.{Refused}
 use Rattle.law.proofs.Chain.{pass-test}
 
@@ -48,10 +47,6 @@ pass-opening r n P needed slice h =
       ltb-false maxSide n (or-no (ltb maxSide n) (ltb maxPeriods P) (pass-test _ TooLarge (h₂ .0)) .0),
       ltb-false (length slice) needed (or-no (not (eqb (length r) (P * n))) (ltb (length slice) needed) (pass-test _ WrongLength (h₄ .0)) .1),
     )
-
-pub pass-limit : (limit : ℕ) → sweepLimit limit ≡ passes → limit ≤ maxSweeps
-unfolding sweepLimit
-pass-limit limit h = ltb-false maxSweeps limit (pass-test (ltb maxSweeps limit) (BadSetting SweepLimitField) h)
 
 -- ---- a call
 abbrev pub Accepted : Answered → Type 0

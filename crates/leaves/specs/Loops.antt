@@ -1,6 +1,6 @@
 -- Document 01, "Float leaves", sums, amax, min and max: what is done for each index from 0 up, in rising order. Definitions only.
 use Prim.Native.Nat.{ℕ, zero, suc, _/_}
-use mathlib.Core.Bool.{Bool, true, false, cond}
+use mathlib.Core.Bool.{Bool, cond}
 use mathlib.Core.List.{List, [], _∷_, _++_}
 use mathlib.Core.Option.{Option, none, some}
 use lib.Dec.{ltb}

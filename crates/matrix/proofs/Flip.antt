@@ -15,7 +15,6 @@ use Rattle.matrix.specs.Matrix.{at, rows, identity, transpose}
 use Rattle.matrix.specs.Rotation.{turnColumns, turnRows}
 use Rattle.matrix.specs.Inner.{byColumns}
 use Rattle.matrix.proofs.Stored.{entry-at, length-rows, rows-at, rows-ext}
-use Rattle.matrix.proofs.Rows.{turnedRow}
 use Rattle.matrix.proofs.Cells.{turned-same, length-columns, columns-at, turned-rows-at}
 
 -- a stored matrix is its entries, row by row

@@ -6,8 +6,7 @@ use mathlib.Core.Logic.{_⊎_, inl, inr, _≢_}
 use mathlib.Core.Bool.{Bool, true, false, cond}
 use mathlib.Core.List.{List}
 use Prim.Native.Nat.{ℕ, suc, _+_, _-_, _*_, _≤_, _<_}
-use native.Mathlib.Nat.{lt-trans, le-refl, le-of-lt, ne-of-lt}
-use native.Mathlib.Omega.{arith}
+use native.Mathlib.Nat.{lt-trans, le-refl, ne-of-lt}
 use lib.Dec.{eqb}
 use lib.ListN.{length, set, length-set}
 use lib.Ieee.{Float, eq}

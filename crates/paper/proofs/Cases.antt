@@ -5,7 +5,7 @@ use mathlib.Core.Bool.{true, false}
 use mathlib.Core.List.{List, [], _∷_, _++_}
 use Prim.Native.Nat.{ℕ}
 use lib.IntN.{pos, negsuc}
-use lib.Ieee.{Float, nan, inf, fin, binary64, add, sub, mul, div, lt, le, eq, fits, ofInt, ofBits, toBits, round, size}
+use lib.Ieee.{nan, inf, fin, binary64, add, sub, mul, div, lt, le, eq, ofInt, ofBits, toBits, round, size}
 use Rattle.leaves.specs.Numbers.{isFinite, abs, larger}
 use Rattle.leaves.specs.Loops.{loop, sumTo, amaxTo, firstTo, tab, fill}
 use Rattle.leaves.specs.Shift.{shift}

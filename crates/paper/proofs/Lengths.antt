@@ -26,7 +26,7 @@ use Rattle.paper.specs.Screen.{shown, shownText}
 use Rattle.paper.specs.Answer.{Outcome, refused, ok, lineText, linesText, outcome, outcomeText}
 use Rattle.paper.specs.Grammar.{starts, body, none, more, taken, sheet, kinds}
 use Rattle.paper.specs.Rules.{outline, value, assets, periods, wellFormed, malformed, question, readPaper}
-use Rattle.paper.specs.Marking.{asked, columns, answerOf, floats, examined, marking}
+use Rattle.paper.specs.Marking.{asked, columns, answerOf, examined, marking}
 use Rattle.paper.specs.Inner.{buffer}
 use Rattle.paper.proofs.Digits.{digits-length}
 use Rattle.paper.proofs.Writes.{write-room}

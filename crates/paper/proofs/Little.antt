@@ -1,5 +1,5 @@
 -- Laws of `little`: a number formed byte by byte, from the last byte to the first. Of len bytes at a place, those from i on are formed. Assumes nothing.
-use mathlib.Core.Path.{_≡_, refl, sym, ap, _∙_}
+use mathlib.Core.Path.{_≡_, _∙_}
 use mathlib.Core.List.{List}
 use Prim.Native.Nat.{ℕ, zero, suc, _+_, _-_, _*_, _^_, _≤_, _<_}
 use native.Mathlib.Nat.{not-suc-le-zero, sub-self, sub-zero, add-zero, pow-suc, pow-le-pow-right, lt-of-lt-of-le}

@@ -1,5 +1,5 @@
 -- Laws of `specs/Marking.antt`: the question asked, and what a well-formed outline tells. Assumes nothing.
-use mathlib.Core.Path.{_≡_, refl, sym, ap, _∙_}
+use mathlib.Core.Path.{_≡_, refl, ap}
 use mathlib.Core.Bool.{Bool, true, false, cond}
 use mathlib.Core.List.{List, _∷_}
 use Prim.Native.Nat.{ℕ, zero, suc, _*_, _≤_}
@@ -10,7 +10,7 @@ use lib.Dec.{eqb}
 use lib.Ieee.{Float, binary64, ofBits}
 use borrow.Author.Tests.{eq-eqb, ne-eqb}
 use Rattle.leaves.specs.Numbers.{float}
-use Rattle.estimators.specs.Calls.{Answered, adjustedCovariance, exponentiallyWeightedMean, jamesSteinMean, bayesSteinMean}
+use Rattle.estimators.specs.Calls.{adjustedCovariance, exponentiallyWeightedMean, jamesSteinMean, bayesSteinMean}
 use Rattle.estimators.specs.declared.Settings.{Settings}
 use Rattle.paper.specs.declared.rules.Outline.{Outline}
 use Rattle.paper.specs.Rules.{value, assets, periods}

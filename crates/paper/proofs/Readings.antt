@@ -1,8 +1,8 @@
 -- Laws of `readPaper`: from a scanned file to its reading. Assumes nothing.
 use mathlib.Core.Path.{_≡_, refl, sym, ap, _∙_, subst}
 use mathlib.Core.Bool.{Bool, true, false, _&&_, cond}
-use mathlib.Core.List.{List, [], _∷_, _++_, map}
-use Prim.Native.Nat.{ℕ, _+_, _-_, _≤_, _<_}
+use mathlib.Core.List.{List, [], _∷_, map}
+use Prim.Native.Nat.{ℕ, _+_, _-_, _≤_}
 use native.Mathlib.Omega.{arith}
 use lib.ListN.{length, drop, length-append, length-drop}
 use lib.Dec.{eqb, T}
@@ -10,12 +10,11 @@ use borrow.Author.Tests.{eq-eqb, ne-eqb}
 use Rattle.paper.specs.declared.rules.Outline.{Outline}
 use Rattle.paper.specs.declared.reader.Scanned.{Scanned}
 use Rattle.paper.specs.declared.reader.Parsed.{Parsed}
-use Rattle.paper.specs.Text.{out}
 use Rattle.paper.specs.Grammar.{maxRecords, kinds, sheet}
-use Rattle.paper.specs.Rules.{outline, wellFormed, Reading, malformed, question, readPaper}
+use Rattle.paper.specs.Rules.{outline, wellFormed, malformed, question, readPaper}
 use Rattle.paper.specs.Answer.{refused, outcomeText}
 use Rattle.paper.specs.Marking.{answerOf, floats, examined, marking}
-use Rattle.paper.specs.Inner.{ScannedIs, ReadIs, flat, buffer, split, total, reading}
+use Rattle.paper.specs.Inner.{ScannedIs, ReadIs, flat, split, total, reading}
 use Rattle.paper.proofs.Writes.{write-room}
 use Rattle.paper.proofs.Scanning.{numbers-fit, split-flat}
 

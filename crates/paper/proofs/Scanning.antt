@@ -14,7 +14,7 @@ use Rattle.paper.specs.Text.{Out, out, write}
 use Rattle.paper.specs.Grammar.{maxRecords, starts, body, none, more, taken, Sheet, sheet, kinds, missing}
 use Rattle.paper.specs.Rules.{firstOf, outline}
 use Rattle.paper.specs.Inner.{TookIs, ScannedIs, flat, buffer, split}
-use Rattle.paper.proofs.Table.{how-many, some-most, next-kind}
+use Rattle.paper.proofs.Table.{next-kind}
 use Rattle.paper.proofs.Writes.{onward, ended}
 
 -- Of the file w, the kinds ks are left from a place on; o is written so far, of o₀ at first, and cs and fs are the counts and the first bodies so far.

@@ -1,5 +1,5 @@
 -- `paper::mark` meets its contract: what was read is examined, or refused with 15.
-use mathlib.Core.Path.{_≡_, ap, _∙_}
+use mathlib.Core.Path.{ap, _∙_}
 use borrow.Author.Needs.{needs}
 use Rattle.paper.specs.Text.{write}
 use Rattle.paper.proofs.Writes.{counts}

@@ -2,7 +2,7 @@
 use mathlib.Core.Path.{_≡_, refl, sym, ap, _∙_}
 use mathlib.Core.Bool.{Bool}
 use mathlib.Core.List.{List}
-use mathlib.Core.Option.{Option, none}
+use mathlib.Core.Option.{none}
 use Prim.Native.Nat.{ℕ, _≤_, _-_}
 use native.Mathlib.Omega.{arith}
 use lib.Ieee.{Float, le}
@@ -12,10 +12,8 @@ use Rattle.leaves.specs.Loops.{firstTo, tab, nth}
 use Rattle.leaves.proofs.Loops.{at-end}
 use Rattle.matrix.specs.Matrix.{Matrix}
 use Rattle.matrix.proofs.First.{first-none, first-more, first-at}
-use Rattle.estimators.specs.Refusals.{Check, whenSome}
 use Rattle.estimators.specs.Sample.{constantAsset}
 use Rattle.estimators.specs.LedoitWolf.{deviationOf}
-use Rattle.estimators.specs.declared.Refusal.the-variants.{ZeroVariance}
 use Rattle.estimators.proofs.Stored.{tab-nth}
 use Rattle.estimators.proofs.Constant.{constant-ext}
 use Rattle.estimators.proofs.bayes_stein.constant_asset.Statement.{statement}

@@ -1,5 +1,4 @@
 -- `estimators::bayes_stein::is_singular` meets its contract.
-use mathlib.Core.Path.{_≡_}
 use lib.Ieee.{le, ofBits}
 use borrow.Author.Needs.{needs}
 use Rattle.leaves.specs.Numbers.{_⊗_, ε}

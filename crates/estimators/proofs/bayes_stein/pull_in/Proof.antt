@@ -14,7 +14,6 @@ use Rattle.matrix.specs.Matrix.{Matrix}
 use Rattle.matrix.specs.Jacobi.{Decomposition}
 use Rattle.estimators.specs.BayesStein.{Pull, bayesSteinPull, ratioOf, distanceOf, pulledBy}
 use Rattle.estimators.specs.Gather.{Gathered}
-use Rattle.estimators.specs.Stein.{pullOf}
 use Rattle.estimators.proofs.Stored.{tab-nth}
 use Rattle.estimators.proofs.Exponents.{read}
 use Rattle.estimators.proofs.Gathered.{gathered-as}

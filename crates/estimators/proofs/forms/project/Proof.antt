@@ -1,5 +1,4 @@
 -- `estimators::forms::project` meets its contract. The invariant: every projection passed.
-use mathlib.Core.Path.{_≡_}
 use Prim.Native.Nat.{_-_}
 use native.Mathlib.Omega.{arith}
 use borrow.Author.Needs.{needs}

@@ -1,5 +1,5 @@
 -- `estimators::forms::ratio` meets its contract: two forms of the projections.
-use mathlib.Core.Path.{_≡_, _∙_}
+use mathlib.Core.Path.{_≡_}
 use mathlib.Core.List.{List}
 use Prim.Native.Nat.{ℕ}
 use lib.Ieee.{Float}

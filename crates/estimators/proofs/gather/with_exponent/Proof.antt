@@ -1,10 +1,10 @@
 -- `estimators::gather::with_exponent` meets its contract: each return is the case of `withExponent` that the test picks.
-use mathlib.Core.Path.{_≡_, ap, _∙_}
+use mathlib.Core.Path.{_≡_}
 use mathlib.Core.Bool.{Bool, true, false, cond}
 use mathlib.Core.Option.{Option, none, some}
-use Prim.Native.Nat.{ℕ, _+_, _≤_}
+use Prim.Native.Nat.{_≤_}
 use native.Mathlib.Omega.{arith}
-use lib.IntN.{ℤ, negℤ, natAbs, _+ℤ_, _-ℤ_}
+use lib.IntN.{ℤ, negℤ, natAbs, _-ℤ_}
 use lib.Signed.{ltZ}
 use lib.Ieee.{Float, eq, ofBits}
 use borrow.Author.Needs.{needs}

@@ -1,12 +1,12 @@
 -- `estimators::given::decompose` meets its contract: each return is the case of `decomposeGiven` that the test picks.
 use mathlib.Core.Path.{_≡_, refl, sym, ap, _∙_}
-use mathlib.Core.Bool.{Bool, true, false}
+use mathlib.Core.Bool.{true, false}
 use mathlib.Core.List.{List}
 use Prim.Native.Nat.{ℕ, _*_}
 use lib.ListN.{length}
 use lib.Ieee.{Float, lt, div, ofBits}
 use Rattle.leaves.specs.Numbers.{_⊘_, zero⁺}
-use Rattle.matrix.specs.Matrix.{Matrix, at, rows, amax}
+use Rattle.matrix.specs.Matrix.{at, rows, amax}
 use Rattle.matrix.specs.Jacobi.{Decomposition, decompose, unturned}
 use Rattle.estimators.specs.Given.{decomposeGiven}
 use Rattle.estimators.proofs.Entries.{mapped-at}

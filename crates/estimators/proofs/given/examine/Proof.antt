@@ -1,5 +1,5 @@
 -- `estimators::given::examine` meets its contract: the average, and the first check that `check_entries` and `take_apart` leave.
-use mathlib.Core.Path.{_≡_, sym, ap, _∙_}
+use mathlib.Core.Path.{_≡_, ap, _∙_}
 use mathlib.Core.Bool.{not}
 use mathlib.Core.List.{List, [], _∷_}
 use Prim.Native.Nat.{ℕ}

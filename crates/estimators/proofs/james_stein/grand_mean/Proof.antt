@@ -1,13 +1,10 @@
 -- `estimators::james_stein::grand_mean` meets its contract: the sum over the count.
-use mathlib.Core.Path.{_≡_, sym, ap, _∙_}
-use Prim.Native.Nat.{ℕ}
+use mathlib.Core.Path.{_≡_, sym}
 use native.Mathlib.Omega.{arith}
-use lib.Ieee.{Float}
 use lib.ListN.{length}
 use lib.Seq.{length-take-le}
 use borrow.Author.Needs.{needs}
 use Rattle.leaves.specs.Numbers.{_⊘_}
-use Rattle.leaves.specs.Loops.{sumTo, nth}
 use Rattle.matrix.specs.Limits.{maxSide}
 use Rattle.estimators.specs.JamesStein.{grandMean}
 use Rattle.estimators.proofs.james_stein.grand_mean.Statement.{statement}

@@ -1,5 +1,5 @@
 -- `estimators::james_stein::intensity` meets its contract: the second case of the definition, number by number.
-use mathlib.Core.Path.{_≡_, sym, ap, _∙_}
+use mathlib.Core.Path.{_≡_}
 use mathlib.Core.Bool.{false}
 use mathlib.Core.List.{List}
 use Prim.Native.Nat.{ℕ, _^_, _<_}

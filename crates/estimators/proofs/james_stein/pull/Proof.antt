@@ -1,5 +1,5 @@
 -- `estimators::james_stein::pull` meets its contract: each return is the case of `decomposeUneven` that the test picks.
-use mathlib.Core.Path.{_≡_, sym, ap, _∙_}
+use mathlib.Core.Path.{_≡_, sym, _∙_}
 use mathlib.Core.Bool.{Bool, true, false}
 use mathlib.Core.List.{List}
 use Prim.Native.Nat.{ℕ}

@@ -5,8 +5,7 @@ use native.Mathlib.Omega.{arith}
 use lib.ListN.{length}
 use lib.Ieee.{ofBits}
 use borrow.Author.Needs.{needs}
-use Rattle.leaves.specs.Numbers.{_⊖_}
-use Rattle.leaves.specs.Loops.{amaxTo, nth}
+use Rattle.leaves.specs.Loops.{nth}
 use Rattle.leaves.proofs.Loops.{amax-none, amax-turn, at-end}
 use Rattle.estimators.specs.JamesStein.{unevenness}
 use Rattle.estimators.proofs.james_stein.unevenness.Statement.{statement}

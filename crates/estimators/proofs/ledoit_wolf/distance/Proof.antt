@@ -1,7 +1,5 @@
 -- `estimators::ledoit_wolf::distance` meets its contract: what its two calls ensure, put together.
-use mathlib.Core.Path.{ap, _∙_}
-use mathlib.Core.List.{List}
-use lib.Ieee.{Float}
+use mathlib.Core.Path.{_∙_}
 use Rattle.leaves.specs.Numbers.{_⊖_}
 use Rattle.matrix.specs.Matrix.{at}
 use Rattle.estimators.proofs.Entries.{entrywise, squares-stored}

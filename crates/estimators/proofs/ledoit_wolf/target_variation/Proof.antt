@@ -1,5 +1,5 @@
 -- `estimators::ledoit_wolf::target_variation` meets its contract. The invariant: the sum of the rows passed.
-use mathlib.Core.Path.{_≡_, ap, _∙_}
+use mathlib.Core.Path.{_≡_, _∙_}
 use Prim.Native.Nat.{_≤_, _-_}
 use native.Mathlib.Omega.{arith}
 use Rattle.leaves.specs.Numbers.{_⊗_, _⊘_}

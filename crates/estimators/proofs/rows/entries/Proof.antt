@@ -1,5 +1,5 @@
 -- `estimators::rows::entries` meets its contract. The invariant: the numbers passed are formed.
-use Prim.Native.Nat.{ℕ, _-_}
+use Prim.Native.Nat.{_-_}
 use native.Mathlib.Omega.{arith}
 use borrow.Author.Needs.{needs}
 use lib.ListN.{length}

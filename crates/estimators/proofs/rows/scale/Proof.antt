@@ -1,6 +1,6 @@
 -- `estimators::rows::scale` meets its contract. The invariant: the numbers passed are scaled.
 use mathlib.Core.Path.{refl}
-use Prim.Native.Nat.{ℕ, _+_, _-_}
+use Prim.Native.Nat.{_+_, _-_}
 use native.Mathlib.Omega.{arith}
 use borrow.Author.Needs.{needs}
 use lib.ListN.{length}

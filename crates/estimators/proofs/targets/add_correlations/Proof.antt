@@ -6,7 +6,7 @@ use Rattle.leaves.specs.Numbers.{_⊘_}
 use Rattle.leaves.specs.Loops.{nth}
 use Rattle.leaves.proofs.Loops.{row, loop-start, loop-turn, at-end}
 use Rattle.matrix.specs.Matrix.{Matrix, at}
-use Rattle.matrix.specs.Inner.{addKept, sumRow}
+use Rattle.matrix.specs.Inner.{sumRow}
 use Rattle.estimators.specs.LedoitWolf.{apart}
 use borrow.Author.Needs.{needs}
 use Rattle.estimators.proofs.targets.add_correlations.Statement.{statement}

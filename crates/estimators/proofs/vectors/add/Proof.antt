@@ -1,5 +1,5 @@
 -- `estimators::vectors::add` meets its contract. The invariant: the numbers passed have theirs added.
-use Prim.Native.Nat.{ℕ, _-_}
+use Prim.Native.Nat.{_-_}
 use native.Mathlib.Omega.{arith}
 use borrow.Author.Needs.{needs}
 use lib.ListN.{length}

@@ -1,5 +1,5 @@
 -- `estimators::vectors::add_times` meets its contract. The invariant: the numbers passed have their product added.
-use Prim.Native.Nat.{ℕ, _-_}
+use Prim.Native.Nat.{_-_}
 use native.Mathlib.Omega.{arith}
 use borrow.Author.Needs.{needs}
 use lib.ListN.{length}

@@ -1,6 +1,5 @@
 -- `estimators::vectors::add_times2` meets its contract. The invariant: the numbers passed have their two products added.
-use mathlib.Core.Path.{_≡_}
-use Prim.Native.Nat.{ℕ, _≤_, _-_}
+use Prim.Native.Nat.{_-_}
 use native.Mathlib.Omega.{arith}
 use borrow.Author.Needs.{needs}
 use lib.ListN.{length}

@@ -1,5 +1,5 @@
 -- `estimators::vectors::copy` meets its contract. The invariant: the numbers passed are those of xs.
-use mathlib.Core.Path.{_≡_, refl, sym, _∙_}
+use mathlib.Core.Path.{refl, sym, _∙_}
 use Prim.Native.Nat.{_-_}
 use native.Mathlib.Omega.{arith}
 use lib.ListN.{length}

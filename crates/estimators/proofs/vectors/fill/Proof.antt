@@ -1,6 +1,6 @@
 -- `estimators::vectors::fill` meets its contract. The invariant: the numbers passed are x.
 use mathlib.Core.Path.{refl}
-use Prim.Native.Nat.{ℕ, _-_}
+use Prim.Native.Nat.{_-_}
 use native.Mathlib.Omega.{arith}
 use borrow.Author.Needs.{needs}
 use lib.ListN.{length}

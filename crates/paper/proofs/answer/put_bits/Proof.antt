@@ -1,5 +1,5 @@
 -- `paper::answer::put_bits` meets its contract, call after call.
-use mathlib.Core.Path.{_≡_, ap, _∙_}
+use mathlib.Core.Path.{ap, _∙_}
 use borrow.Author.Needs.{needs}
 use Rattle.paper.specs.Text.{write, digits}
 use Rattle.paper.proofs.Writes.{then}

@@ -1,5 +1,5 @@
 -- `paper::marking::examine` meets its contract: the returns and the given entries as floats, and their answer.
-use mathlib.Core.Path.{_≡_, ap, _∙_}
+use mathlib.Core.Path.{ap, _∙_}
 use Prim.Native.Nat.{_<_}
 use lib.ListN.{length}
 use lib.Dec.{lit<}
@@ -7,7 +7,6 @@ use borrow.Author.Needs.{needs}
 use Rattle.paper.specs.Grammar.{kinds, placeIn}
 use Rattle.paper.specs.Text.{write}
 use Rattle.paper.specs.Answer.{outcomeText}
-use Rattle.paper.specs.Marking.{answerOf}
 use Rattle.paper.proofs.Outlines.{sizes}
 use Rattle.paper.proofs.marking.examine.Statement.{statement}
 use Rattle.paper.proofs.marking.examine.Tie as tie

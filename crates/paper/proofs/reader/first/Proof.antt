@@ -1,5 +1,5 @@
 -- `paper::reader::first` meets its contract, test by test.
-use mathlib.Core.Path.{_≡_, sym, _∙_}
+use mathlib.Core.Path.{sym, _∙_}
 use borrow.Author.Needs.{needs}
 use Rattle.paper.proofs.Taking.{fits-in, first-yes, first-no}
 use Rattle.paper.proofs.reader.first.Statement.{statement}

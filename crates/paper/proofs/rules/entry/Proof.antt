@@ -1,5 +1,5 @@
 -- `paper::rules::entry` meets its contract; behind the last kind the definition has 0, as the code does.
-use mathlib.Core.Path.{_≡_, sym, ap}
+use mathlib.Core.Path.{sym, ap}
 use Prim.Native.Nat.{ℕ}
 use native.Mathlib.Omega.{arith}
 use lib.ListN.{getD, List·getD-eq-default}

@@ -1,6 +1,5 @@
 -- `paper::rules::well_formed` meets its contract, test by test.
 use mathlib.Core.Path.{sym, _∙_}
-use native.Mathlib.Omega.{arith}
 use borrow.Author.Tests.{eq-eqb, ne-eqb, not-true, not-false}
 use borrow.Author.Needs.{needs}
 use Rattle.paper.specs.Rules.{wellFormed}

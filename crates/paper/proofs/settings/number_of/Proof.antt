@@ -1,5 +1,5 @@
 -- `paper::settings::number_of` meets its contract, call after call.
-use mathlib.Core.Path.{_≡_, ap, _∙_}
+use mathlib.Core.Path.{ap, _∙_}
 use borrow.Author.Needs.{needs}
 use Rattle.leaves.specs.Numbers.{float}
 use Rattle.paper.proofs.settings.number_of.Statement.{statement}

@@ -1,5 +1,5 @@
 -- `paper::text::put_decimal` meets its contract: the twenty digits without the zeros in front are the number's own.
-use mathlib.Core.Path.{_≡_, refl, ap, _∙_}
+use mathlib.Core.Path.{ap, _∙_}
 use Rattle.paper.specs.Text.{write}
 use Rattle.paper.proofs.Digits.{all-but-zeros}
 use Rattle.paper.proofs.Writes.{then}

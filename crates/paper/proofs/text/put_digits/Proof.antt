@@ -1,6 +1,6 @@
 -- `paper::text::put_digits` meets its contract: the last of the digits that were filled in are those asked for.
 use Rattle.paper.proofs.Digits.{last-digits}
-use mathlib.Core.Path.{_≡_, refl, ap, _∙_}
+use mathlib.Core.Path.{refl, ap, _∙_}
 use Rattle.paper.specs.Text.{write}
 use native.Mathlib.Omega.{arith}
 use borrow.Author.Needs.{needs}

@@ -1,6 +1,6 @@
 -- `parts::jacobi::matrix_decompose` meets its contract: the first test that fails returns 2, and past all five `decompose` is called.
-use mathlib.Core.Path.{_≡_, refl}
-use mathlib.Core.Bool.{true, false, cond}
+use mathlib.Core.Path.{_≡_}
+use mathlib.Core.Bool.{false, cond}
 use mathlib.Core.List.{List, [], _∷_}
 use Prim.Native.Nat.{ℕ, _≤_, _*_}
 use native.Mathlib.Nat.{mul-le-mul}
