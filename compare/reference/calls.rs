@@ -74,13 +74,7 @@ pub fn james_stein_mean(
     limit: usize,
     answer: &mut [f64],
 ) -> Result<Shrunk, Refusal> {
-    check_shape(n, t)?;
-    check_lengths(returns, n, t, answer, n)?;
-    let data = Returns::new(Matrix::from_row_slice(t, n, returns))?;
-    check_limit(limit)?;
-    let (mean, report) = data.james_stein_mean(limit)?;
-    answer[..n].copy_from_slice(&mean);
-    Ok(report)
+    shrunk_mean(Returns::james_stein_mean, returns, n, t, limit, answer)
 }
 
 /// Fills the first `n` numbers of `answer`.
@@ -91,11 +85,25 @@ pub fn bayes_stein_mean(
     limit: usize,
     answer: &mut [f64],
 ) -> Result<Shrunk, Refusal> {
+    shrunk_mean(Returns::bayes_stein_mean, returns, n, t, limit, answer)
+}
+
+/// A mean that is shrunk by a decomposition, with a sweep limit.
+type Mean = fn(&Returns, usize) -> Result<(Vec<f64>, Shrunk), Refusal>;
+
+fn shrunk_mean(
+    mean: Mean,
+    returns: &[f64],
+    n: usize,
+    t: usize,
+    limit: usize,
+    answer: &mut [f64],
+) -> Result<Shrunk, Refusal> {
     check_shape(n, t)?;
     check_lengths(returns, n, t, answer, n)?;
     let data = Returns::new(Matrix::from_row_slice(t, n, returns))?;
     check_limit(limit)?;
-    let (mean, report) = data.bayes_stein_mean(limit)?;
+    let (mean, report) = mean(&data, limit)?;
     answer[..n].copy_from_slice(&mean);
     Ok(report)
 }
