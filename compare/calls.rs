@@ -4,6 +4,7 @@
 // with 1 where the two differ or a refusal never occurred.
 // Arguments: how many inputs of each range.
 
+mod argument;
 mod tally;
 
 use engine::calls::{adjusted_covariance, answered, ledoit_wolf};
@@ -37,13 +38,9 @@ fn main() {
     let mut wrong = 0;
     let mut refusals = [0; OWN];
     for (at, (name, assets, periods, otherwise)) in RANGES.into_iter().enumerate() {
-        let inputs = match std::env::args().nth(at + 1) {
-            Some(word) => word.parse().expect("a whole number"),
-            None => otherwise,
-        };
         let shapes = Shapes { assets, periods };
         let mut tally = Tally::new(&["differences"]);
-        for _ in 0..inputs {
+        for _ in 0..argument::whole(at + 1, otherwise) {
             compare(&draw(&random, &shapes), &mut tally);
         }
         println!("{name}");
@@ -67,11 +64,7 @@ fn compare(input: &Input, tally: &mut Tally) {
     let (ours, theirs) = ((Flat::of(&report), slice), answered(input));
     let number = ours.0.number as usize;
     tally.add(&input.call, number);
-    let filled = if number == ACCEPTED {
-        input.call.fills(input.n)
-    } else {
-        0
-    };
+    let filled = input.filled(number);
     if ours.0 != theirs.0 || all_bits(&ours.1, filled) != all_bits(&theirs.1, filled) {
         tally.add(&input.call, DIFFERENT);
         if tally.total(DIFFERENT) <= 3 {

@@ -2,6 +2,7 @@
 // Prints a line for each outcome with how many files had it, and ends with 1 if they ever differ.
 // Argument: how many files.
 
+mod argument;
 mod case6;
 
 use engine::exam::mark;
@@ -10,10 +11,7 @@ use generator::random::Random;
 use reference::exam::{exam, outcome};
 
 fn main() {
-    let files: usize = match std::env::args().nth(1) {
-        Some(word) => word.parse().expect("a whole number"),
-        None => 200_000,
-    };
+    let files = argument::whole(1, 200_000);
     let random = Random::new(9);
     let mut counts = [0usize; 16];
     let mut different = differs(&case6::PAPER, case6::TEXT) as usize;
@@ -33,10 +31,13 @@ fn main() {
     }
 }
 
+/// What include/engine.h says is always enough for a text.
+const ENOUGH: usize = 8192;
+
 /// Whether the engine prints another text, or writes behind it.
 fn differs(file: &[u8], text: &[u8]) -> bool {
     const UNTOUCHED: u8 = 0xA5;
-    let mut out = [UNTOUCHED; 8192];
+    let mut out = [UNTOUCHED; ENOUGH];
     let count = mark(file, &mut out);
     let same = out[..count] == *text && out[count..].iter().all(|&b| b == UNTOUCHED);
     if !same {

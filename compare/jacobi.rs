@@ -3,6 +3,8 @@
 // Prints a line for each kind of matrix, and ends with 1 if they ever differ.
 // Argument: how many matrices.
 
+mod argument;
+
 use engine::jacobi::decompose;
 use generator::matrices::KINDS;
 use generator::random::Random;
@@ -12,10 +14,7 @@ use reference::matrix::Matrix;
 use reference::{MAX_SWEEPS, MOST_ASSETS};
 
 fn main() {
-    let matrices: usize = match std::env::args().nth(1) {
-        Some(word) => word.parse().expect("a whole number"),
-        None => 26_000,
-    };
+    let matrices = argument::whole(1, 26_000);
     let random = Random::new(3);
     let mut different = 0;
     println!(

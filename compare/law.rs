@@ -4,6 +4,7 @@
 // grant are left out and counted. Prints a table for the copy and one for the engine, and ends with
 // 1 if a pair breaks the law. Argument: how many pairs.
 
+mod argument;
 mod tally;
 
 use generator::pairs::{draw_pair, Pair};
@@ -22,10 +23,7 @@ const BROKEN: usize = OWN + 1;
 const INDEFINITE: u32 = 12;
 
 fn main() {
-    let pairs: usize = match std::env::args().nth(1) {
-        Some(word) => word.parse().expect("a whole number"),
-        None => 40_000,
-    };
+    let pairs = argument::whole(1, 40_000);
     let mut broken = 0;
     let ways: [(&str, fn(&Input) -> Answer); 2] =
         [("copy", copy), ("engine", engine::calls::answered)];
@@ -73,12 +71,7 @@ fn holds(pair: &Pair, (one, first): &Answer, (other, second): &Answer) -> bool {
     if one.number != other.number {
         return false;
     }
-    let accepted = one.number as usize == ACCEPTED;
-    let filled = if accepted {
-        input.call.fills(input.n)
-    } else {
-        0
-    };
+    let filled = input.filled(one.number as usize);
     let power = match input.call {
         Call::AdjustedCovariance { .. } => 2 * k,
         _ => *k,

@@ -17,57 +17,69 @@ fn main() {
     let scalings = scalings(&random, &floats);
     let slices = slices(&random, &floats);
     let columns = columns(&random, &slices);
-    let mut exponents = floats.clone();
-    exponents.extend(logarithms(&random));
-    let mut squares = floats.clone();
-    squares.extend(squares_and_neighbours(&random));
 
     let mut table = Table { different: 0 };
     table.heading();
-    table.leaf("is_finite", &floats, |&x| {
+    of_one(&random, &floats, &mut table);
+    of_two(&pairs, &scalings, &mut table);
+    of_slices(&slices, &columns, &mut table);
+    if table.different > 0 {
+        std::process::exit(1);
+    }
+}
+
+fn of_one(random: &Random, floats: &[f64], table: &mut Table) {
+    let mut exponents = floats.to_vec();
+    exponents.extend(logarithms(random));
+    let mut squares = floats.to_vec();
+    squares.extend(squares_and_neighbours(random));
+    table.leaf("is_finite", floats, |&x| {
         (copy::is_finite(x), engine::is_finite(x))
+    });
+    table.leaf("binary_exponent", floats, |&x| {
+        (copy::binary_exponent(x), engine::binary_exponent(x))
     });
     let mut unary = |name: &str, inputs: &[f64], ours: fn(f64) -> f64, theirs: Leaf| {
         table.leaf(name, inputs, |&x| (bits(ours(x)), bits(theirs(x))));
     };
-    unary("abs", &floats, copy::abs, engine::abs);
-    unary("signum", &floats, copy::signum, engine::signum);
-    unary("min0", &floats, copy::min0, engine::min0);
-    unary("max0", &floats, copy::max0, engine::max0);
-    unary("clamp01", &floats, copy::clamp01, engine::clamp01);
+    unary("abs", floats, copy::abs, engine::abs);
+    unary("signum", floats, copy::signum, engine::signum);
+    unary("min0", floats, copy::min0, engine::min0);
+    unary("max0", floats, copy::max0, engine::max0);
+    unary("clamp01", floats, copy::clamp01, engine::clamp01);
     unary("sqrt", &squares, copy::sqrt, engine::sqrt);
     unary("exp", &exponents, copy::exp, engine::exp);
     unary("exp_m1", &exponents, copy::exp_m1, engine::exp_m1);
-    table.leaf("larger", &pairs, |&(x, y)| {
+}
+
+fn of_two(pairs: &[(f64, f64)], scalings: &[(f64, i32)], table: &mut Table) {
+    table.leaf("larger", pairs, |&(x, y)| {
         (bits(copy::larger(x, y)), bits(engine::larger(x, y)))
     });
-    table.leaf("smaller", &pairs, |&(x, y)| {
+    table.leaf("smaller", pairs, |&(x, y)| {
         (bits(copy::smaller(x, y)), bits(engine::smaller(x, y)))
     });
-    table.leaf("binary_exponent", &floats, |&x| {
-        (copy::binary_exponent(x), engine::binary_exponent(x))
-    });
-    table.leaf("pow2_scaled", &scalings, |&(x, k)| {
+    table.leaf("pow2_scaled", scalings, |&(x, k)| {
         let theirs = engine::pow2_scaled(x, k);
         (bits(copy::pow2_scaled(x, k)), bits(theirs))
     });
-    table.leaf("sum", &slices, |xs| {
+}
+
+fn of_slices(slices: &[Vec<f64>], columns: &[(&[f64], usize, usize)], table: &mut Table) {
+    table.leaf("sum", slices, |xs| {
         (bits(copy::sum(xs)), bits(engine::sum(xs)))
     });
-    table.leaf("amax", &slices, |xs| {
+    table.leaf("amax", slices, |xs| {
         (bits(copy::amax(xs)), bits(engine::amax(xs)))
     });
-    table.leaf("sum_column", &columns, |&(xs, n, j)| {
+    table.leaf("sum_column", columns, |&(xs, n, j)| {
         let theirs = engine::sum_column(xs, n, j);
         (bits(copy::sum_column(xs, n, j)), bits(theirs))
     });
-    table.leaf("amax_column", &columns, |&(xs, n, j)| {
+    table.leaf("amax_column", columns, |&(xs, n, j)| {
         let theirs = engine::amax_column(xs, n, j);
         (bits(copy::amax_column(xs, n, j)), bits(theirs))
     });
-    if table.different > 0 {
-        std::process::exit(1);
-    }
 }
 
 struct Table {

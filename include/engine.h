@@ -35,12 +35,12 @@ extern "C" {
     7  a bad setting                                   wholes[0]: 1 regularization, 2 shrinkage,
                                                        3 half-life, 4 threshold, 5 sweep limit
     8  Ledoit-Wolf with another estimate than the sample
-    9  a variance of 0                                 wholes[0]: the first column
+    9  a variance of 0, up to rounding                 wholes[0]: the first column
    10  given_len is not side * side, or side not assets  wholes[0]: the side
    11  the given matrix is not symmetric               wholes: the first row and column
    12  the given matrix has a negative eigenvalue      numbers[0]: that value
    13  the given matrix is not decomposed within the sweep limit
-   14  trace 0; a mean's decomposition fails; a singular correlation
+   14  trace 0; a mean's decomposition fails, or its correlation is not finite or singular
    16  a number that stands for no kind: this interface only, before all other causes
 
    (15 is the exam program's: a malformed paper.) */

@@ -43,31 +43,8 @@ pub fn draw_good(random: &Random, shapes: &Shapes) -> Input {
     let n = draw_count(random, &shapes.assets);
     let t = draw_count(random, &shapes.periods);
     let returns = draw_returns(random, n, t);
-    let call = match random.below(8) {
-        0..=3 => {
-            let settings = draw_settings(random);
-            let (given, side) = match settings.estimate {
-                Estimate::Given => (draw_given(random, n), n),
-                // Not read: anything may stand here.
-                _ => (vec![f64::NAN; random.below(3)], random.below(3)),
-            };
-            Call::AdjustedCovariance {
-                settings,
-                given,
-                side,
-            }
-        }
-        4 => Call::LedoitWolf(draw_target(random)),
-        5 => Call::ExponentiallyWeightedMean {
-            half_life: draw_half_life(random),
-        },
-        6 => Call::JamesSteinMean {
-            limit: draw_limit(random),
-        },
-        _ => Call::BayesSteinMean {
-            limit: draw_limit(random),
-        },
-    };
+    let covariance = || draw_covariance(random, n);
+    let call = draw_call(random, covariance, || draw_half_life(random));
     // What the answer slice holds before, and how much longer it is, must not matter.
     let answer = (0..call.fills(n) + random.below(3))
         .map(|_| f64::from_bits(random.bits()))
@@ -78,6 +55,41 @@ pub fn draw_good(random: &Random, shapes: &Shapes) -> Input {
         t,
         call,
         answer,
+    }
+}
+
+/// Any of the calls, the covariance as often as the others together.
+fn draw_call(
+    random: &Random,
+    covariance: impl FnOnce() -> Call,
+    half_life: impl FnOnce() -> f64,
+) -> Call {
+    match random.below(8) {
+        0..=3 => covariance(),
+        4 => Call::LedoitWolf(draw_target(random)),
+        5 => Call::ExponentiallyWeightedMean {
+            half_life: half_life(),
+        },
+        6 => Call::JamesSteinMean {
+            limit: draw_limit(random),
+        },
+        _ => Call::BayesSteinMean {
+            limit: draw_limit(random),
+        },
+    }
+}
+
+fn draw_covariance(random: &Random, n: usize) -> Call {
+    let settings = draw_settings(random);
+    let (given, side) = match settings.estimate {
+        Estimate::Given => (draw_given(random, n), n),
+        // Not read: anything may stand here.
+        _ => (vec![f64::NAN; random.below(3)], random.below(3)),
+    };
+    Call::AdjustedCovariance {
+        settings,
+        given,
+        side,
     }
 }
 

@@ -1,11 +1,11 @@
 // Pairs of inputs for the power-of-two law, within document 01's 'Scaling ranges': an input, and the
 // same one with its returns and threshold times 2^k, its given matrix and regularization times 2^2k.
 
-use crate::draw_count;
 use crate::given::product;
 use crate::random::Random;
 use crate::returns::set_column;
 use crate::settings::{draw_limit, draw_target};
+use crate::{draw_call, draw_count};
 use reference::covariance::{Estimate, Settings, Shrinkage};
 use reference::input::{Call, Input};
 use reference::leaves::{abs, pow2_scaled};
@@ -83,19 +83,8 @@ fn draw_input(random: &Random, k: i32) -> Input {
     let t = draw_count(random, &(2..=periods));
     let sizes = Sizes::within(40, k);
     let returns = draw_returns(random, n, t, &sizes);
-    let call = match random.below(8) {
-        0..=3 => draw_covariance(random, n, t, k),
-        4 => Call::LedoitWolf(draw_target(random)),
-        5 => Call::ExponentiallyWeightedMean {
-            half_life: draw_half_life(random, t),
-        },
-        6 => Call::JamesSteinMean {
-            limit: draw_limit(random),
-        },
-        _ => Call::BayesSteinMean {
-            limit: draw_limit(random),
-        },
-    };
+    let covariance = || draw_covariance(random, n, t, k);
+    let call = draw_call(random, covariance, || draw_half_life(random, t));
     let answer = vec![7.5; call.fills(n) + random.below(3)];
     Input {
         returns,
@@ -122,17 +111,23 @@ fn draw_returns(random: &Random, n: usize, t: usize, sizes: &Sizes) -> Vec<f64> 
         _ => sizes.fitted(pow2_scaled(random.bell(), unit)),
     };
     let mut returns: Vec<f64> = (0..t * n).map(entry).collect();
+    set_columns(random, &mut returns, n, sizes, unit);
+    returns
+}
+
+/// Sometimes sets a column or all of them, so that variances are 0 or means equal.
+fn set_columns(random: &Random, returns: &mut [f64], n: usize, sizes: &Sizes, unit: i32) {
     let j = random.below(n);
     match random.below(12) {
         0 | 1 => {
             let value = sizes.draw(random);
-            set_column(&mut returns, n, j, |_| value);
+            set_column(returns, n, j, |_| value);
         }
         2 => {
             // Constant but for the last digits: near the edge of zero variance.
             let step = random.pick(&[1e-9, 1e-10, 3e-11]);
             let nearly = |row| pow2_scaled(1.0 + step * (row % 2) as f64, unit);
-            set_column(&mut returns, n, j, |row| sizes.fitted(nearly(row)));
+            set_column(returns, n, j, |row| sizes.fitted(nearly(row)));
         }
         3 => {
             // One asset is another's negative: a singular covariance.
@@ -143,11 +138,11 @@ fn draw_returns(random: &Random, n: usize, t: usize, sizes: &Sizes) -> Vec<f64> 
         4 => {
             // Equal means: each column the first one's values, begun at another period.
             let first: Vec<f64> = returns.iter().step_by(n).copied().collect();
-            (1..n).for_each(|i| set_column(&mut returns, n, i, |row| first[(row + i) % t]));
+            let t = first.len();
+            (1..n).for_each(|i| set_column(returns, n, i, |row| first[(row + i) % t]));
         }
         _ => {}
     }
-    returns
 }
 
 fn draw_covariance(random: &Random, n: usize, t: usize, k: i32) -> Call {

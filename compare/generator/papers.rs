@@ -3,7 +3,7 @@
 
 use crate::random::Random;
 use crate::{draw, Shapes};
-use reference::covariance::{Estimate, Shrinkage, Target};
+use reference::covariance::{Estimate, Settings, Shrinkage, Target};
 use reference::exam::{FILE_ASSETS, FILE_PERIODS};
 use reference::input::{Call, Input};
 
@@ -52,21 +52,7 @@ fn write(random: &Random, input: &Input) -> Vec<u8> {
         } => {
             let is_given = matches!(settings.estimate, Estimate::Given);
             let limit = is_given.then_some(settings.limit);
-            if let Some(ridge) = settings.regularization {
-                numbers(&mut file, 3, &[ridge]);
-            }
-            match settings.shrinkage {
-                Shrinkage::Unshrunk => {}
-                Shrinkage::Fixed(intensity) => numbers(&mut file, 4, &[intensity]),
-                Shrinkage::LedoitWolf(target) => file.extend([5, target_byte(target)]),
-            }
-            match settings.estimate {
-                Estimate::Sample => {}
-                Estimate::Weighted(half_life) => numbers(&mut file, 6, &[half_life]),
-                Estimate::Semi => file.push(7),
-                Estimate::SemiBelow(threshold) => numbers(&mut file, 8, &[threshold]),
-                Estimate::Given => numbers(&mut file, 9, given),
-            }
+            adjustments(&mut file, settings, given);
             with_question(random, &mut file, limit, 0);
         }
         Call::LedoitWolf(target) => {
@@ -81,6 +67,25 @@ fn write(random: &Random, input: &Input) -> Vec<u8> {
         Call::BayesSteinMean { limit } => with_question(random, &mut file, Some(*limit), 3),
     }
     file
+}
+
+/// Kinds 3 to 9.
+fn adjustments(file: &mut Vec<u8>, settings: &Settings, given: &[f64]) {
+    if let Some(ridge) = settings.regularization {
+        numbers(file, 3, &[ridge]);
+    }
+    match settings.shrinkage {
+        Shrinkage::Unshrunk => {}
+        Shrinkage::Fixed(intensity) => numbers(file, 4, &[intensity]),
+        Shrinkage::LedoitWolf(target) => file.extend([5, target_byte(target)]),
+    }
+    match settings.estimate {
+        Estimate::Sample => {}
+        Estimate::Weighted(half_life) => numbers(file, 6, &[half_life]),
+        Estimate::Semi => file.push(7),
+        Estimate::SemiBelow(threshold) => numbers(file, 8, &[threshold]),
+        Estimate::Given => numbers(file, 9, given),
+    }
 }
 
 fn numbers(file: &mut Vec<u8>, kind: u8, numbers: &[f64]) {

@@ -28,17 +28,23 @@ pub fn draw_returns(random: &Random, n: usize, t: usize) -> Vec<f64> {
         }
         _ => entries(n, t, || random.pick(&[0.0, -0.0])),
     };
+    change_some(random, &mut returns, n);
+    returns
+}
+
+/// Sometimes sets a column to a constant, to nearly one or to another's multiple, or entries to 0.
+fn change_some(random: &Random, returns: &mut [f64], n: usize) {
     if random.chance(4) {
         let (j, value) = (
             random.below(n),
             random.pick(&[0.0, -0.0, 1.0, 0.1, -3e-310]),
         );
-        set_column(&mut returns, n, j, |_| value);
+        set_column(returns, n, j, |_| value);
     }
     if random.chance(3) {
         // Constant but for the last digits: near the edge of zero variance.
         let (j, step) = (random.below(n), random.pick(&[1e-9, 1e-10, 3e-11]));
-        set_column(&mut returns, n, j, |row| 1.0 + step * (row % 2) as f64);
+        set_column(returns, n, j, |row| 1.0 + step * (row % 2) as f64);
     }
     if n > 1 && random.chance(3) {
         // One asset is another's multiple: a singular covariance.
@@ -48,11 +54,10 @@ pub fn draw_returns(random: &Random, n: usize, t: usize) -> Vec<f64> {
         }
     }
     if random.chance(10) {
-        for _ in 0..1 + random.below(n * t) {
-            returns[random.below(n * t)] = random.pick(&[0.0, -0.0]);
+        for _ in 0..1 + random.below(returns.len()) {
+            returns[random.below(returns.len())] = random.pick(&[0.0, -0.0]);
         }
     }
-    returns
 }
 
 fn entries(n: usize, t: usize, entry: impl Fn() -> f64) -> Vec<f64> {

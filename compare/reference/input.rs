@@ -90,6 +90,15 @@ impl Input {
         Input::new(returns, n, call)
     }
 
+    /// How many numbers of the answer slice are filled where `number` is answered: 0 where the call
+    /// accepts, else a refusal's.
+    pub fn filled(&self, number: usize) -> usize {
+        match number {
+            0 => self.call.fills(self.n),
+            _ => 0,
+        }
+    }
+
     /// What the call reports, and the whole answer slice after it.
     pub fn answered(&self) -> (Result<Report, Refusal>, Vec<f64>) {
         let Input { returns, n, t, .. } = self;

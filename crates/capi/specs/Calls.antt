@@ -6,7 +6,8 @@ use lib.Dec.{ltb}
 use lib.Ieee.{Float}
 use Rattle.leaves.specs.Numbers.{zero⁺}
 use Rattle.estimators.specs.Calls.{Answered, answered, adjustedCovariance, ledoitWolfIntensity}
-use Rattle.capi.specs.Settings.{known, targetOf, settingsOf}
+use Rattle.paper.specs.Marking.{targetOf}
+use Rattle.capi.specs.Settings.{known, settingsOf}
 use Rattle.capi.specs.Report.{reported, reportOf}
 use Rattle.capi.specs.declared.report.Report.{Report}
 

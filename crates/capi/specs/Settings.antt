@@ -5,13 +5,12 @@ use lib.Dec.{ltb, eqb}
 use lib.Ieee.{Float}
 use Rattle.estimators.specs.declared.Estimate.{Estimate}
 use Rattle.estimators.specs.declared.Estimate.the-variants.{Sample, Given, Weighted, Semi, SemiBelow}
-use Rattle.estimators.specs.declared.Target.{Target}
-use Rattle.estimators.specs.declared.Target.the-variants.{ConstantVariance, ConstantCorrelation}
 use Rattle.estimators.specs.declared.Shrinkage.{Shrinkage}
 use Rattle.estimators.specs.declared.Shrinkage.the-variants.{Unshrunk, Fixed, LedoitWolf}
 use Rattle.estimators.specs.declared.Regularization.{Regularization}
 use Rattle.estimators.specs.declared.Regularization.the-variants.{Unregularized, Ridge}
 use Rattle.estimators.specs.declared.Settings.{Settings}
+use Rattle.paper.specs.Marking.{targetOf}
 
 -- the numbers that stand for a kind: five of an estimate, four of a shrinkage, two of a regularization
 unfoldable pub known : ℕ → ℕ → ℕ → Bool
@@ -19,9 +18,6 @@ known estimate shrinkage regularization = ltb estimate 5 && ltb shrinkage 4 && l
 
 unfoldable pub estimateOf : ℕ → Float → Estimate
 estimateOf kind x = cond (eqb kind 0) Sample (cond (eqb kind 1) Given (cond (eqb kind 2) (Weighted x) (cond (eqb kind 3) Semi (SemiBelow x))))
-
-unfoldable pub targetOf : ℕ → Target
-targetOf kind = cond (eqb kind 0) ConstantVariance ConstantCorrelation
 
 unfoldable pub shrinkageOf : ℕ → Float → Shrinkage
 shrinkageOf kind x = cond (eqb kind 0) Unshrunk (cond (eqb kind 1) (Fixed x) (LedoitWolf (targetOf (kind - 2))))

@@ -8,9 +8,12 @@ use crate::report::report_of;
 use crate::report::reported;
 use crate::settings::known;
 use crate::settings::settings_of;
-use crate::settings::target_of;
 use estimators::calls;
 
+// A number that stands for no kind, before all other causes.
+const UNKNOWN_KIND: u32 = 16;
+
+// x, y and z are the values that the kinds of estimate, shrinkage and regularization may have.
 #[no_mangle]
 pub extern "C" fn engine_adjusted_covariance(
     returns: &[f64],
@@ -32,7 +35,7 @@ pub extern "C" fn engine_adjusted_covariance(
     ensures { λ r. ⌜ Calls.left (Flat.handed r (now (numbers .exit)) (now (wholes .exit))) (now (answer .exit)) ≡ Calls.engineAdjustedCovariance (now (returns .entry)) assets periods estimate x shrinkage y regularization z limit (now (given .entry)) side (now (answer .entry)) ⌝ }
 {
     if !known(estimate, shrinkage, regularization) {
-        return hand_out(reported(16, 0.0, 0.0, 0, 0), numbers, wholes);
+        return hand_out(reported(UNKNOWN_KIND, 0.0, 0.0, 0, 0), numbers, wholes);
     }
     let settings = settings_of(estimate, x, shrinkage, y, regularization, z, limit);
     let told = calls::adjusted_covariance(returns, assets, periods, settings, given, side, answer);
@@ -51,9 +54,14 @@ pub extern "C" fn engine_ledoit_wolf(
     ensures { λ r. ⌜ Flat.handed r (now (numbers .exit)) (now (wholes .exit)) ≡ Calls.engineLedoitWolf (now (returns .entry)) assets periods target ⌝ }
 {
     if target >= 2 {
-        return hand_out(reported(16, 0.0, 0.0, 0, 0), numbers, wholes);
+        return hand_out(reported(UNKNOWN_KIND, 0.0, 0.0, 0, 0), numbers, wholes);
     }
-    let told = calls::ledoit_wolf(returns, assets, periods, target_of(target));
+    let told = calls::ledoit_wolf(
+        returns,
+        assets,
+        periods,
+        paper::settings::target(target as u64),
+    );
     hand_out(report_of(told), numbers, wholes)
 }
 

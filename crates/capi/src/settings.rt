@@ -5,7 +5,6 @@ use estimators::Estimate;
 use estimators::Regularization;
 use estimators::Settings;
 use estimators::Shrinkage;
-use estimators::Target;
 
 pub(crate) fn known(estimate: u32, shrinkage: u32, regularization: u32) -> bool
     ensures { λ r. ⌜ r ≡ Flat.known estimate shrinkage regularization ⌝ }
@@ -37,15 +36,6 @@ fn estimate_of(kind: u32, value: f64) -> Estimate
     Estimate::SemiBelow(value)
 }
 
-pub(crate) fn target_of(kind: u32) -> Target
-    ensures { λ r. ⌜ r ≡ Flat.targetOf kind ⌝ }
-{
-    if kind == 0 {
-        return Target::ConstantVariance;
-    }
-    Target::ConstantCorrelation
-}
-
 fn shrinkage_of(kind: u32, value: f64) -> Shrinkage
     ensures { λ r. ⌜ r ≡ Flat.shrinkageOf kind value ⌝ }
 {
@@ -55,7 +45,7 @@ fn shrinkage_of(kind: u32, value: f64) -> Shrinkage
     if kind == 1 {
         return Shrinkage::Fixed(value);
     }
-    Shrinkage::LedoitWolf(target_of(kind - 2))
+    Shrinkage::LedoitWolf(paper::settings::target((kind - 2) as u64))
 }
 
 fn regularization_of(kind: u32, value: f64) -> Regularization

@@ -14,24 +14,23 @@ use Rattle.leaves.specs.Scaling.{binaryExponent, pow2Scaled}
 use Rattle.leaves.proofs.Loops.{sum-ext, amax-ext, length-tab}
 use Rattle.matrix.specs.Matrix.{Matrix, at, rows, amax, trace, total, sumOver, every, Symmetric}
 use Rattle.matrix.proofs.Stored.{rows-at, rows-ext}
-use Rattle.estimators.specs.Sample.{mean, deviation, gram, scaled}
-use Rattle.estimators.specs.LedoitWolf.{apart, deviationOf, averageCorrelation, variation, covariation, targetVariation, error, distance, intensityOf, ledoitWolf, secondMoments}
+use Rattle.estimators.specs.Sample.{mean, deviation, gram, scaled, volatility}
+use Rattle.estimators.specs.LedoitWolf.{apart, averageCorrelation, variation, covariation, targetVariation, error, distance, intensityOf, ledoitWolf, secondMoments}
 use Rattle.estimators.specs.Rows.{inUnit, formed, rowsOf}
 use Rattle.estimators.specs.declared.Target.{Target}
 use Rattle.estimators.specs.declared.Target.the-variants.{ConstantVariance, ConstantCorrelation}
 use Rattle.estimators.specs.declared.rows.Row.the-variants.{Deviation, Scaled}
-use Rattle.estimators.proofs.Stored.{tab-nth}
-use Rattle.estimators.proofs.Entries.{sum-over-ext, stored}
+use Rattle.estimators.proofs.Stored.{nth-stored, at-stored}
+use Rattle.estimators.proofs.Entries.{sum-over-ext}
 use Rattle.leaves.proofs.Commutative.{product-comm}
-use Rattle.estimators.proofs.Samples.{unit-none}
+use Rattle.estimators.proofs.Samples.{gram-ext, row-bare}
 use Rattle.estimators.proofs.Largest.{amax-columns}
 
 -- ---- of numbers that are alike in T periods of n assets
 
 module _ (T n : ℕ) (z z′ : Matrix) (alike : (t i : ℕ) → t < T → i < n → z t i ≡ z′ t i) where
   moments-ext : secondMoments T n z ≡ secondMoments T n z′
-  unfolding gram
-  moments-ext = rows-ext n n _ _ (λ i j hi hj. ap (λ (g : Float). g ⊘ count T) (sum-ext T _ _ (λ t ht k. alike t i ht hi k ⊗ alike t j ht hj k)))
+  moments-ext = rows-ext n n _ _ (λ i j hi hj. ap (λ (g : Float). g ⊘ count T) (gram-ext T n z z′ alike i j hi hj))
 
   module _ (s : Matrix) where
     variation-ext : (i j : ℕ) → i < n → j < n → variation T z s i j ≡ variation T z′ s i j
@@ -51,8 +50,8 @@ module _ (T n : ℕ) (z z′ : Matrix) (alike : (t i : ℕ) → t < T → i < n 
     target-ext : targetVariation T n z s ≡ targetVariation T n z′ s
     unfolding targetVariation trace
     target-ext =
-        ap (sumOver n apart (λ i j. averageCorrelation n s ⊗ deviationOf s j ⊘ deviationOf s i ⊗ covariation T z s i j)) (sum-ext n _ _ (λ i h. variation-ext i i h h))
-        ∙ sum-over-ext n apart _ _ _ (λ i j hi hj k. averageCorrelation n s ⊗ deviationOf s j ⊘ deviationOf s i ⊗ covariation-ext i j hi hj k)
+        ap (sumOver n apart (λ i j. averageCorrelation n s ⊗ volatility s j ⊘ volatility s i ⊗ covariation T z s i j)) (sum-ext n _ _ (λ i h. variation-ext i i h h))
+        ∙ sum-over-ext n apart _ _ _ (λ i j hi hj k. averageCorrelation n s ⊗ volatility s j ⊘ volatility s i ⊗ covariation-ext i j hi hj k)
 
     error-ext : (F : Target) → error F T n z s ≡ error F T n z′ s
     unfolding error
@@ -80,16 +79,16 @@ gram-symmetric T z i j = sum-ext T _ _ (λ t h. product-comm (z t i) (z t j))
 
 pub moments-symmetric : (T n : ℕ) (z : Matrix) {s : List Float} → s ≡ secondMoments T n z → Symmetric n s
 moments-symmetric T n z e i j hi hj =
-    stored n (λ i j. gram T z i j ⊘ count T) e i j hi hj ∙ ap (λ (g : Float). g ⊘ count T) (gram-symmetric T z i j)
-    ∙ sym (stored n (λ i j. gram T z i j ⊘ count T) e j i hj hi)
+    at-stored n (λ i j. gram T z i j ⊘ count T) e i j hi hj ∙ ap (λ (g : Float). g ⊘ count T) (gram-symmetric T z i j)
+    ∙ sym (at-stored n (λ i j. gram T z i j ⊘ count T) e j i hj hi)
 
 -- ---- the numbers that the code forms
 
 module _ (T n : ℕ) (x : Matrix) {centers : List Float} (ec : centers ≡ tab n (mean T x)) where
   -- a return less its column's mean
   pub deviation-formed : (t i : ℕ) → i < n → rowsOf Deviation n [] centers [] x t i ≡ deviation T x t i
-  unfolding rowsOf formed deviation
-  deviation-formed t i h = λ k. unit-none n x t i h k ⊖ (ap (λ (l : List Float). nth l i) ec ∙ tab-nth (mean T x) n i h) k
+  unfolding formed deviation
+  deviation-formed t i h = row-bare Deviation n centers [] x t i h ∙ ap (λ (c : Float). x t i ⊖ c) (nth-stored n (mean T x) ec i h)
 
   pub scaled-formed : (near far : Float) (k : ℤ) → ((y : Float) → y ⊗ near ⊗ far ≡ pow2Scaled y k) → (t i : ℕ) → i < n → rowsOf (Scaled near far) n [] centers [] x t i ≡ pow2Scaled (deviation T x t i) k
   unfolding rowsOf formed
@@ -100,5 +99,5 @@ module _ (T n : ℕ) (x : Matrix) {centers : List Float} (ec : centers ≡ tab n
   largest-is {sizes} es em =
       em ∙ ap (λ (k : ℕ). amaxTo k (nth sizes)) (ap length es ∙ length-tab _ n)
       ∙ amax-ext n (nth sizes) (λ i. amaxTo T (λ t. deviation T x t i))
-      (λ i h. ap (λ (l : List Float). nth l i) es ∙ tab-nth _ n i h ∙ amax-ext T _ _ (λ t ht. deviation-formed t i h))
+      (λ i h. nth-stored n _ es i h ∙ amax-ext T _ _ (λ t ht. deviation-formed t i h))
       ∙ sym (amax-columns T n (deviation T x) (λ t i. unfold deviation in sub-fits binary64 (x t i) (mean T x i)))

@@ -1,23 +1,15 @@
 -- The rule for a constant asset looks at the first n volatilities and largest returns alone. Assumes nothing.
-use mathlib.Core.Path.{_≡_, refl, ap, _∙_}
+use mathlib.Core.Path.{_≡_, refl, ap}
 use mathlib.Core.List.{List}
-use mathlib.Core.Bool.{Bool, cond}
-use mathlib.Core.Option.{none, some}
-use Prim.Native.Nat.{ℕ, zero, suc, _<_}
-use native.Mathlib.Nat.{le-refl, le-step}
+use Prim.Native.Nat.{ℕ, _<_}
 use lib.Ieee.{Float, le}
 use Rattle.leaves.specs.Numbers.{_⊗_, 1e-10}
 use Rattle.leaves.specs.Loops.{firstTo, tab, nth}
 use Rattle.leaves.specs.Root.{sqrt}
+use Rattle.leaves.proofs.Loops.{first-ext}
 use Rattle.matrix.specs.Matrix.{Matrix, at, rows}
-use Rattle.matrix.proofs.Stored.{rows-at}
 use Rattle.estimators.specs.Sample.{constantAsset}
-use Rattle.estimators.proofs.Stored.{tab-nth}
-
-first-ext : (n : ℕ) (f g : ℕ → Bool) → ((k : ℕ) → k < n → f k ≡ g k) → firstTo n f ≡ firstTo n g
-unfolding firstTo
-first-ext zero f g h = refl
-first-ext (suc n) f g h = λ t. elim (first-ext n f g (λ k l. h k (le-step l)) t) [ none ↦ cond (h n (le-refl (suc n)) t) (some n) none | some k ↦ some k ]
+use Rattle.estimators.proofs.Stored.{nth-stored, at-stored}
 
 pub constant-ext : (n : ℕ) (v w x y : ℕ → Float) → ((i : ℕ) → i < n → v i ≡ w i) → ((i : ℕ) → i < n → x i ≡ y i)
     → firstTo n (λ i. le (v i) (1e-10 ⊗ x i)) ≡ firstTo n (λ i. le (w i) (1e-10 ⊗ y i))
@@ -27,10 +19,10 @@ constant-ext n v w x y h l = first-ext n (λ i. le (v i) (1e-10 ⊗ x i)) (λ i.
 pub constant-sizes : (n : ℕ) (s : Matrix) (f : ℕ → Float) (sizes : List Float) → sizes ≡ tab n f → constantAsset n s (nth sizes) ≡ constantAsset n s f
 unfolding constantAsset
 constant-sizes n s f sizes e =
-    constant-ext n (λ i. sqrt (s i i)) (λ i. sqrt (s i i)) (nth sizes) f (λ i h. refl) (λ i h. ap (λ (l : List Float). nth l i) e ∙ tab-nth f n i h)
+    constant-ext n (λ i. sqrt (s i i)) (λ i. sqrt (s i i)) (nth sizes) f (λ i h. refl) (nth-stored n f e)
 
 pub constant-stored : (n : ℕ) (s : Matrix) (f : ℕ → Float) (table : List Float) → table ≡ rows n n s → constantAsset n (at table n) f ≡ constantAsset n s f
 unfolding constantAsset
 constant-stored n s f table e =
     constant-ext n (λ i. sqrt (at table n i i)) (λ i. sqrt (s i i)) f f
-    (λ i h. ap sqrt (ap (λ (l : List Float). at l n i i) e ∙ rows-at s n n i i h h)) (λ i h. refl)
+    (λ i h. ap sqrt (at-stored n s e i i h h)) (λ i h. refl)

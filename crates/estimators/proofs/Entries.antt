@@ -12,17 +12,15 @@ use lib.Seq.{length-take-le, getD-set-same, getD-set-other}
 use lib.Ieee.{Float, nan}
 use Rattle.leaves.specs.Numbers.{_⊕_, _⊗_, zero⁺}
 use Rattle.leaves.specs.Loops.{tab, nth}
-use Rattle.leaves.proofs.Loops.{row, row-below, col-below, loop-ext, sum-ext, amax-ext, length-tab, tab-ext}
+use Rattle.leaves.proofs.Loops.{row, loop-ext, amax-ext, length-tab, tab-ext, tab-is}
 use Rattle.matrix.specs.Matrix.{Matrix, at, rows, trace, amax, sumOver, every, total, squares}
-use Rattle.matrix.proofs.Stored.{entry-at, length-rows, rows-at}
-use Rattle.estimators.proofs.Stored.{tab-nth, tab-is, replaced, row-replaced, passed, passed-more}
-
-pub rows-nth : (f : Matrix) (n k : ℕ) → k < n * n → nth (rows n n f) k ≡ f (k / n) (k % n)
-rows-nth f n k h = sym (entry-at (rows n n f) n k) ∙ rows-at f n n (k / n) (k % n) (row-below k n h) (col-below k n h)
+use Rattle.matrix.proofs.Stored.{entry-at, length-rows, rows-nth}
+use Rattle.estimators.proofs.Stored.{tab-nth, replaced, row-replaced, passed, passed-more, nth-stored, at-stored}
+use Rattle.matrix.proofs.Alike.{trace-alike}
 
 pub amax-rows : (f : Matrix) (n : ℕ) → amax n n (at (rows n n f) n) ≡ amax n n f
 unfolding amax
-amax-rows f n = amax-ext (n * n) (λ k. at (rows n n f) n (k / n) (k % n)) (λ k. f (k / n) (k % n)) (λ k h. entry-at (rows n n f) n k ∙ rows-nth f n k h)
+amax-rows f n = amax-ext (n * n) (λ k. at (rows n n f) n (k / n) (k % n)) (λ k. f (k / n) (k % n)) (λ k h. entry-at (rows n n f) n k ∙ rows-nth f n n k h)
 
 -- h of every entry, also past the end, where there is none
 pub mapped-at : (h : Float → Float) → h nan ≡ nan → (a : List Float) (n : ℕ) → length a ≡ n * n → at (rows n n (λ i j. h (at a n i j))) n ≡ (λ i j. h (at a n i j))
@@ -32,7 +30,7 @@ mapped-at h e a n l = λ t i j. number (i * n + j) t
     number k = go (ltb k (n * n)) refl
       where
         go : (b : Bool) → ltb k (n * n) ≡ b → nth (rows n n (λ i j. h (at a n i j))) k ≡ h (nth a k)
-        go true t = rows-nth (λ i j. h (at a n i j)) n k (ltb-true k (n * n) t) ∙ ap h (entry-at a n k)
+        go true t = rows-nth (λ i j. h (at a n i j)) n n k (ltb-true k (n * n) t) ∙ ap h (entry-at a n k)
         go false t =
             let past = ltb-false k (n * n) t in
             List·getD-eq-default (rows n n (λ i j. h (at a n i j))) nan (omega (arith, length-rows (λ i j. h (at a n i j)) n n))
@@ -40,7 +38,7 @@ mapped-at h e a n l = λ t i j. number (i * n + j) t
 
 -- a list of which number i is replaced
 pub set-tab : (f : ℕ → Float) (n i : ℕ) (v : Float) → i < n → set (tab n f) i v ≡ tab n (λ j. cond (eqb i j) v (f j))
-set-tab f n i v h = tab-is (set (tab n f) i v) n (λ j. cond (eqb i j) v (f j)) (length-set (tab n f) i v ∙ length-tab f n) (λ k b. go k b (eqb i k) refl)
+set-tab f n i v h = tab-is nan (set (tab n f) i v) n (λ j. cond (eqb i j) v (f j)) (length-set (tab n f) i v ∙ length-tab f n) (λ k b. go k b (eqb i k) refl)
   where
     go : (k : ℕ) → k < n → (b : Bool) → eqb i k ≡ b → nth (set (tab n f) i v) k ≡ cond b v (f k)
     go k b true e = let same : i ≡ k = eqb-true i k e in ap (λ (j : ℕ). nth (set (tab n f) i v) j) (sym same) ∙ getD-set-same (tab n f) i v nan (omega (arith, length-tab f n))
@@ -52,7 +50,7 @@ unfolding rows
 entrywise n f g xs {l} e e′ =
     e′ ∙ ap (λ (m : ℕ). tab m (λ k. g (nth xs k) (nth l k))) (ap length e ∙ length-rows f n n)
     ∙ tab-ext (λ k. g (nth xs k) (nth l k)) (λ k. g (at xs n (k / n) (k % n)) (f (k / n) (k % n))) (n * n)
-    (λ k h t. g (sym (entry-at xs n k) t) ((ap (λ (m : List Float). nth m k) e ∙ rows-nth f n k h) t))
+    (λ k h t. g (sym (entry-at xs n k) t) ((ap (λ (m : List Float). nth m k) e ∙ rows-nth f n n k h) t))
 
 -- ---- sums over a stored matrix
 
@@ -62,20 +60,16 @@ unfolding sumOver
 sum-over-ext n keep f g s h = loop-ext n _ _ s (λ i hi x. loop-ext n _ _ x (λ j hj y t. elim (keep i j) [ true ↦ y ⊕ h i j hi hj t | false ↦ y ]))
 
 module _ (n : ℕ) (f : Matrix) {l : List Float} (e : l ≡ rows n n f) where
-  pub stored : (i j : ℕ) → i < n → j < n → at l n i j ≡ f i j
-  stored i j hi hj = ap (λ (m : List Float). at m n i j) e ∙ rows-at f n n i j hi hj
-
   pub total-stored : total n (at l n) ≡ total n f
   unfolding total
-  total-stored = sum-over-ext n every (at l n) f zero⁺ stored
+  total-stored = sum-over-ext n every (at l n) f zero⁺ (at-stored n f e)
 
   pub squares-stored : squares n (at l n) ≡ squares n f
   unfolding squares
-  squares-stored = sum-over-ext n every (λ i j. at l n i j ⊗ at l n i j) (λ i j. f i j ⊗ f i j) zero⁺ (λ i j hi hj t. stored i j hi hj t ⊗ stored i j hi hj t)
+  squares-stored = sum-over-ext n every (λ i j. at l n i j ⊗ at l n i j) (λ i j. f i j ⊗ f i j) zero⁺ (λ i j hi hj t. at-stored n f e i j hi hj t ⊗ at-stored n f e i j hi hj t)
 
   pub trace-stored : trace n (at l n) ≡ trace n f
-  unfolding trace
-  trace-stored = sum-ext n (λ i. at l n i i) (λ i. f i i) (λ i h. stored i i h h)
+  trace-stored = trace-alike n (at l n) f (at-stored n f e)
 
 -- ---- row by row
 
@@ -90,5 +84,5 @@ passed-row n F old i out ys e hi ey =
     passed-more n F old i out e F (replaced (i * n) (i * n + n - i * n) out ys)
     (row-replaced n i 0 (i * n) (i * n + n - i * n) out ys (λ p q. cond (eqb p i) (F p q) (at out n p q)) (ap length e ∙ length-rows _ n n) hi zero-le (omega arith) (omega arith)
     (ap length ey ∙ length-tab (F i) n ∙ sym m) (λ p q hp hq h. rw (ne-eqb p i h)) (λ q h. absurd (not-suc-le-zero h))
-    (λ q h hq. rw (eq-eqb i i refl) (ap (nth ys) (sub-zero q) ∙ ap (λ (l : List Float). nth l q) ey ∙ tab-nth (F i) n q hq)))
+    (λ q h hq. rw (eq-eqb i i refl) (ap (nth ys) (sub-zero q) ∙ nth-stored n (F i) ey q hq)))
     (λ q h hq. refl)

@@ -62,8 +62,8 @@ module _ (k : ℤ) (size : natAbs k ≤ maxExponent) where
       ap (λ (y : Float). x ⊗ y ⊗ one) (e ∙ power k h l) ∙ times-one (x ⊗ pow2 k) (mul-fits binary64 x (pow2 k)) ∙ scale-last x k (cut-none k h l)
 
   -- the part of k that is cut off, and what is left
-  two : (j : ℤ) (near far : Float) → cut k ≡ j → (j ≡ k → ⊥) → near ≡ pow2Scaled one j → far ≡ pow2Scaled one (k -ℤ j) → Factored near far k
-  two j near far ej ne e e′ x =
+  two-factors : (j : ℤ) (near far : Float) → cut k ≡ j → (j ≡ k → ⊥) → near ≡ pow2Scaled one j → far ≡ pow2Scaled one (k -ℤ j) → Factored near far k
+  two-factors j near far ej ne e e′ x =
       let t = cut-range k .top in
       let b = cut-range k .bottom in
       let o = ap over ej in
@@ -80,12 +80,12 @@ module _ (k : ℤ) (size : natAbs k ≤ maxExponent) where
   pub low-factors : (near far : Float) → ltZ k (negsuc 1021) ≡ true → near ≡ pow2Scaled one (negsuc 1021) → far ≡ pow2Scaled one (k +ℤ pos 1022) → Factored near far k
   unfolding cut
   low-factors near far test e e′ =
-      two (negsuc 1021) near far (rw test) (λ h. absurd (omega (arith, lt-yes k (negsuc 1021) test, ap over h, ap under h))) e e′
+      two-factors (negsuc 1021) near far (rw test) (λ h. absurd (omega (arith, lt-yes k (negsuc 1021) test, ap over h, ap under h))) e e′
 
   pub high-factors : (near far : Float) → ltZ k (negsuc 1021) ≡ false → ltZ (pos 1023) k ≡ true → near ≡ pow2Scaled one (pos 1023) → far ≡ pow2Scaled one (k -ℤ pos 1023) → Factored near far k
   unfolding cut
   high-factors near far above test e e′ =
-      two (pos 1023) near far (rw (above, test)) (λ h. absurd (omega (arith, lt-yes (pos 1023) k test, ap over h, ap under h))) e e′
+      two-factors (pos 1023) near far (rw (above, test)) (λ h. absurd (omega (arith, lt-yes (pos 1023) k test, ap over h, ap under h))) e e′
 
 -- ---- a list of factors, one column more
 

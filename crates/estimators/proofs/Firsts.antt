@@ -1,11 +1,14 @@
 -- Laws of `first`, the first refusal of a list of checks. Assumes nothing.
-use mathlib.Core.Path.{_≡_, refl, ap, _∙_}
+use mathlib.Core.Path.{_≡_, refl, sym, ap, _∙_}
 use mathlib.Core.Bool.{Bool, true, false}
 use Prim.Native.Nat.{ℕ}
 use native.Mathlib.Omega.{arith}
 use mathlib.Core.List.{List, [], _∷_, _++_}
 use Rattle.estimators.specs.Refusals.{Check, passes, refuses, when, first}
 use Rattle.estimators.specs.declared.Refusal.{Refusal}
+
+pub passes-not : {c : Refusal} → passes ≡ refuses c → ⊥
+passes-not e = let z : _≡_ {A = ℕ} 0 1 = cc in absurd (omega arith)
 
 pub first-alone : (x : Check) → x ≡ first (x ∷ [])
 unfolding first
@@ -29,16 +32,21 @@ first-front [] ys = refl
 first-front (passes ∷ xs) ys = first-front xs ys
 first-front (refuses c ∷ xs) ys = refl
 
+-- earlier checks, by the answer that the code has of them
+pub first-then : (xs ys : List Check) {k : Check} → k ≡ first xs → first (k ∷ ys) ≡ first (xs ++ ys)
+first-then xs ys e = ap (λ (k : Check). first (k ∷ ys)) e ∙ sym (first-front xs ys)
+
+-- earlier checks and one more, as the code joins them
+pub first-with : (xs ys : List Check) {x y a k : Check} → x ≡ first xs → a ≡ y → k ≡ first (x ∷ a ∷ []) → first (k ∷ ys) ≡ first (xs ++ y ∷ ys)
+first-with xs ys {y = y} ex ea e = first-then (first xs ∷ y ∷ []) ys (e ∙ (λ t. first (ex t ∷ ea t ∷ []))) ∙ sym (first-front xs (y ∷ ys))
+
 -- a check that passes, with those after it
 pub first-passes : (b : Bool) (c : Refusal) (ys : List Check) → first (when b c ∷ ys) ≡ passes → (b ≡ false) × (first ys ≡ passes)
 unfolding first
 first-passes false c ys e = (refl, e)
-first-passes true c ys e = let z : _≡_ {A = ℕ} 0 1 = cc in absurd (omega arith)
+first-passes true c ys e = absurd (passes-not (sym e))
 
 pub first-rest : (x : Check) (ys : List Check) → first (x ∷ ys) ≡ passes → first ys ≡ passes
 unfolding first
 first-rest passes ys e = e
-first-rest (refuses c) ys e = let z : _≡_ {A = ℕ} 0 1 = cc in absurd (omega arith)
-
-pub passes-not : {c : Refusal} → passes ≡ refuses c → ⊥
-passes-not e = let z : _≡_ {A = ℕ} 0 1 = cc in absurd (omega arith)
+first-rest (refuses c) ys e = absurd (passes-not (sym e))

@@ -1,5 +1,4 @@
--- Second moments of rows that are alike in T periods of n columns: those that the code forms below a floor and with weights are the
--- definitions'. Assumes nothing.
+-- The second moments of the rows that the code forms below a floor and with weights: they are the definitions'. Assumes nothing.
 use mathlib.Core.Path.{_≡_, ap, _∙_}
 use mathlib.Core.List.{List, []}
 use Prim.Native.Nat.{ℕ, _*_, _<_}
@@ -8,50 +7,39 @@ use lib.Ieee.{Float}
 use Rattle.leaves.specs.Numbers.{_⊖_, _⊗_, _⊘_, count, min0}
 use Rattle.leaves.specs.Loops.{tab, nth}
 use Rattle.leaves.specs.Root.{sqrt}
-use Rattle.leaves.proofs.Loops.{sum-ext}
 use Rattle.matrix.specs.Matrix.{Matrix, rows}
 use Rattle.matrix.proofs.Stored.{rows-ext}
 use Rattle.estimators.specs.Sample.{gram}
 use Rattle.estimators.specs.Semi.{shortfall}
 use Rattle.estimators.specs.Weighted.{weights, denominator, weightedMean, weightedCovariance}
 use Rattle.estimators.specs.Rows.{formed, rowsOf}
-use Rattle.estimators.specs.declared.rows.Row.{Row}
 use Rattle.estimators.specs.declared.rows.Row.the-variants as Row
-use Rattle.estimators.proofs.Stored.{tab-nth}
+use Rattle.estimators.proofs.Stored.{nth-stored}
 use Rattle.estimators.proofs.Halves.{rows-over}
-use Rattle.estimators.proofs.Samples.{unit-none}
-
-pub gram-ext : (T n : ℕ) (y z : Matrix) → ((t i : ℕ) → t < T → i < n → y t i ≡ z t i) → rows n n (gram T y) ≡ rows n n (gram T z)
-unfolding gram
-gram-ext T n y z alike = rows-ext n n _ _ (λ i j hi hj. sum-ext T _ _ (λ t ht k. alike t i ht hi k ⊗ alike t j ht hj k))
-
--- rows without units
-bare : (row : Row) (n : ℕ) (centers weights : List Float) (x : Matrix) (t i : ℕ) → i < n → rowsOf row n [] centers weights x t i ≡ formed row (x t i) (nth centers i) (nth weights t)
-unfolding rowsOf
-bare row n centers weights x t i h = ap (λ (v : Float). formed row v (nth centers i) (nth weights t)) (unit-none n x t i h)
+use Rattle.estimators.proofs.Samples.{gram-ext, row-bare}
 
 -- below the floors f, over d
 pub below-over : (T n m d : ℕ) (x : Matrix) (f : ℕ → Float) {floors l : List Float} {y : Float} → m ≡ n * n → y ≡ count d → floors ≡ tab n f → l ≡ rows n n (gram T (rowsOf Row.Shortfall n [] floors [] x))
     → tab m (λ k. nth l k ⊘ y) ≡ rows n n (λ i j. gram T (shortfall f x) i j ⊘ count d)
 unfolding formed shortfall
 below-over T n m d x f {floors} {l} {y} em ey ef e =
-    rows-over (gram T (shortfall f x)) n m y l em (e ∙ gram-ext T n _ (shortfall f x) alike) ∙ ap (λ (c : Float). rows n n (λ i j. gram T (shortfall f x) i j ⊘ c)) ey
+    rows-over (gram T (shortfall f x)) n m y l em (e ∙ rows-ext n n _ _ (gram-ext T n _ (shortfall f x) alike)) ∙ ap (λ (c : Float). rows n n (λ i j. gram T (shortfall f x) i j ⊘ c)) ey
   where
     alike : (t i : ℕ) → t < T → i < n → rowsOf Row.Shortfall n [] floors [] x t i ≡ shortfall f x t i
-    alike t i ht hi = bare Row.Shortfall n floors [] x t i hi ∙ ap (λ (c : Float). min0 (x t i ⊖ c)) (ap (λ (l : List Float). nth l i) ef ∙ tab-nth f n i hi)
+    alike t i ht hi = row-bare Row.Shortfall n floors [] x t i hi ∙ ap (λ (c : Float). min0 (x t i ⊖ c)) (nth-stored n f ef i hi)
 
 -- with the weights of l
 pub weighted-alike : (T n m : ℕ) (l : Float) (x : Matrix) {w centers roots out : List Float} {d : Float} → m ≡ T → w ≡ weights T l → d ≡ denominator T l → centers ≡ tab n (weightedMean T w x)
     → roots ≡ tab m (λ t. sqrt (nth w t ⊘ d)) → out ≡ rows n n (gram T (rowsOf Row.Weighted n [] centers roots x)) → out ≡ rows n n (weightedCovariance T l x)
 unfolding weightedCovariance formed
 weighted-alike T n m l x {w} {centers} {roots} {out} {d} em ew ed ec er e =
-    e ∙ gram-ext T n _ (λ t a. (x t a ⊖ weightedMean T (weights T l) x a) ⊗ sqrt (nth (weights T l) t ⊘ denominator T l)) alike
+    e ∙ rows-ext n n _ _ (gram-ext T n _ (λ t a. (x t a ⊖ weightedMean T (weights T l) x a) ⊗ sqrt (nth (weights T l) t ⊘ denominator T l)) alike)
   where
     center : (i : ℕ) → i < n → nth centers i ≡ weightedMean T (weights T l) x i
-    center i h = ap (λ (l : List Float). nth l i) ec ∙ tab-nth (weightedMean T w x) n i h ∙ ap (λ (w : List Float). weightedMean T w x i) ew
+    center i h = nth-stored n (weightedMean T w x) ec i h ∙ ap (λ (w : List Float). weightedMean T w x i) ew
 
     root : (t : ℕ) → t < T → nth roots t ≡ sqrt (nth (weights T l) t ⊘ denominator T l)
-    root t h = ap (λ (l : List Float). nth l t) er ∙ tab-nth (λ t. sqrt (nth w t ⊘ d)) m t (omega arith) ∙ (λ k. sqrt (nth (ew k) t ⊘ ed k))
+    root t h = nth-stored m (λ t. sqrt (nth w t ⊘ d)) er t (omega arith) ∙ (λ k. sqrt (nth (ew k) t ⊘ ed k))
 
     alike : (t i : ℕ) → t < T → i < n → rowsOf Row.Weighted n [] centers roots x t i ≡ (x t i ⊖ weightedMean T (weights T l) x i) ⊗ sqrt (nth (weights T l) t ⊘ denominator T l)
-    alike t i ht hi = bare Row.Weighted n centers roots x t i hi ∙ (λ k. (x t i ⊖ center i hi k) ⊗ root t ht k)
+    alike t i ht hi = row-bare Row.Weighted n centers roots x t i hi ∙ (λ k. (x t i ⊖ center i hi k) ⊗ root t ht k)

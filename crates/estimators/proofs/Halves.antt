@@ -13,13 +13,13 @@ use Rattle.leaves.specs.Loops.{loop, sumTo, tab, nth}
 use Rattle.matrix.specs.Matrix.{Matrix, at, rows, Symmetric}
 use Rattle.leaves.proofs.Loops.{sum-ext}
 use Rattle.leaves.proofs.Commutative.{product-comm}
-use Rattle.matrix.proofs.Stored.{rows-at, rows-ext}
+use Rattle.matrix.proofs.Stored.{rows-ext}
 use Rattle.estimators.specs.Sample.{gram}
 use Rattle.estimators.specs.LedoitWolf.{variation, covariation}
 use Rattle.estimators.specs.Rows.{factor, joined, summand, start, plus}
 use Rattle.estimators.specs.declared.tables.Term.{Term}
 use Rattle.estimators.specs.declared.tables.Term.the-variants.{Product, Square, Cube}
-use Rattle.estimators.proofs.Stored.{tab-then}
+use Rattle.estimators.proofs.Stored.{at-stored, tab-then}
 use Rattle.estimators.proofs.Sums.{summed, start-low, whole-sum}
 use Rattle.estimators.proofs.Mirror.{mirrored}
 
@@ -36,7 +36,7 @@ module _ (term : Term) (s : Matrix) (n T′ : ℕ) (z : Matrix) where
     where
       kept : (i j : ℕ) → i < n → j < n → i ≤ j → at out n i j ≡ sums i j
       kept i j hi hj h =
-          ap (λ (l : List Float). at l n i j) e ∙ rows-at (λ i j. loop T′ (λ t. plus term s (z t) i j) zero⁺) n n i j hi hj
+          at-stored n (λ i j. loop T′ (λ t. plus term s (z t) i j) zero⁺) e i j hi hj
           ∙ whole-sum term s z T′ i j (le-trans (start-low term i) h)
 
       entry : (i j : ℕ) → i < n → j < n → (b : Bool) → ltb j i ≡ b → cond b (at out n j i) (at out n i j) ≡ sums i j

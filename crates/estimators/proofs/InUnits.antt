@@ -16,7 +16,7 @@ use Rattle.estimators.specs.Weighted.{weightedMean}
 use Rattle.estimators.specs.Rows.{formed, rowsOf}
 use Rattle.estimators.specs.Powers.{Units}
 use Rattle.estimators.specs.declared.rows.Row.the-variants as Row
-use Rattle.estimators.proofs.Stored.{tab-getD, tab-nth, tab-then}
+use Rattle.estimators.proofs.Stored.{getD-stored, nth-stored, tab-then}
 use Rattle.estimators.proofs.Samples.{unit-scaled}
 
 -- Σ wₜ xₜ / Σ wₜ in units of 2 ^ e
@@ -50,5 +50,4 @@ module _ (T n : ℕ) (x : Matrix) (es : List ℤ) (w : List Float) where
     where
       power : (i : ℕ) → i < n → getD es i (pos 0) ≡ binaryExponent (largest T x i)
       power i hi =
-          ap (λ (l : List ℤ). getD l i (pos 0)) ee ∙ tab-getD (λ k. binaryExponent (nth tops k)) m i (pos 0) (omega arith)
-          ∙ ap binaryExponent (ap (λ (l : List Float). nth l i) et ∙ tab-nth (largest T x) n i hi)
+          getD-stored m (λ k. binaryExponent (nth tops k)) (pos 0) ee i (omega arith) ∙ ap binaryExponent (nth-stored n (largest T x) et i hi)

@@ -12,13 +12,12 @@ use lib.Ieee.{Float, nan, inf, fin, binary64, lt, fits, isNan}
 use borrow.Author.Tests.{lt-ltb, le-ltb, ltb-true, ltb-false}
 use Rattle.leaves.specs.Numbers.{zero⁺, isFinite, abs, larger}
 use Rattle.leaves.specs.Loops.{loop, amaxTo}
-use Rattle.leaves.proofs.Loops.{cell, cell-row, cell-col}
+use Rattle.leaves.proofs.Loops.{cell, cell-row, cell-col, has-column}
 use Rattle.leaves.proofs.Units.{Top, Val, sign, mag, mag-val, mag-held, mag-abs, zero-mag, lt-val, val-unique}
 use Rattle.leaves.proofs.Signs.{sign-abs}
 use Rattle.leaves.proofs.Totals.{amax-one}
 use Rattle.leaves.proofs.Zero.{no}
 use Rattle.matrix.specs.Matrix.{Matrix, amax}
-use Rattle.matrix.proofs.Stored.{has-column}
 
 unfoldable height : Float → ℕ
 height nan = 0

@@ -7,11 +7,12 @@ use lib.Ieee.{Float, lt}
 use Rattle.leaves.specs.Numbers.{_⊖_, _⊗_, _⊘_, count, zero⁺, clamp01}
 use Rattle.leaves.specs.Loops.{tab, nth}
 use Rattle.matrix.specs.Matrix.{Matrix, at, rows, trace, total, sumOver}
-use Rattle.estimators.specs.LedoitWolf.{apart, deviationOf, averageCorrelation, variation, covariation, targetVariation, error, distance, intensityOf}
+use Rattle.estimators.specs.Sample.{volatility}
+use Rattle.estimators.specs.LedoitWolf.{apart, averageCorrelation, variation, covariation, targetVariation, error, distance, intensityOf}
 use Rattle.estimators.specs.declared.Target.{Target}
 use Rattle.estimators.specs.declared.Target.the-variants.{ConstantVariance, ConstantCorrelation}
-use Rattle.estimators.proofs.Stored.{tab-nth}
-use Rattle.estimators.proofs.Entries.{sum-over-ext, stored, total-stored, trace-stored}
+use Rattle.estimators.proofs.Stored.{tab-nth, at-stored}
+use Rattle.estimators.proofs.Entries.{sum-over-ext, total-stored, trace-stored}
 
 -- δ, from the error and γ
 pub intensity-is : (F : Target) (T n : ℕ) (z s : Matrix) {γ e r : Float} → γ ≡ distance F n s → e ≡ error F T n z s → r ≡ cond (lt zero⁺ γ) (clamp01 (e ⊘ count T ⊘ γ)) zero⁺ → r ≡ intensityOf F T n z s
@@ -27,15 +28,15 @@ module _ (T n : ℕ) (z s : Matrix) {π : List Float} (eπ : π ≡ rows n n (va
   unfolding error
   variance-error = ea ∙ total-stored n (variation T z s) eπ
 
-  pub correlation-error : {sd θ : List Float} {r ρ : Float} → sd ≡ tab n (deviationOf s) → r ≡ averageCorrelation n s → θ ≡ rows n n (covariation T z s)
+  pub correlation-error : {sd θ : List Float} {r ρ : Float} → sd ≡ tab n (volatility s) → r ≡ averageCorrelation n s → θ ≡ rows n n (covariation T z s)
       → ρ ≡ sumOver n apart (λ i j. r ⊗ nth sd j ⊘ nth sd i ⊗ at θ n i j) (trace n (at π n)) → all ⊖ ρ ≡ error ConstantCorrelation T n z s
   unfolding error targetVariation
   correlation-error {sd} {θ} {r} ed er eθ eρ = λ u. variance-error u ⊖ (eρ ∙ (λ t. sumOver n apart (λ i j. er t ⊗ nth (ed t) j ⊘ nth (ed t) i ⊗ at θ n i j) (trace-stored n (variation T z s) eπ t)) ∙ summed) u
     where
       v : ℕ → Float
-      v = nth (tab n (deviationOf s))
+      v = nth (tab n (volatility s))
 
       summed : sumOver n apart (λ i j. averageCorrelation n s ⊗ v j ⊘ v i ⊗ at θ n i j) (trace n (variation T z s)) ≡ targetVariation T n z s
       summed =
-          sum-over-ext n apart (λ i j. averageCorrelation n s ⊗ v j ⊘ v i ⊗ at θ n i j) (λ i j. averageCorrelation n s ⊗ deviationOf s j ⊘ deviationOf s i ⊗ covariation T z s i j) (trace n (variation T z s))
-          (λ i j hi hj t. averageCorrelation n s ⊗ tab-nth (deviationOf s) n j hj t ⊘ tab-nth (deviationOf s) n i hi t ⊗ stored n (covariation T z s) eθ i j hi hj t)
+          sum-over-ext n apart (λ i j. averageCorrelation n s ⊗ v j ⊘ v i ⊗ at θ n i j) (λ i j. averageCorrelation n s ⊗ volatility s j ⊘ volatility s i ⊗ covariation T z s i j) (trace n (variation T z s))
+          (λ i j hi hj t. averageCorrelation n s ⊗ tab-nth (volatility s) n j hj t ⊘ tab-nth (volatility s) n i hi t ⊗ at-stored n (covariation T z s) eθ i j hi hj t)

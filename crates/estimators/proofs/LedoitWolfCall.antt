@@ -1,44 +1,45 @@
--- The Ledoit-Wolf call from its parts, on returns of the right shape. Assumes nothing.
-use mathlib.Core.Path.{_≡_, sym, ap, _∙_}
-use mathlib.Core.List.{List, [], _∷_, _++_}
+-- The Ledoit-Wolf call: where its shape is refused, and from its parts on returns of the right shape. It is a call that fills nothing of an empty
+-- slice. Assumes nothing.
+use mathlib.Core.Path.{_≡_, refl, ap, _∙_}
+use mathlib.Core.List.{List, [], _∷_}
 use Prim.Native.Nat.{ℕ}
-use native.Mathlib.Omega.{arith}
 use lib.ListN.{length}
 use lib.Ieee.{Float}
+use Rattle.leaves.specs.Numbers.{zero⁺}
+use Rattle.leaves.specs.Loops.{fill, tab}
 use Rattle.matrix.specs.Matrix.{at}
 use Rattle.estimators.specs.Refusals.{Check, passes, refuses, first}
 use Rattle.estimators.specs.LedoitWolf.{ledoitWolf}
-use Rattle.estimators.specs.Order.{opening, noCorrelation, ledoitWolfOrder, byShape, byReturns}
+use Rattle.estimators.specs.Order.{noCorrelation, ledoitWolfOrder, byShape, byReturns}
 use Rattle.estimators.specs.Opening.{Shaped}
-use Rattle.estimators.specs.Calls.{answered, settle, ledoitWolfIntensity}
+use Rattle.estimators.specs.Calls.{Answered, settle, ledoitWolfIntensity}
 use Rattle.estimators.specs.declared.Target.{Target}
 use Rattle.estimators.specs.declared.Shrinkage.the-variants.{LedoitWolf}
 use Rattle.estimators.specs.declared.Refusal.{Refusal}
+use Rattle.estimators.specs.declared.Answer.{Answer}
 use Rattle.estimators.specs.declared.Answer.the-variants.{Refused, Intensity}
-use Rattle.estimators.proofs.Firsts.{first-front}
-use Rattle.estimators.proofs.Opened.{opened}
+use Rattle.estimators.proofs.Opened.{answerOf}
+use Rattle.estimators.proofs.Opened as Opened
 
 module _ (r : List Float) (n T : ℕ) (F : Target) where
-  abbrev last : List Check
-  last = noCorrelation (LedoitWolf F) T n (at r n) ∷ []
+  abbrev intensity : Answer
+  intensity = Intensity (ledoitWolf F T n (at r n))
 
-  abbrev intensity : Float
-  intensity = ledoitWolf F T n (at r n)
+  abbrev numbers : ℕ → Float
+  numbers i = zero⁺
+
+  -- the answer of a call that fills an empty slice
+  call : {a : Answered} → a ≡ answerOf r n T 0 [] (noCorrelation (LedoitWolf F) T n (at r n) ∷ []) intensity numbers [] → a .answer ≡ ledoitWolfIntensity r n T F
+  unfolding ledoitWolfIntensity ledoitWolfOrder fill tab
+  call e = ap (λ (a : Answered). a .answer) e
 
   pub shape-refuses : {c : Refusal} → refuses c ≡ first (byShape (length r) n T 0 0) → Refused c ≡ ledoitWolfIntensity r n T F
-  unfolding ledoitWolfIntensity ledoitWolfOrder first settle opening
-  shape-refuses e =
-      ap (λ (k : Check). settle (first (k ∷ byReturns T n (at r n) ++ last)) [] (answered (Intensity intensity) []) .answer) e
-      ∙ ap (λ (k : Check). settle k [] (answered (Intensity intensity) []) .answer) (sym (first-front (byShape (length r) n T 0 0) (byReturns T n (at r n) ++ last)))
+  shape-refuses e = call (Opened.shape-refuses r n T 0 [] _ intensity numbers e)
 
-  module _ (shape : Shaped (length r) n T) {k opens apart : Check} (eo : opens ≡ first (byReturns T n (at r n))) (ea : apart ≡ noCorrelation (LedoitWolf F) T n (at r n)) (ek : k ≡ first (opens ∷ apart ∷ [])) where
-    checked : k ≡ first (opening r n T 0 [] ++ last)
-    checked = ek ∙ ap (λ (a : Check). first (opens ∷ a ∷ [])) ea ∙ ap (λ (o : Check). first (o ∷ last)) eo ∙ sym (first-front (byReturns T n (at r n)) last) ∙ sym (opened r n T 0 [] last shape (omega arith))
-
+  module _ (shape : Shaped (length r) n T) {k opens apart : Check} (is-opens : opens ≡ first (byReturns T n (at r n))) (is-apart : apart ≡ noCorrelation (LedoitWolf F) T n (at r n)) (is-k : k ≡ first (opens ∷ apart ∷ [])) where
     pub refused : {c : Refusal} → k ≡ refuses c → Refused c ≡ ledoitWolfIntensity r n T F
-    unfolding ledoitWolfIntensity ledoitWolfOrder settle
-    refused h = ap (λ (k : Check). settle k [] (answered (Intensity intensity) []) .answer) (sym h ∙ checked)
+    refused h = call (Opened.setting-refused r n T 0 [] shape refl is-opens is-apart is-k [] intensity numbers h)
 
-    pub accepted : {d : Float} → k ≡ passes → d ≡ intensity → Intensity d ≡ ledoitWolfIntensity r n T F
-    unfolding ledoitWolfIntensity ledoitWolfOrder settle
-    accepted h e = ap Intensity e ∙ ap (λ (k : Check). settle k [] (answered (Intensity intensity) []) .answer) (sym h ∙ checked)
+    pub accepted : {d : Float} → k ≡ passes → d ≡ ledoitWolf F T n (at r n) → Intensity d ≡ ledoitWolfIntensity r n T F
+    unfolding first settle
+    accepted h e = ap Intensity e ∙ call (Opened.setting-accepted r n T 0 [] shape refl is-opens is-apart is-k [] intensity numbers h)

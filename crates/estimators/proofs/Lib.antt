@@ -9,7 +9,6 @@ pub mod Firsts
 pub mod Opened
 pub mod Estimated
 pub mod LedoitWolfCall
-pub mod Shapes
 pub mod Entries
 pub mod Largest
 pub mod LedoitWolf
@@ -23,5 +22,4 @@ pub mod Constant
 pub mod Grams
 pub mod InUnits
 pub mod Room
-pub mod MomentsExt
-pub mod SteinCalls
+pub mod MeanCalls

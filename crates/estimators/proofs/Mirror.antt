@@ -14,8 +14,8 @@ use Rattle.leaves.specs.Loops.{nth}
 use Rattle.leaves.proofs.Whole.{le-or-lt}
 use Rattle.leaves.proofs.Loops.{row, cell-row, cell-col}
 use Rattle.matrix.specs.Matrix.{Matrix, at, rows}
-use Rattle.matrix.proofs.Stored.{rows-at}
-use Rattle.estimators.proofs.Stored.{rows-is, passed, passed-before, passed-here, passed-more}
+use Rattle.matrix.proofs.Stored.{rows-is}
+use Rattle.estimators.proofs.Stored.{passed, passed-before, passed-here, passed-more, at-stored}
 
 abbrev pub mirrored : ℕ → List Float → Matrix
 mirrored n old p q = cond (ltb q p) (at old n q p) (at old n p q)
@@ -37,7 +37,7 @@ module _ (n i : ℕ) (old : List Float) where
     next = set out (i * n + j) (nth out (j * n + i))
 
     was : (p q : ℕ) → p < n → q < n → at out n p q ≡ mirroredTo n i j old p q
-    was p q hp hq = ap (λ (l : List Float). at l n p q) e ∙ rows-at (mirroredTo n i j old) n n p q hp hq
+    was = at-stored n (mirroredTo n i j old) e
 
     -- the cell that is read lies above the diagonal, in another row
     new : at next n i j ≡ at old n j i

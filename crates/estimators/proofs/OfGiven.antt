@@ -1,32 +1,105 @@
--- Laws of the checks of a given matrix: their two parts, and what holds where those of the sizes pass. Assumes nothing.
-use mathlib.Core.Path.{_≡_}
-use mathlib.Core.Bool.{true, not}
+-- Laws of a given matrix's checks: their two parts, what holds where those of the sizes pass, and what they answer by the parts that the code has.
+-- Assumes nothing.
+use mathlib.Core.Path.{_≡_, refl, sym, ap, _∙_}
+use mathlib.Core.Bool.{true, false, not}
 use mathlib.Core.List.{List, _++_}
 use Prim.Native.Nat.{ℕ, _*_, _<_, _≤_}
 use native.Mathlib.Omega.{arith}
 use borrow.Author.Tests.{eqb-true, eqb-false, ltb-false, not-false}
 use lib.Dec.{eqb, ltb}
-use lib.ListN.{length}
+use lib.ListN.{length, take}
 use lib.Ieee.{Float}
 use Rattle.matrix.specs.Limits.{maxSide, maxSweeps}
 use Rattle.matrix.specs.Matrix.{at}
-use Rattle.matrix.specs.Jacobi.{Decomposition}
-use Rattle.estimators.specs.Refusals.{passes, first}
-use Rattle.estimators.specs.Adjusted.{isGiven}
+use Rattle.matrix.specs.Jacobi.{Decomposition, unturned}
+use Rattle.estimators.specs.Refusals.{Check, passes, refuses, first}
+use Rattle.estimators.specs.Given.{decomposeGiven, averagedOf}
+use Rattle.estimators.specs.Adjusted.{isGiven, decompositionOf}
 use Rattle.estimators.specs.Order.{sweepLimit, ofGiven, bySizes, byNumbers}
+use Rattle.estimators.specs.Checks.{examined}
+use Rattle.estimators.specs.Estimated.{decompositionBy, ofGivenBy}
 use Rattle.estimators.specs.declared.Settings.{Settings}
-use Rattle.estimators.proofs.Firsts.{first-passes}
+use Rattle.estimators.specs.declared.Refusal.{Refusal}
+use Rattle.estimators.specs.declared.given.Examined as Examined
+use Rattle.estimators.specs.declared.given.Examined.the-variants as Found
+use Rattle.estimators.proofs.Firsts.{first-passes, first-then}
 
-pub of-given : (s : Settings) (g : List Float) (n : ℕ) (d : Decomposition) → isGiven (s .estimate) ≡ true → ofGiven s g n d ≡ bySizes (s .limit) (length g) n ++ byNumbers n (at g n) d
+of-given : (s : Settings) (g : List Float) (n : ℕ) (d : Decomposition) → isGiven (s .estimate) ≡ true → ofGiven s g n d ≡ bySizes (s .limit) (length g) n ++ byNumbers n (at g n) d
 unfolding ofGiven
 of-given s g n d e = rw (ofGiven, e)
 
-pub sizes-pass : (limit size n : ℕ) → first (bySizes limit size n) ≡ passes → (limit ≤ maxSweeps) × (0 < n) × (n ≤ maxSide) × (size ≡ n * n)
+pub sizes-pass : (limit size n : ℕ) {k : Check} → k ≡ passes → k ≡ first (bySizes limit size n) → (limit ≤ maxSweeps) × (0 < n) × (n ≤ maxSide) × (size ≡ n * n)
 unfolding sweepLimit
-sizes-pass limit size n e =
-    let a = first-passes (ltb maxSweeps limit) _ _ e in
+sizes-pass limit size n pass e =
+    let a = first-passes (ltb maxSweeps limit) _ _ (sym e ∙ pass) in
     let b = first-passes (eqb n 0) _ _ (a .1) in
     let c = first-passes (ltb maxSide n) _ _ (b .1) in
     let d = first-passes (not (eqb size (n * n))) _ _ (c .1) in
     let some = eqb-false n 0 (b .0) in
     (ltb-false _ _ (a .0), omega (arith, some), ltb-false _ _ (c .0), eqb-true _ _ (not-false _ (d .0)))
+
+-- ---- what the code found
+
+pub examined-refused : (k : Check) (d : Decomposition) {c : Refusal} → Found.Refused c ≡ examined k d → refuses c ≡ k
+examined-refused passes d e = let z : _≡_ {A = ℕ} 0 1 = cc in absurd (omega arith)
+examined-refused (refuses c) d e = ap refusal e
+  where
+    refusal : Examined.Examined → Check
+    refusal (Found.Refused c) = refuses c
+    refusal (Found.Accepted m k) = passes
+
+pub examined-accepted : (k : Check) (d : Decomposition) {m j : ℕ} → Found.Accepted m j ≡ examined k d → (passes ≡ k) × (m ≡ d .sweeps) × (j ≡ d .rotations)
+examined-accepted passes d e = (refl, ap sweeps e, ap rotations e)
+  where
+    sweeps : Examined.Examined → ℕ
+    sweeps (Found.Refused c) = 0
+    sweeps (Found.Accepted m j) = m
+
+    rotations : Examined.Examined → ℕ
+    rotations (Found.Refused c) = 0
+    rotations (Found.Accepted m j) = j
+examined-accepted (refuses c) d e = let z : _≡_ {A = ℕ} 0 1 = cc in absurd (omega arith)
+
+-- a given matrix of the returns' side, read from the table
+pub same-side : (side n : ℕ) (l g : List Float) → take (side * side) l ≡ g → side ≡ n → at (take (n * n) l) n ≡ at g side
+same-side side n l g h e = ap (λ (m : ℕ). at (take (m * m) l) m) (sym e) ∙ ap (λ (t : List Float). at t side) h
+
+-- ---- the checks of the sizes, then those of the numbers
+
+module _ (s : Settings) (given : List Float) (side : ℕ) where
+  -- nothing is looked at for the other estimates
+  pub none-given : isGiven (s .estimate) ≡ false → Found.Accepted 0 0 ≡ examined (first (ofGivenBy s given side)) (decompositionBy s given side)
+  unfolding first ofGiven decompositionOf unturned
+  none-given e = rw (ofGiven, decompositionOf, e)
+
+  abbrev limit : ℕ
+  limit = s .limit
+
+  abbrev parts : Decomposition
+  parts = decomposeGiven limit side (at (averagedOf given side) side)
+
+  -- the decomposition of a given matrix is its own
+  by-given : isGiven (s .estimate) ≡ true → decompositionBy s given side ≡ parts
+  unfolding decompositionOf
+  by-given e = rw (decompositionOf, e)
+
+  checks-given : isGiven (s .estimate) ≡ true → first (ofGivenBy s given side) ≡ first (bySizes limit (length given) side ++ byNumbers side (at given side) parts)
+  checks-given e = ap first (of-given s given side (decompositionBy s given side) e ∙ ap (λ (d : Decomposition). bySizes limit (length given) side ++ byNumbers side (at given side) d) (by-given e))
+
+  pub sizes-refuse : {c : Refusal} → isGiven (s .estimate) ≡ true → refuses c ≡ first (bySizes limit (length given) side)
+      → (Found.Refused c ≡ examined (first (ofGivenBy s given side)) (decompositionBy s given side)) × (first (ofGivenBy s given side) ≡ refuses c)
+  unfolding first
+  sizes-refuse {c} e h =
+      let rest = byNumbers side (at given side) parts in
+      let refused : first (ofGivenBy s given side) ≡ refuses c = checks-given e ∙ sym (first-then (bySizes limit (length given) side) rest h) in
+      (ap (λ (k : Check). examined k (decompositionBy s given side)) (sym refused), refused)
+
+  pub sizes-fit : {k : Examined.Examined} {table : List Float} → isGiven (s .estimate) ≡ true → passes ≡ first (bySizes limit (length given) side) → table ≡ averagedOf given side
+      → k ≡ examined (first (byNumbers side (at given side) (decomposeGiven limit side (at table side)))) (decomposeGiven limit side (at table side))
+      → k ≡ examined (first (ofGivenBy s given side)) (decompositionBy s given side)
+  unfolding first
+  sizes-fit e h et ek =
+      let rest = byNumbers side (at given side) parts in
+      let last : first (ofGivenBy s given side) ≡ first rest = checks-given e ∙ sym (first-then (bySizes limit (length given) side) rest h) in
+      ek ∙ ap (λ (l : List Float). examined (first (byNumbers side (at given side) (decomposeGiven limit side (at l side)))) (decomposeGiven limit side (at l side))) et
+      ∙ ap (λ (k : Check). examined k parts) (sym last) ∙ ap (λ (d : Decomposition). examined (first (ofGivenBy s given side)) d) (sym (by-given e))

@@ -1,8 +1,8 @@
--- Laws of the calls' opening, 1 to 6: what holds where shapes and lengths pass, and that a call then looks only at as much of the answer slice as
--- its answer fills. Assumes nothing.
+-- Laws of the calls' opening, 1 to 6: what holds where shapes and lengths pass, and what a call answers, by the answers that the code has of its
+-- checks. A call looks only at as much of the answer slice as its answer fills. Assumes nothing.
 use mathlib.Core.Path.{_≡_, refl, sym, ap, _∙_}
-use mathlib.Core.Bool.{Bool, true, false, not, _||_}
-use mathlib.Core.List.{List, _++_, append-nil}
+use mathlib.Core.Bool.{Bool, true, false, not, _||_, true≢false}
+use mathlib.Core.List.{List, [], _∷_, _++_, append-nil}
 use Prim.Native.Nat.{ℕ, _*_, _≤_}
 use native.Mathlib.Omega.{arith}
 use borrow.Author.Tests.{eq-eqb, ne-eqb, le-ltb, eqb-true, eqb-false, ltb-false, not-false}
@@ -20,16 +20,16 @@ use Rattle.estimators.specs.Calls.{Answered, answered, settle}
 use Rattle.estimators.specs.declared.Refusal.{Refusal}
 use Rattle.estimators.specs.declared.Answer.{Answer}
 use Rattle.estimators.specs.declared.Answer.the-variants.{Refused}
-use Rattle.estimators.proofs.Firsts.{first-passes, first-front}
+use Rattle.estimators.proofs.Firsts.{first-passes, first-then, first-with}
 
 -- one of two tests that both fail
 neither : (a b : Bool) → (a || b) ≡ false → (a ≡ false) × (b ≡ false)
 neither false b e = (refl, e)
-neither true b e = let z : _≡_ {A = ℕ} 0 1 = cc in absurd (omega arith)
+neither true b e = absurd (true≢false e)
 
-pub shape-passes : (l n T m room : ℕ) → first (byShape l n T m room) ≡ passes → Shaped l n T × (m ≤ room)
-shape-passes l n T m room e =
-    let a = first-passes (eqb n 0) _ _ e in
+pub shape-passes : (l n T m room : ℕ) {k : Check} → k ≡ passes → k ≡ first (byShape l n T m room) → Shaped l n T × (m ≤ room)
+shape-passes l n T m room pass e =
+    let a = first-passes (eqb n 0) _ _ (sym e ∙ pass) in
     let b = first-passes (ltb maxSide n || ltb maxPeriods T) _ _ (a .1) in
     let c = first-passes (ltb T 2) _ _ (b .1) in
     let d = first-passes (not (eqb l (T * n)) || ltb room m) _ _ (c .1) in
@@ -44,6 +44,17 @@ pub opened : (r : List Float) (n T m : ℕ) (slice : List Float) (rest : List Ch
 unfolding first opening notFinite
 opened r n T m slice rest (some, small, two, few, long) fits =
     rw (opening, ne-eqb n 0 (λ e. omega (arith, some, e)), le-ltb maxSide n small, le-ltb maxPeriods T few, le-ltb T 2 two, eq-eqb (length r) (T * n) long, le-ltb (length slice) m fits)
+
+-- ---- by the first check that refuses
+
+module _ (slice : List Float) (accepted : Answered) {k : Check} where
+  pub settle-refused : {c : Refusal} → refuses c ≡ k → answered (Refused c) slice ≡ settle k slice accepted
+  unfolding settle
+  settle-refused e = ap (λ (k : Check). settle k slice accepted) e
+
+  pub settle-accepted : passes ≡ k → accepted ≡ settle k slice accepted
+  unfolding settle
+  settle-accepted e = ap (λ (k : Check). settle k slice accepted) e
 
 -- ---- the answer of m numbers, in a slice of just as many, and in a longer one
 
@@ -66,9 +77,9 @@ module _ (r : List Float) (n T m : ℕ) (slice : List Float) (rest : List Check)
   abbrev pub answerOf : List Float → Answered
   answerOf s = settle (first (opening r n T m s ++ rest)) s (answered a (fill m f s))
 
-  pub shape-refuses : {c : Refusal} → first (byShape (length r) n T m (length slice)) ≡ refuses c → answered (Refused c) slice ≡ answerOf slice
-  unfolding first settle opening
-  shape-refuses {c} e = rw (first-front (byShape (length r) n T m (length slice)) (byReturns T n (at r n) ++ rest), e)
+  pub shape-refuses : {c : Refusal} → refuses c ≡ first (byShape (length r) n T m (length slice)) → answered (Refused c) slice ≡ answerOf slice
+  unfolding first opening
+  shape-refuses e = settle-refused _ _ (first-then (byShape (length r) n T m (length slice)) (byReturns T n (at r n) ++ rest) e)
 
   pub shape-fits : {b : Answer} {p : List Float} → Shaped (length r) n T → m ≤ length slice → answered b p ≡ answerOf (take m slice) → answered b (p ++ drop m slice) ≡ answerOf slice
   shape-fits {b} {p} shape fits e =
@@ -83,3 +94,18 @@ module _ (r : List Float) (n T m : ℕ) (slice : List Float) (rest : List Check)
   shaped {k} shape long e =
       ap (λ (k : Check). settle k slice (answered a (tab m f))) (e ∙ sym (opened r n T m slice rest shape (omega (arith, long))))
       ∙ ap (λ (l : List Float). settle (first (opening r n T m slice ++ rest)) slice (answered a l)) (sym (fill-all m f slice (omega (arith, long))))
+
+-- ---- after the shape: the checks of the returns and of one setting, as the code joins them, then `rest`
+
+module _ (r : List Float) (n T m : ℕ) (slice : List Float) (shape : Shaped (length r) n T) (long : length slice ≡ m) {k opens own setting : Check}
+    (is-opens : opens ≡ first (byReturns T n (at r n))) (is-own : own ≡ setting) (is-k : k ≡ first (opens ∷ own ∷ [])) (rest : List Check) (a : Answer) (f : ℕ → Float) where
+  settled : settle (first (k ∷ rest)) slice (answered a (tab m f)) ≡ answerOf r n T m slice (setting ∷ rest) a f slice
+  settled = shaped r n T m slice (setting ∷ rest) a f shape long (first-with (byReturns T n (at r n)) rest is-opens is-own is-k)
+
+  pub setting-refused : {c : Refusal} → k ≡ refuses c → answered (Refused c) slice ≡ answerOf r n T m slice (setting ∷ rest) a f slice
+  unfolding first
+  setting-refused h = settle-refused _ _ (ap (λ (k : Check). first (k ∷ rest)) (sym h)) ∙ settled
+
+  pub setting-accepted : k ≡ passes → settle (first rest) slice (answered a (tab m f)) ≡ answerOf r n T m slice (setting ∷ rest) a f slice
+  unfolding first
+  setting-accepted h = ap (λ (k : Check). settle (first (k ∷ rest)) slice (answered a (tab m f))) (sym h) ∙ settled

@@ -1,10 +1,9 @@
 -- Laws of stored lists and tables: when one is what it is said to be, number by number or entry by entry, and what replacing a part of one gives.
 -- Assumes nothing.
-use mathlib.Core.Path.{_≡_, refl, sym, ap, _∙_, subst}
+use mathlib.Core.Path.{_≡_, sym, ap, _∙_, subst}
 use mathlib.Core.List.{List, _++_}
 use mathlib.Core.Logic.{⊎-elim}
-use Prim.Native.Nat.{ℕ, zero, suc, _+_, _-_, _*_, _/_, _%_, _≤_, _<_}
-use native.Mathlib.Nat.{le-of-suc-le-suc, not-suc-le-zero}
+use Prim.Native.Nat.{ℕ, _+_, _-_, _*_, _≤_, _<_}
 use native.Mathlib.Omega.{arith}
 use mathlib.Core.Bool.{cond}
 use lib.Dec.{eqb, ltb}
@@ -14,28 +13,25 @@ use lib.Seq.{length-take-le, getD-take, getD-drop, getD-append-add, ext-getD}
 use lib.Ieee.{Float, nan}
 use Rattle.leaves.specs.Loops.{tab, nth}
 use Rattle.leaves.proofs.Whole.{le-or-lt}
-use Rattle.leaves.proofs.Loops.{row, row-below, col-below, length-tab, tab-ext}
+use Rattle.leaves.proofs.Loops.{row, length-tab, tab-ext, nth-tab}
 use Rattle.matrix.specs.Matrix.{Matrix, at, rows}
-use Rattle.matrix.proofs.Stored.{entry-at, rows-at, rows-ext}
+use Rattle.matrix.proofs.Stored.{rows-at, rows-ext, rows-is}
 
 -- ---- number by number
 
-pub tab-getD : {A : Type 0} (f : ℕ → A) (n k : ℕ) (d : A) → k < n → getD (tab n f) k d ≡ f k
-unfolding tab
-tab-getD f zero k d h = absurd (not-suc-le-zero h)
-tab-getD f (suc n) zero d h = refl
-tab-getD f (suc n) (suc k) d h = tab-getD (λ k. f (suc k)) n k d (le-of-suc-le-suc h)
+-- number k of a list that holds f's numbers
+pub getD-stored : {A : Type 0} (n : ℕ) (f : ℕ → A) {l : List A} (d : A) → l ≡ tab n f → (k : ℕ) → k < n → getD l k d ≡ f k
+getD-stored {A} n f d e k h = ap (λ (l : List A). getD l k d) e ∙ nth-tab n f k d h
+
+pub nth-stored : (n : ℕ) (f : ℕ → Float) {l : List Float} → l ≡ tab n f → (k : ℕ) → k < n → nth l k ≡ f k
+nth-stored n f e k h = getD-stored n f nan e k h
 
 pub tab-nth : (f : ℕ → Float) (n k : ℕ) → k < n → nth (tab n f) k ≡ f k
-tab-nth f n k h = tab-getD f n k nan h
-
-pub tab-is : (l : List Float) (n : ℕ) (f : ℕ → Float) → length l ≡ n → ((k : ℕ) → k < n → nth l k ≡ f k) → l ≡ tab n f
-tab-is l n f e h =
-    ext-getD nan l (tab n f) (e ∙ sym (length-tab f n)) (λ k b. let b′ : k < n = omega arith in h k b′ ∙ sym (tab-nth f n k b′))
+tab-nth f n k h = nth-tab n f k nan h
 
 -- a list made of a list, number by number
 pub tab-then : (l : List Float) (n : ℕ) (f : ℕ → Float) (g : ℕ → Float → Float) → l ≡ tab n f → tab n (λ k. g k (nth l k)) ≡ tab n (λ k. g k (f k))
-tab-then l n f g e = tab-ext (λ k. g k (nth l k)) (λ k. g k (f k)) n (λ k b. ap (g k) (ap (λ (m : List Float). nth m k) e ∙ tab-nth f n k b))
+tab-then l n f g e = tab-ext (λ k. g k (nth l k)) (λ k. g k (f k)) n (λ k b. ap (g k) (nth-stored n f e k b))
 
 -- ---- a part of m numbers from a on, and the list in which it is replaced
 
@@ -69,14 +65,14 @@ module _ (a m : ℕ) (l ys : List Float) (fits : a + m ≤ length l) (long : len
 
 -- ---- entry by entry
 
-pub rows-is : (l : List Float) (n : ℕ) (f : Matrix) → length l ≡ n * n → ((i j : ℕ) → i < n → j < n → at l n i j ≡ f i j) → l ≡ rows n n f
-unfolding rows
-rows-is l n f e h = tab-is l (n * n) (λ k. f (k / n) (k % n)) e (λ k b. sym (entry-at l n k) ∙ h (k / n) (k % n) (row-below k n b) (col-below k n b))
+-- entry i j of a table that holds f's entries
+pub at-stored : (n : ℕ) (f : Matrix) {l : List Float} → l ≡ rows n n f → (i j : ℕ) → i < n → j < n → at l n i j ≡ f i j
+at-stored n f e i j hi hj = ap (λ (l : List Float). at l n i j) e ∙ rows-at f n n i j hi hj
 
 -- a table made of a table, entry by entry
 pub rows-then : (l : List Float) (n : ℕ) (f : Matrix) (g : ℕ → ℕ → Float → Float) → l ≡ rows n n f → rows n n (λ i j. g i j (at l n i j)) ≡ rows n n (λ i j. g i j (f i j))
 rows-then l n f g e =
-    rows-ext n n (λ i j. g i j (at l n i j)) (λ i j. g i j (f i j)) (λ i j hi hj. ap (g i j) (ap (λ (m : List Float). at m n i j) e ∙ rows-at f n n i j hi hj))
+    rows-ext n n (λ i j. g i j (at l n i j)) (λ i j. g i j (f i j)) (λ i j hi hj. ap (g i j) (at-stored n f e i j hi hj))
 
 -- a table of which row i is replaced from column b on
 module _ (n i b a m : ℕ) (l ys : List Float) (f : Matrix) (len : length l ≡ n * n) (hi : i < n) (hb : b ≤ n) (ea : a ≡ i * n + b) (em : m ≡ n - b) (long : length ys ≡ m) where
@@ -131,7 +127,7 @@ module _ (n : ℕ) (F : Matrix) (old : List Float) where
 
   module _ (i : ℕ) (out : List Float) (e : out ≡ passed n i F old) where
     passed-at : (p q : ℕ) → p < n → q < n → at out n p q ≡ cond (ltb p i) (F p q) (at old n p q)
-    passed-at p q hp hq = ap (λ (l : List Float). at l n p q) e ∙ rows-at (λ p q. cond (ltb p i) (F p q) (at old n p q)) n n p q hp hq
+    passed-at = at-stored n (λ p q. cond (ltb p i) (F p q) (at old n p q)) e
 
     -- before row i, and from there on
     pub passed-before : (p q : ℕ) → p < n → q < n → p < i → at out n p q ≡ F p q

@@ -16,7 +16,7 @@ use Rattle.matrix.proofs.Stored.{rows-ext}
 use Rattle.estimators.specs.Rows.{factor, joined, summand, start, plus, Sized}
 use Rattle.estimators.specs.declared.tables.Term.{Term}
 use Rattle.estimators.specs.declared.tables.Term.the-variants.{Product, Square, Cube}
-use Rattle.estimators.proofs.Stored.{tab-nth, part-nth, replaced, row-replaced, rows-then}
+use Rattle.estimators.proofs.Stored.{nth-stored, part-nth, replaced, row-replaced, rows-then}
 
 -- ---- what of s is read
 
@@ -76,8 +76,7 @@ module _ (term : Term) (n i a m from : ℕ) (l : List Float) (len : length l ≡
       here q h hq =
           let p : a + (q - from) ≡ i * n + q = omega arith in
           let q′ : from + (q - from) ≡ q = omega arith in
-          ap (λ (o : List Float). nth o (q - from)) e
-          ∙ tab-nth (λ k. x k (nth (take m (drop a l)) k)) (length (take m (drop a l))) (q - from) (omega (arith, part-count))
+          nth-stored (length (take m (drop a l))) (λ k. x k (nth (take m (drop a l)) k)) e (q - from) (omega (arith, part-count))
           ∙ new (q - from) (nth (take m (drop a l)) (q - from)) (omega arith)
           ∙ ap (g i (from + (q - from))) (part-nth a m l (q - from) (omega (arith, low)))
           ∙ (λ k. g i (q′ k) (nth l (p k)))
@@ -116,18 +115,18 @@ module _ (term : Term) (n i a m from : ℕ) (l : List Float) (len : length l ≡
 -- ---- a row that is stored
 
 module _ (term : Term) (s : Matrix) (n : ℕ) (d : List Float) (y : ℕ → Float) (e : d ≡ tab n y) where
-  stored : (i : ℕ) → i < n → nth d i ≡ y i
-  stored i h = ap (λ (l : List Float). nth l i) e ∙ tab-nth y n i h
+  number : (i : ℕ) → i < n → nth d i ≡ y i
+  number = nth-stored n y e
 
   factor-stored : (t : Term) (i : ℕ) → i < n → factor t s (nth d) i ≡ factor t s y i
   unfolding factor
-  factor-stored Product i h = stored i h
-  factor-stored Square i h = stored i h
-  factor-stored Cube i h = ap (λ (x : Float). (x ⊗ x ⊖ s i i) ⊗ x) (stored i h)
+  factor-stored Product i h = number i h
+  factor-stored Square i h = number i h
+  factor-stored Cube i h = ap (λ (x : Float). (x ⊗ x ⊖ s i i) ⊗ x) (number i h)
 
   pub plus-stored : (i j : ℕ) (v : Float) → i < n → j < n → plus term s (nth d) i j v ≡ plus term s y i j v
   unfolding plus
-  plus-stored i j v hi hj t = cond (leb (start term i) j) (v ⊕ joined term (factor-stored term i hi t) (stored j hj t) (s i j)) v
+  plus-stored i j v hi hj t = cond (leb (start term i) j) (v ⊕ joined term (factor-stored term i hi t) (number j hj t) (s i j)) v
 
   pub period-added : (l : List Float) → rows n n (λ p q. plus term s (nth d) p q (at l n p q)) ≡ rows n n (λ p q. plus term s y p q (at l n p q))
   period-added l = rows-ext n n _ _ (λ p q hp hq. plus-stored p q (at l n p q) hp hq)

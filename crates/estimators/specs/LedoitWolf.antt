@@ -9,16 +9,12 @@ use lib.Ieee.{Float, lt}
 use Rattle.leaves.specs.Numbers.{_⊖_, _⊗_, _⊘_, count, zero⁺, clamp01}
 use Rattle.leaves.specs.Loops.{sumTo}
 use Rattle.leaves.specs.Scaling.{binaryExponent}
-use Rattle.leaves.specs.Root.{sqrt}
 use Rattle.matrix.specs.Matrix.{Matrix, at, rows, identity, trace, amax, sumOver, total, squares}
-use Rattle.estimators.specs.Sample.{deviation, gram, scaled}
+use Rattle.estimators.specs.Sample.{deviation, volatility, correlation, gram, scaled}
 use Rattle.estimators.specs.declared.Target.{Target}
 use Rattle.estimators.specs.declared.Target.the-variants.{ConstantVariance, ConstantCorrelation}
 
 -- ---- the targets, for a covariance s of n assets
-
-abbrev pub deviationOf : Matrix → ℕ → Float
-deviationOf s i = sqrt (s i i)
 
 abbrev pub apart : ℕ → ℕ → Bool
 apart i j = not (eqb i j)
@@ -28,11 +24,11 @@ averageVariance n s = trace n s ⊘ count n
 
 -- r̄
 unfoldable pub averageCorrelation : ℕ → Matrix → Float
-averageCorrelation n s = sumOver n apart (λ i j. s i j ⊘ deviationOf s i ⊘ deviationOf s j) zero⁺ ⊘ count (n * (n - 1))
+averageCorrelation n s = sumOver n apart (correlation s) zero⁺ ⊘ count (n * (n - 1))
 
 -- F of [b]: the matrix itself for one asset, which has no pair
 unfoldable pub constantCorrelation : ℕ → Matrix → Matrix
-constantCorrelation n s i j = cond (eqb i j) (s i i) (averageCorrelation n s ⊗ deviationOf s i ⊗ deviationOf s j)
+constantCorrelation n s i j = cond (eqb i j) (s i i) (averageCorrelation n s ⊗ volatility s i ⊗ volatility s j)
 
 -- F
 unfoldable pub target : Target → ℕ → Matrix → Matrix
@@ -53,7 +49,7 @@ covariation T z s i j = sumTo T (λ t. (z t i ⊗ z t i ⊖ s i i) ⊗ z t i ⊗
 unfoldable pub targetVariation : ℕ → ℕ → Matrix → Matrix → Float
 targetVariation T n z s =
     let r = averageCorrelation n s in
-    sumOver n apart (λ i j. r ⊗ deviationOf s j ⊘ deviationOf s i ⊗ covariation T z s i j) (trace n (variation T z s))
+    sumOver n apart (λ i j. r ⊗ volatility s j ⊘ volatility s i ⊗ covariation T z s i j) (trace n (variation T z s))
 
 -- the estimation error: π, less ρ for [b]
 unfoldable pub error : Target → ℕ → ℕ → Matrix → Matrix → Float

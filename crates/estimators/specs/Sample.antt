@@ -23,13 +23,20 @@ gram T x i j = sumTo T (λ t. x t i ⊗ x t j)
 unfoldable pub covariance : ℕ → Matrix → Matrix
 covariance T x i j = gram T (deviation T x) i j ⊘ count (T - 1)
 
+-- the volatility of asset i under the covariance s, and the correlation of two assets (methods/mod.rs, `correlation`)
+abbrev pub volatility : Matrix → ℕ → Float
+volatility s i = sqrt (s i i)
+
+abbrev pub correlation : Matrix → Matrix
+correlation s i j = s i j ⊘ volatility s i ⊘ volatility s j
+
 -- asset i's largest return in size
 unfoldable pub largest : ℕ → Matrix → ℕ → Float
 largest T x i = amaxTo T (λ t. x t i)
 
--- the first asset with a standard deviation, under v, of at most 1e-10 of its largest return
+-- the first asset with a volatility of at most 1e-10 of its largest return
 unfoldable pub constantAsset : ℕ → Matrix → (ℕ → Float) → Option ℕ
-constantAsset n v largest = firstTo n (λ i. le (sqrt (v i i)) (1e-10 ⊗ largest i))
+constantAsset n s largest = firstTo n (λ i. le (volatility s i) (1e-10 ⊗ largest i))
 
 -- each asset's returns over a power of two of its own
 unfoldable pub scaled : (ℕ → ℤ) → Matrix → Matrix

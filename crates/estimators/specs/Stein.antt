@@ -10,8 +10,7 @@ use Rattle.leaves.specs.Loops.{tab, nth}
 use Rattle.matrix.specs.Matrix.{Matrix, at}
 use Rattle.matrix.specs.Jacobi.{Decomposition}
 use Rattle.estimators.specs.Refusals.{when, first}
-use Rattle.estimators.specs.Sample.{scaled}
-use Rattle.estimators.specs.LedoitWolf.{deviationOf}
+use Rattle.estimators.specs.Sample.{scaled, volatility}
 use Rattle.estimators.specs.Moments.{Moments, moments}
 use Rattle.estimators.specs.Shrinking.{shrunkBy}
 use Rattle.estimators.specs.JamesStein.{jamesStein}
@@ -26,7 +25,7 @@ pullOf α μ₀ = record { intensity = α; target = μ₀ }
 -- α and μ₀ are `bayesSteinPull`'s, for every covariance with these volatilities and every decomposition with these values and vectors
 abbrev pub Pulls : ℕ → List Float → List Float → List ℤ → Float → List Float → List Float → Float → Float → Type 0
 Pulls n μ v e T values vectors α μ₀ =
-    (Σ : Matrix) (d : Decomposition) → v ≡ tab n (deviationOf Σ) → d .values ≡ values → d .vectors ≡ vectors
+    (Σ : Matrix) (d : Decomposition) → v ≡ tab n (volatility Σ) → d .values ≡ values → d .vectors ≡ vectors
     → pullOf α μ₀ ≡ bayesSteinPull n T (nth μ) Σ (λ i. getD e i (pos 0)) d
 
 -- ---- the two calls from the moments on, for an answer slice of n numbers

@@ -10,6 +10,7 @@ use crate::Regularization;
 use crate::Settings;
 use crate::Shrinkage;
 use crate::Target;
+use crate::sample;
 use crate::targets;
 use crate::vectors;
 
@@ -22,6 +23,7 @@ fn mix(x: f64, intensity: f64, b: &[f64], n: usize, out: &mut [f64])
     vectors::add_times(1.0 - intensity, b, out);
 }
 
+// Towards constant variance: F is the average variance m times I, and δ F is taken as (δ m) I.
 fn mix_variance(intensity: f64, b: &[f64], n: usize, out: &mut [f64])
     requires { ⌜ (length (now b) ≡ n * n) × (length (now out) ≡ n * n) ⌝ }
     ensures { λ _. ⌜ now (out .exit) ≡ rows n n (Adjusted.mixed Target.ConstantVariance intensity n (at (now (b .entry)) n)) ⌝ }
@@ -36,17 +38,18 @@ fn mix_variance(intensity: f64, b: &[f64], n: usize, out: &mut [f64])
     );
 }
 
+// Towards constant correlation, with `sd` to reckon in.
 fn mix_correlation(intensity: f64, b: &[f64], n: usize, sd: &mut [f64], out: &mut [f64])
     requires { ⌜ (0 < n) × (n ≤ maxSide) × (length (now b) ≡ n * n) × (length (now sd) ≡ n) × (length (now out) ≡ n * n) ⌝ }
     ensures { λ _. ⌜ now (out .exit) ≡ rows n n (Adjusted.mixed Target.ConstantCorrelation intensity n (at (now (b .entry)) n)) ⌝ }
 {
-    targets::put_volatilities(b, n, sd);
+    sample::put_volatilities(b, n, sd);
     let r = targets::average_correlation(b, sd, n);
     targets::put_constant_correlation(b, r, sd, n, out);
     mix(intensity, intensity, b, n, out);
 }
 
-// Shrunk, with `sd` to reckon in.
+// Shrunk towards the target of the shrinkage, a fixed one towards constant variance. `sd` is to reckon in.
 fn shrink(
     shrinkage: Shrinkage,
     intensity: f64,
@@ -60,7 +63,7 @@ fn shrink(
 {
     match shrinkage {
         Shrinkage::Unshrunk => {
-            vectors::copy(b, out);
+            matrix::tables::copy(b, out);
         }
         Shrinkage::Fixed(_) => {
             mix_variance(intensity, b, n, out);
@@ -90,6 +93,7 @@ fn regularize(regularization: Regularization, n: usize, unit: &mut [f64], out: &
     }
 }
 
+// Shrunk, then regularized.
 pub(crate) fn adjust(settings: Settings, intensity: f64, b: &[f64], n: usize, out: &mut [f64])
     requires { ⌜ (0 < n) × (n ≤ maxSide) × (length (now b) ≡ n * n) × (length (now out) ≡ n * n) ⌝ }
     ensures { λ _. ⌜ now (out .exit) ≡ rows n n (Adjusted.adjusted settings intensity n (at (now (b .entry)) n)) ⌝ }

@@ -15,10 +15,9 @@ use crate::Refusal;
 use crate::checks::Check;
 use crate::checks::when;
 use crate::semi;
-use crate::vectors;
 use crate::weighted;
 
-// `sample` is the sample covariance, `given` the averaged given matrix, any table where there is none.
+// The estimate. `sample` is the sample covariance, `given` the averaged given matrix, any table where there is none.
 pub(crate) fn put_base(
     estimate: Estimate,
     r: &[f64],
@@ -33,10 +32,10 @@ pub(crate) fn put_base(
 {
     match estimate {
         Estimate::Sample => {
-            vectors::copy(sample, out);
+            matrix::tables::copy(sample, out);
         }
         Estimate::Given => {
-            vectors::copy(given, out);
+            matrix::tables::copy(given, out);
         }
         Estimate::Weighted(h) => {
             weighted::covariance(weighted::log_decay(h), r, n, periods, out);
@@ -50,7 +49,7 @@ pub(crate) fn put_base(
     }
 }
 
-// The half-life's log in [-708, 0), the threshold finite.
+// Refusal 7 for fields 3 and 4: the half-life's log in [-708, 0), the threshold finite.
 pub(crate) fn bad_estimate(estimate: Estimate) -> Check
     ensures { λ r. ⌜ checked r ≡ Order.badEstimate estimate ⌝ }
 {

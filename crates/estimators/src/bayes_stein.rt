@@ -8,12 +8,12 @@ ghost use lib.Ieee.{Float};
 ghost use Rattle.leaves.specs.Numbers.{_⊘_};
 ghost use Rattle.leaves.specs.Loops.{tab, nth};
 ghost use Rattle.matrix.specs.Limits.{maxSide, maxSweeps};
-ghost use Rattle.matrix.specs.Matrix.{Matrix, at, rows};
+ghost use Rattle.matrix.specs.Matrix.{at, rows};
 ghost use Rattle.matrix.specs.Jacobi.{Decomposition};
 ghost use Rattle.matrix.specs.Inner.{decomposed};
+ghost use Rattle.estimators.specs.Sample.{volatility};
 ghost use Rattle.estimators.specs.Refusals as Refusals;
 ghost use Rattle.estimators.specs.Sample as Sample;
-ghost use Rattle.estimators.specs.LedoitWolf.{deviationOf};
 ghost use Rattle.estimators.specs.BayesStein as BayesStein;
 ghost use Rattle.estimators.specs.Checks.{checked};
 ghost use Rattle.estimators.specs.Gather.{Exponents, twoExponents};
@@ -32,25 +32,11 @@ use crate::forms::ratio;
 use crate::gather::gather_means;
 use crate::gather::gather_ones;
 use crate::moments::Moments;
-use crate::targets::put_volatilities;
+use crate::sample::constant_asset;
+use crate::sample::put_volatilities;
 use leaves::scaling::pow2_scaled;
 use matrix::jacobi::Outcome;
 use matrix::jacobi::decompose;
-
-// The first asset with a volatility of at most 1e-10 of its largest return.
-pub(crate) fn constant_asset(volatilities: &[f64], n: usize, sizes: &[f64]) -> Check
-    requires { ⌜ (length (now volatilities) ≡ n) × (length (now sizes) ≡ n) ⌝ }
-    ensures { λ r. ⌜ ((s : Matrix) → now (volatilities .entry) ≡ tab n (deviationOf s) → checked r ≡ Refusals.whenSome (Sample.constantAsset n s (nth (now (sizes .entry)))) Refusal.ZeroVariance) ⌝ }
-{
-    let mut i = 0;
-    while i < n {
-        if volatilities[i] <= 1e-10 * sizes[i] {
-            return Check::Refuses(Refusal::ZeroVariance(i));
-        }
-        i += 1;
-    }
-    Check::Passes
-}
 
 // The covariances over both assets' volatilities, one after the other.
 fn put_correlations(covariance: &[f64], volatilities: &[f64], n: usize, out: &mut [f64])
@@ -72,7 +58,7 @@ fn is_singular(values: &[f64]) -> bool
 {
     let n = std::num::nearest_u64_to_f64(values.len() as u64);
     matrix::entries::smallest(values)
-        <= n * 2.220446049250313e-16 * matrix::entries::largest(values)
+        <= n * leaves::numbers::EPSILON * matrix::entries::largest(values)
 }
 
 struct Pulled {
@@ -149,7 +135,7 @@ fn pull(
     )
 }
 
-// The volatilities and the correlations, with 9 by the one and 14 by the other.
+// The volatilities and the correlations, with refusal 9 by the one and 14 by the other.
 fn correlate(
     covariance: &[f64],
     n: usize,
@@ -158,7 +144,7 @@ fn correlate(
     out: &mut [f64],
 ) -> Check
     requires { ⌜ (length (now covariance) ≡ n * n) × (length (now sizes) ≡ n) × (length (now volatilities) ≡ n) × (length (now out) ≡ n * n) ⌝ }
-    ensures { λ r. ⌜ (now (volatilities .exit) ≡ tab n (deviationOf (at (now (covariance .entry)) n))) × (now (out .exit) ≡ rows n n (BayesStein.correlation (at (now (covariance .entry)) n))) × (checked r ≡ Refusals.first (byCorrelations n (nth (now (sizes .entry))) (at (now (covariance .entry)) n) (at (now (out .exit)) n))) ⌝ }
+    ensures { λ r. ⌜ (now (volatilities .exit) ≡ tab n (volatility (at (now (covariance .entry)) n))) × (now (out .exit) ≡ rows n n (Sample.correlation (at (now (covariance .entry)) n))) × (checked r ≡ Refusals.first (byCorrelations n (nth (now (sizes .entry))) (at (now (covariance .entry)) n) (at (now (out .exit)) n))) ⌝ }
 {
     put_volatilities(covariance, n, volatilities);
     put_correlations(covariance, volatilities, n, out);
@@ -167,7 +153,7 @@ fn correlate(
     first(constant, when(!finite, Refusal::Singular))
 }
 
-// 14 by the decomposition `d`, with these values.
+// Refusal 14 by the decomposition `d`, with these values.
 fn judge(d: Outcome, values: &[f64], n: usize) -> Check
     requires { ⌜ (0 < n) × (length (now values) ≡ n) ⌝ }
     ensures { λ r. ⌜ ((vectors : List Float) → checked r ≡ Refusals.first (byDecomposition n (decomposed (d .found) (now (values .entry)) vectors (d .sweeps) (d .rotations)))) ⌝ }

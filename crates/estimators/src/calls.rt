@@ -1,4 +1,4 @@
-// The five calls of document 01. Each looks at shapes and lengths, 1 to 4, then fills as much of the answer slice as its answer needs; a refusal
+// The five calls of document 01. Each looks at shapes and lengths, refusals 1 to 4, then fills as much of the answer slice as its answer needs; a refusal
 // leaves the slice as it was.
 ghost use mathlib.Core.Path.{_≡_};
 ghost use Rattle.estimators.specs.Calls as Calls;
@@ -41,7 +41,7 @@ pub fn adjusted_covariance(
     )
 }
 
-// The shrinkage intensity of Ledoit and Wolf.
+// The intensity of Ledoit and Wolf's shrinkage towards the target.
 pub fn ledoit_wolf(returns: &[f64], n: usize, periods: usize, target: Target) -> Answer
     ensures { λ r. ⌜ r ≡ Calls.ledoitWolfIntensity (now (returns .entry)) n periods target ⌝ }
 {
@@ -69,7 +69,7 @@ pub fn exponentially_weighted_mean(
     expected_returns::exponentially_weighted_mean(returns, n, periods, half_life, &mut answer[..n])
 }
 
-// Each asset's mean, moved towards their average: n numbers.
+// Each asset's mean, moved towards their average as by James and Stein: n numbers.
 pub fn james_stein_mean(
     returns: &[f64],
     n: usize,
@@ -86,7 +86,7 @@ pub fn james_stein_mean(
     expected_returns::james_stein_mean(returns, n, periods, limit, &mut answer[..n])
 }
 
-// Each asset's mean, moved towards the mean of the portfolio of least variance: n numbers.
+// Each asset's mean, moved towards the mean of the portfolio of least variance as by Jorion: n numbers.
 pub fn bayes_stein_mean(
     returns: &[f64],
     n: usize,

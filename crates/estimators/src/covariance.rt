@@ -30,7 +30,6 @@ use crate::adjusted::adjust;
 use crate::adjusted::is_adjusted;
 use crate::base::bad_estimate;
 use crate::base::put_base;
-use crate::bayes_stein::constant_asset;
 use crate::checks::Check;
 use crate::checks::first;
 use crate::checks::when;
@@ -40,14 +39,12 @@ use crate::given::examine;
 use crate::ledoit_wolf;
 use crate::opening::check_returns;
 use crate::sample;
-use crate::targets::put_volatilities;
 use crate::validate::bad_regularization;
 use crate::validate::bad_shrinkage;
 use crate::validate::is_given;
 use crate::validate::not_the_sample;
-use crate::vectors;
 
-// 9: the first asset that is constant under the covariance s.
+// Refusal 9: the first asset whose volatility under the covariance s is at most 1e-10 of its largest return.
 fn check_constant(s: &[f64], r: &[f64], n: usize, periods: usize) -> Check
     requires { ⌜ (length (now r) ≡ periods * n) × (n ≤ maxSide) × (length (now s) ≡ n * n) ⌝ }
     ensures { λ k. ⌜ checked k ≡ Refusals.whenSome (Sample.constantAsset n (at (now (s .entry)) n) (Sample.largest periods (at (now (r .entry)) n))) Refusal.ZeroVariance ⌝ }
@@ -56,12 +53,12 @@ fn check_constant(s: &[f64], r: &[f64], n: usize, periods: usize) -> Check
     let mut other = [0.0; matrix::MAX_SIDE];
     let volatilities = &mut one[..n];
     let sizes = &mut other[..n];
-    put_volatilities(s, n, volatilities);
+    sample::put_volatilities(s, n, volatilities);
     sample::largest(r, n, periods, sizes);
-    constant_asset(volatilities, n, sizes)
+    sample::constant_asset(volatilities, n, sizes)
 }
 
-// 9 by constant correlation, from the sample covariance.
+// Refusal 9 by constant correlation, from the sample covariance: that target divides by its volatilities.
 fn no_correlation(
     shrinkage: Shrinkage,
     sample: &[f64],
@@ -82,7 +79,7 @@ fn no_correlation(
     }
 }
 
-// 10, for a side other than the number of assets.
+// Refusal 10, for a given matrix whose side is not the number of assets.
 fn wrong_side(estimate: Estimate, side: usize, n: usize) -> Check
     ensures { λ k. ⌜ checked k ≡ Refusals.when (Adjusted.isGiven estimate && not (eqb side n)) (Refusal.WrongSide side) ⌝ }
 {
@@ -92,7 +89,7 @@ fn wrong_side(estimate: Estimate, side: usize, n: usize) -> Check
     Check::Passes
 }
 
-// Fields 1 to 4; 8; 9 by constant correlation; 10 for the side.
+// Refusals by the settings, in this order: 7 for fields 1 to 4; 8; 9 by constant correlation; 10 by the side.
 fn check_settings(
     settings: Settings,
     sample: &[f64],
@@ -121,7 +118,7 @@ fn check_settings(
     )
 }
 
-// 9 of a given covariance: the first variance that is 0.
+// Refusal 9 of a given covariance: the first variance that is 0.
 fn zero_variance(b: &[f64], n: usize) -> Check
     requires { ⌜ length (now b) ≡ n * n ⌝ }
     ensures { λ k. ⌜ checked k ≡ Refusals.whenSome (firstTo n (λ (i : ℕ). eq (at (now (b .entry)) n i i) zero⁺)) Refusal.ZeroVariance ⌝ }
@@ -136,7 +133,7 @@ fn zero_variance(b: &[f64], n: usize) -> Check
     Check::Passes
 }
 
-// 9 of an estimate b that nothing is added to.
+// Refusal 9 of an unadjusted estimate b: a given variance may not be 0, one from the returns not 0 to rounding.
 fn no_variance(
     adjusted: bool,
     estimate: Estimate,
@@ -157,7 +154,7 @@ fn no_variance(
     check_constant(b, r, n, periods)
 }
 
-// 6 and 14 of the answer a.
+// Refusals 6 and 14 of the answer a: an entry that is not finite, a trace of 0.
 fn check_answer(a: &[f64], n: usize) -> Check
     requires { ⌜ length (now a) ≡ n * n ⌝ }
     ensures { λ k. ⌜ checked k ≡ Refusals.first (byAnswer n (at (now (a .entry)) n)) ⌝ }
@@ -170,7 +167,7 @@ fn check_answer(a: &[f64], n: usize) -> Check
     )
 }
 
-// The intensity of the shrinkage, 0 where there is none.
+// δ, the intensity of the shrinkage, 0 where there is none.
 fn intensity(shrinkage: Shrinkage, r: &[f64], n: usize, periods: usize) -> f64
     requires { ⌜ (length (now r) ≡ periods * n) × (0 < n) × (n ≤ maxSide) × (1 ≤ periods) ⌝ }
     ensures { λ d. ⌜ d ≡ Adjusted.intensity shrinkage periods n (at (now (r .entry)) n) ⌝ }
@@ -209,7 +206,7 @@ fn finish_in(
     if let Check::Refuses(refusal) = bad {
         return Answer::Refused(refusal);
     }
-    vectors::copy(a, out);
+    matrix::tables::copy(a, out);
     Answer::Covariance(intensity, sweeps, rotations)
 }
 
@@ -302,6 +299,7 @@ fn adjusted_in(
     }
 }
 
+// The call after refusals 1 to 4, in arrays of the largest size.
 pub(crate) fn adjusted_covariance(
     settings: Settings,
     r: &[f64],
@@ -348,6 +346,7 @@ fn ledoit_wolf_in(target: Target, r: &[f64], n: usize, periods: usize, sample: &
     Answer::Intensity(ledoit_wolf::ledoit_wolf(target, r, n, periods))
 }
 
+// The call after refusals 1 to 4, in an array of the largest size.
 pub(crate) fn ledoit_wolf(target: Target, r: &[f64], n: usize, periods: usize) -> Answer
     requires { ⌜ Shaped (length (now r)) n periods ⌝ }
     ensures { λ k. ⌜ k ≡ Calls.ledoitWolfIntensity (now (r .entry)) n periods target ⌝ }

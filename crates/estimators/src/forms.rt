@@ -23,6 +23,7 @@ fn project_on(vectors: &[f64], n: usize, e: usize, x: &[f64]) -> f64
     s
 }
 
+// x times every column of V.
 fn project(vectors: &[f64], n: usize, x: &[f64], out: &mut [f64])
     requires { ⌜ (length (now vectors) ≡ n * n) × (length (now x) ≡ n) × (length (now out) ≡ n) ⌝ }
     ensures { λ _. ⌜ ((d : Decomposition) → d .vectors ≡ now (vectors .entry) → now (out .exit) ≡ BayesStein.project n d (nth (now (x .entry)))) ⌝ }
@@ -34,6 +35,7 @@ fn project(vectors: &[f64], n: usize, x: &[f64], out: &mut [f64])
     }
 }
 
+// xᵀC⁻¹y, from the projections x and y.
 fn form(values: &[f64], n: usize, x: &[f64], y: &[f64]) -> f64
     requires { ⌜ (length (now values) ≡ n) × (length (now x) ≡ n) × (length (now y) ≡ n) ⌝ }
     ensures { λ r. ⌜ ((d : Decomposition) → d .values ≡ now (values .entry) → r ≡ BayesStein.form n d (now (x .entry)) (now (y .entry))) ⌝ }

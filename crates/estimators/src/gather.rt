@@ -79,7 +79,7 @@ fn divide(xs: &[f64], volatilities: &[f64], out: &mut [f64])
     }
 }
 
-// Each number in its unit, over 2^e.
+// Each number xᵢ becomes xᵢ · 2^-eᵢ · 2^-e: into its unit and over the common power. `scales::scale` takes numbers out of their units.
 pub(crate) fn scale(exponents: &[i32], e: i32, out: &mut [f64])
     requires { ⌜ (length (now exponents) ≡ length (now out)) × Exponents (now exponents) × (natAbs e ≤ twoExponents) ⌝ }
     ensures { λ _. ⌜ now (out .exit) ≡ BayesStein.gathered (length (now (out .entry))) (nth (now (out .entry))) (λ (i : ℕ). negℤ (getD (now (exponents .entry)) i (pos 0))) e ⌝ }

@@ -19,7 +19,7 @@ use crate::validate::bad_sweep_limit;
 use matrix::jacobi::Outcome;
 use matrix::places::Place;
 
-// The sweep limit; 1, 2, 10 for the slice's length.
+// Refusal 7 by the sweep limit; 1 and 2; 10 by the slice's length.
 pub(crate) fn check_sizes(limit: usize, size: usize, n: usize) -> Check
     ensures { λ r. ⌜ checked r ≡ Refusals.first (bySizes limit size n) ⌝ }
 {
@@ -45,7 +45,7 @@ fn asymmetry(g: &[f64], n: usize) -> Place
     matrix::places::first_asymmetric(g, n, tolerance)
 }
 
-// 5 and 11.
+// Refusals 5 and 11.
 fn check_entries(g: &[f64], n: usize) -> Check
     requires { ⌜ length (now g) ≡ n * n ⌝ }
     ensures { λ r. ⌜ checked r ≡ Refusals.first (byEntries n (at (now (g .entry)) n)) ⌝ }
@@ -87,7 +87,7 @@ pub(crate) enum Examined {
     Accepted(usize, usize),
 }
 
-// 13 and 12, by the values that the decomposition `d` of the matrix `a` has.
+// Refusals 13 and 12, by the values that the decomposition `d` of the matrix `a` has.
 fn judge(d: Outcome, values: &[f64], a: &[f64], n: usize) -> Examined
     requires { ⌜ (0 < n) × (length (now values) ≡ n) × (length (now a) ≡ n * n) ⌝ }
     ensures { λ r. ⌜ ((v : List Float) → r ≡ judged n (at (now (a .entry)) n) (decomposed (d .found) (now (values .entry)) v (d .sweeps) (d .rotations))) ⌝ }
@@ -98,7 +98,7 @@ fn judge(d: Outcome, values: &[f64], a: &[f64], n: usize) -> Examined
     }
     let lowest = matrix::entries::smallest(values);
     let size = std::num::nearest_u64_to_f64(n as u64);
-    if lowest < -10.0 * size * 2.220446049250313e-16 * leaves::sums::amax(values) {
+    if lowest < -10.0 * size * leaves::numbers::EPSILON * leaves::sums::amax(values) {
         return Examined::Refused(Refusal::Indefinite(lowest * matrix::entries::amax(a, n, n)));
     }
     Examined::Accepted(d.sweeps, d.rotations)
@@ -120,7 +120,7 @@ fn take_apart_in(
     judge(d, values, a, n)
 }
 
-// 13 and 12 of an averaged matrix.
+// Refusals 13 and 12 of an averaged matrix.
 fn take_apart(a: &[f64], n: usize, limit: usize) -> Examined
     requires { ⌜ (0 < n) × (n ≤ maxSide) × (limit ≤ maxSweeps) × (length (now a) ≡ n * n) ⌝ }
     ensures { λ r. ⌜ r ≡ judged n (at (now (a .entry)) n) (Given.decomposeGiven limit n (at (now (a .entry)) n)) ⌝ }
@@ -139,7 +139,7 @@ fn take_apart(a: &[f64], n: usize, limit: usize) -> Examined
     )
 }
 
-// The average of a given matrix with its transpose, and whether it is refused: 5, 11, 13, 12.
+// The average of a given matrix with its transpose, and whether it is refused, by 5, 11, 13, 12 in this order.
 pub(crate) fn examine(g: &[f64], n: usize, limit: usize, out: &mut [f64]) -> Examined
     requires { ⌜ (0 < n) × (n ≤ maxSide) × (limit ≤ maxSweeps) × (length (now g) ≡ n * n) × (length (now out) ≡ n * n) ⌝ }
     ensures { λ r. ⌜ (now (out .exit) ≡ rows n n (averaged (at (now (g .entry)) n))) × (r ≡ examined (Refusals.first (byNumbers n (at (now (g .entry)) n) (Given.decomposeGiven limit n (at (now (out .exit)) n)))) (Given.decomposeGiven limit n (at (now (out .exit)) n))) ⌝ }

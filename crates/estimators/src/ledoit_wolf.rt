@@ -100,7 +100,7 @@ fn to_correlation(
     requires { ⌜ (0 < n) × (n ≤ maxSide) × (length (now s) ≡ n * n) × (length (now pi) ≡ n * n) × (length (now theta) ≡ n * n) × (length (now sd) ≡ n) × (length (now work) ≡ n * n) ⌝ }
     ensures { λ r. ⌜ ((z : Matrix) → now (pi .entry) ≡ rows n n (variation periods z (at (now (s .entry)) n)) → now (theta .entry) ≡ rows n n (covariation periods z (at (now (s .entry)) n)) → r ≡ intensityOf Target.ConstantCorrelation periods n z (at (now (s .entry)) n)) ⌝ }
 {
-    targets::put_volatilities(s, n, sd);
+    sample::put_volatilities(s, n, sd);
     let r = targets::average_correlation(s, sd, n);
     targets::put_constant_correlation(s, r, sd, n, work);
     let gamma = distance(s, n, work);

@@ -39,22 +39,26 @@ pub enum Estimate {
     SemiBelow(f64),
 }
 
+// What a covariance is shrunk to: its average variance on the diagonal, or its variances with their average correlation.
 pub enum Target {
     ConstantVariance,
     ConstantCorrelation,
 }
 
+// None, a fixed intensity towards constant variance, or the intensity of Ledoit and Wolf.
 pub enum Shrinkage {
     Unshrunk,
     Fixed(f64),
     LedoitWolf(Target),
 }
 
+// A ridge is added to each variance.
 pub enum Regularization {
     Unregularized,
     Ridge(f64),
 }
 
+// The sweep limit is that of a given matrix's decomposition.
 pub struct Settings {
     pub estimate: Estimate,
     pub shrinkage: Shrinkage,

@@ -1,4 +1,4 @@
-// What every call looks at first: the shapes and lengths, 1 to 4, and the returns, 5 and the sample's 6.
+// What every call looks at first: the shapes and lengths, refusals 1 to 4, and the returns, 5 and the sample's 6.
 ghost use mathlib.Core.Path.{_≡_};
 ghost use Prim.Native.Nat.{_*_, _≤_};
 ghost use lib.ListN.{length};
@@ -34,7 +34,7 @@ fn needed(filled: Filled, n: usize) -> usize
     }
 }
 
-// 1 to 4, for a return slice of `length` numbers and an answer slice of `room`.
+// Refusals 1 to 4, for a return slice of `length` numbers and an answer slice of `room`.
 pub(crate) fn check_shape(
     length: usize,
     n: usize,
@@ -62,7 +62,7 @@ pub(crate) fn check_shape(
     when(room < needed(filled, n), Refusal::WrongLength)
 }
 
-// 5, sample 6. The sample covariance is left in `out`.
+// Refusal 5, and 6 of the sample covariance, which is left in `out`.
 pub(crate) fn check_returns(r: &[f64], n: usize, periods: usize, out: &mut [f64]) -> Check
     requires { ⌜ (length (now r) ≡ periods * n) × (n ≤ maxSide) × (1 ≤ periods) × (length (now out) ≡ n * n) ⌝ }
     ensures { λ k. ⌜ (now (out .exit) ≡ rows n n (Sample.covariance periods (at (now (r .entry)) n))) × (checked k ≡ Refusals.first (byReturns periods n (at (now (r .entry)) n))) ⌝ }
@@ -78,7 +78,7 @@ pub(crate) fn check_returns(r: &[f64], n: usize, periods: usize, out: &mut [f64]
     )
 }
 
-// 5, sample 6.
+// The same, with the sample covariance in an array of the engine.
 pub(crate) fn check_opened(returns: &[f64], n: usize, periods: usize) -> Check
     requires { ⌜ (length (now returns) ≡ periods * n) × (n ≤ maxSide) × (1 ≤ periods) ⌝ }
     ensures { λ k. ⌜ checked k ≡ Refusals.first (byReturns periods n (at (now (returns .entry)) n)) ⌝ }

@@ -1,12 +1,17 @@
-// The sample means and covariance, and the largest returns (returns.rs).
+// The sample means and covariance, the largest returns, and the rule for a constant asset (returns.rs).
 ghost use mathlib.Core.Path.{_≡_};
 ghost use Prim.Native.Nat.{_*_, _≤_};
 ghost use lib.ListN.{length};
-ghost use Rattle.leaves.specs.Loops.{tab};
+ghost use Rattle.leaves.specs.Loops.{tab, nth};
 ghost use Rattle.matrix.specs.Limits.{maxSide};
-ghost use Rattle.matrix.specs.Matrix.{at, rows};
+ghost use Rattle.matrix.specs.Matrix.{Matrix, at, rows};
+ghost use Rattle.estimators.specs.Refusals as Refusals;
 ghost use Rattle.estimators.specs.Sample as Sample;
+ghost use Rattle.estimators.specs.Sample.{volatility};
+ghost use Rattle.estimators.specs.Checks.{checked};
 ghost use Rattle.estimators.specs.Powers.{inUnits};
+use crate::Refusal;
+use crate::checks::Check;
 use crate::columns;
 use crate::gram::gram;
 use crate::rows::Row;
@@ -67,4 +72,31 @@ pub(crate) fn largest(r: &[f64], n: usize, periods: usize, out: &mut [f64])
     let none = [0.0; 0];
     let zeros = [0.0; matrix::MAX_SIDE];
     columns::largest(Row::Plain, r, n, periods, &none, &zeros[..n], &none, out);
+}
+
+// The square root of each variance.
+pub(crate) fn put_volatilities(s: &[f64], n: usize, out: &mut [f64])
+    requires { ⌜ (length (now s) ≡ n * n) × (length (now out) ≡ n) ⌝ }
+    ensures { λ _. ⌜ now (out .exit) ≡ tab n (volatility (at (now (s .entry)) n)) ⌝ }
+{
+    let mut i = 0;
+    while i < n {
+        out[i] = leaves::root::sqrt(s[i * n + i]);
+        i += 1;
+    }
+}
+
+// The first asset with a volatility of at most 1e-10 of its largest return.
+pub(crate) fn constant_asset(volatilities: &[f64], n: usize, sizes: &[f64]) -> Check
+    requires { ⌜ (length (now volatilities) ≡ n) × (length (now sizes) ≡ n) ⌝ }
+    ensures { λ r. ⌜ ((s : Matrix) → now (volatilities .entry) ≡ tab n (volatility s) → checked r ≡ Refusals.whenSome (Sample.constantAsset n s (nth (now (sizes .entry)))) Refusal.ZeroVariance) ⌝ }
+{
+    let mut i = 0;
+    while i < n {
+        if volatilities[i] <= 1e-10 * sizes[i] {
+            return Check::Refuses(Refusal::ZeroVariance(i));
+        }
+        i += 1;
+    }
+    Check::Passes
 }

@@ -20,7 +20,7 @@ pub(crate) fn put_exponents(xs: &[f64], out: &mut [i32])
     }
 }
 
-// Each number times its power of two.
+// Each number xₖ becomes xₖ · 2^eₖ: out of its unit. `gather::scale` takes numbers into their units.
 pub(crate) fn scale(exponents: &[i32], out: &mut [f64])
     requires { ⌜ (length (now exponents) ≡ length (now out)) × Exponents (now exponents) ⌝ }
     ensures { λ _. ⌜ now (out .exit) ≡ tab (length (now (out .entry))) (λ (k : ℕ). pow2Scaled (nth (now (out .entry)) k) (getD (now (exponents .entry)) k (pos 0))) ⌝ }

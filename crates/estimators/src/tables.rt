@@ -64,6 +64,7 @@ fn add_terms(term: Term, a: f64, xs: &[f64], s: &[f64], from: usize, out: &mut [
     }
 }
 
+// The same with two rows, the first one first.
 fn add_terms2(
     term: Term,
     a: f64,
@@ -138,6 +139,7 @@ fn add_rows(term: Term, n: usize, d: &[f64], s: &[f64], out: &mut [f64])
     }
 }
 
+// The same with two rows, the first one first.
 fn add_rows2(term: Term, n: usize, d: &[f64], e: &[f64], s: &[f64], out: &mut [f64])
     requires { ⌜ (length (now d) ≡ n) × (length (now e) ≡ n) × Sized term (n * n) (now s) × (length (now out) ≡ n * n) ⌝ }
     ensures { λ _. ⌜ now (out .exit) ≡ rows n n (λ (p q : ℕ). plus term (at (now (s .entry)) n) (nth (now (e .entry))) p q (plus term (at (now (s .entry)) n) (nth (now (d .entry))) p q (at (now (out .entry)) n p q))) ⌝ }

@@ -10,26 +10,16 @@ ghost use Rattle.leaves.specs.Loops.{tab, nth};
 ghost use Rattle.matrix.specs.Limits.{maxSide};
 ghost use Rattle.matrix.specs.Matrix.{at, rows};
 ghost use Rattle.matrix.specs.Inner.{addKept, sumRow};
+ghost use Rattle.estimators.specs.Sample.{volatility};
 ghost use Rattle.estimators.specs.LedoitWolf as LedoitWolf;
-ghost use Rattle.estimators.specs.LedoitWolf.{apart, deviationOf};
+ghost use Rattle.estimators.specs.LedoitWolf.{apart};
 
+// The trace over n.
 pub(crate) fn average_variance(s: &[f64], n: usize) -> f64
     requires { ⌜ length (now s) ≡ n * n ⌝ }
     ensures { λ r. ⌜ r ≡ LedoitWolf.averageVariance n (at (now (s .entry)) n) ⌝ }
 {
     matrix::sums::trace(s, n) / std::num::nearest_u64_to_f64(n as u64)
-}
-
-// The square root of each variance.
-pub(crate) fn put_volatilities(s: &[f64], n: usize, out: &mut [f64])
-    requires { ⌜ (length (now s) ≡ n * n) × (length (now out) ≡ n) ⌝ }
-    ensures { λ _. ⌜ now (out .exit) ≡ tab n (deviationOf (at (now (s .entry)) n)) ⌝ }
-{
-    let mut i = 0;
-    while i < n {
-        out[i] = leaves::root::sqrt(s[i * n + i]);
-        i += 1;
-    }
 }
 
 // x added to a sum over i and j other than i.
@@ -54,8 +44,9 @@ fn add_correlations(s: &[f64], sd: &[f64], n: usize, i: usize, sum: f64) -> f64
     t
 }
 
+// The average of the correlations off the diagonal.
 pub(crate) fn average_correlation(s: &[f64], sd: &[f64], n: usize) -> f64
-    requires { ⌜ (0 < n) × (n ≤ maxSide) × (length (now s) ≡ n * n) × (now sd ≡ tab n (deviationOf (at (now s) n))) ⌝ }
+    requires { ⌜ (0 < n) × (n ≤ maxSide) × (length (now s) ≡ n * n) × (now sd ≡ tab n (volatility (at (now s) n))) ⌝ }
     ensures { λ r. ⌜ r ≡ LedoitWolf.averageCorrelation n (at (now (s .entry)) n) ⌝ }
 {
     let mut t = 0.0;
@@ -83,7 +74,7 @@ fn put_row(r: f64, sd: &[f64], i: usize, variance: f64, out: &mut [f64])
 
 // The variances of s, and the average correlation r times two volatilities off the diagonal.
 pub(crate) fn put_constant_correlation(s: &[f64], r: f64, sd: &[f64], n: usize, out: &mut [f64])
-    requires { ⌜ (length (now s) ≡ n * n) × (r ≡ LedoitWolf.averageCorrelation n (at (now s) n)) × (now sd ≡ tab n (deviationOf (at (now s) n))) × (length (now out) ≡ n * n) ⌝ }
+    requires { ⌜ (length (now s) ≡ n * n) × (r ≡ LedoitWolf.averageCorrelation n (at (now s) n)) × (now sd ≡ tab n (volatility (at (now s) n))) × (length (now out) ≡ n * n) ⌝ }
     ensures { λ _. ⌜ now (out .exit) ≡ rows n n (LedoitWolf.constantCorrelation n (at (now (s .entry)) n)) ⌝ }
 {
     let mut i = 0;

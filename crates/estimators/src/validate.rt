@@ -7,10 +7,8 @@ use crate::Estimate;
 use crate::Field;
 use crate::Refusal;
 use crate::Regularization;
-use crate::Settings;
 use crate::Shrinkage;
 use crate::checks::Check;
-use crate::checks::first;
 use crate::checks::when;
 
 fn is_sample(estimate: Estimate) -> bool

@@ -26,17 +26,6 @@ pub(crate) fn divide(x: f64, out: &mut [f64])
     }
 }
 
-pub(crate) fn copy(xs: &[f64], out: &mut [f64])
-    requires { ⌜ length (now xs) ≡ length (now out) ⌝ }
-    ensures { λ _. ⌜ now (out .exit) ≡ now (xs .entry) ⌝ }
-{
-    let mut k = 0;
-    while k < out.len() {
-        out[k] = xs[k];
-        k += 1;
-    }
-}
-
 pub(crate) fn times(a: f64, out: &mut [f64])
     ensures { λ _. ⌜ now (out .exit) ≡ tab (length (now (out .entry))) (λ (k : ℕ). a ⊗ nth (now (out .entry)) k) ⌝ }
 {

@@ -26,13 +26,11 @@ use crate::sample;
 use crate::scales;
 use crate::vectors;
 
-const LN_2: f64 = 0.693147180559945309417232121458;
-
 // ln λ for the half-life h.
 pub(crate) fn log_decay(h: f64) -> f64
     ensures { λ r. ⌜ r ≡ Weighted.logDecay h ⌝ }
 {
-    -LN_2 / h
+    -leaves::exponential::LN_2 / h
 }
 
 // ln λ in [-708, 0).

@@ -2,8 +2,8 @@
 // malformed, whatever stands behind.
 fn main() {
     let mut paper = io::large_buffer();
-    let n = io::read_full(0, &mut paper);
+    let n = io::read_full(libc::STDIN_FILENO, &mut paper);
     let mut text = [0u8; paper::TEXT];
     let k = paper::mark(&paper[..n], &mut text);
-    io::write_all(1, &text[..k]);
+    io::write_all(libc::STDOUT_FILENO, &text[..k]);
 }

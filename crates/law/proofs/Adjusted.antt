@@ -4,7 +4,7 @@ use mathlib.Core.Path.{_≡_, refl, sym, ap, ap₂, _∙_, subst, subst₂}
 use mathlib.Core.Logic.{_⊎_, inl, inr}
 use Prim.Native.Nat.{ℕ, _+_, _*_, _^_, _≤_, _<_}
 use native.Mathlib.Omega.{arith}
-use mathlib.Core.Bool.{Bool, true, false, not, cond, _&&_}
+use mathlib.Core.Bool.{Bool, true, false, not, cond, _&&_, and-eq-true-iff}
 use mathlib.Core.Option.{none}
 use mathlib.Core.List.{List, [], _∷_, _++_, map}
 use lib.Dec.{eqb, lit≤}
@@ -44,7 +44,7 @@ use Rattle.estimators.specs.declared.Field.the-variants.{ShrinkageField}
 use Rattle.estimators.specs.declared.Refusal.the-variants.{BadSetting, CovarianceNotFinite, NotTheSample, ZeroVariance, WrongSide, Singular}
 use Rattle.estimators.specs.declared.Answer.{Answer}
 use Rattle.estimators.specs.declared.Answer.the-variants.{Covariance, Intensity}
-use Rattle.law.specs.Law.{All, Sized, AtLeast, answerParts, Alike, ask, EstimateInRange, ShrinkageInRange, CopiedEstimate}
+use Rattle.law.specs.Law.{All, Sized, AtLeast, answerParts, Alike, ask, EstimateInRange, ShrinkageInRange, CopiedEstimate, maxPower, returnRange, covarianceRange, intensityRange}
 use Rattle.law.specs.Law as Law
 use Rattle.law.proofs.Numbers.{times-itself, means-alike}
 use Rattle.law.proofs.Chain.{Chain, ends, pass-must, pass-some, chain-same, chain-test, chain-must, chain-map, chain-append, chained, parts, settled}
@@ -75,13 +75,13 @@ module _ (r : List Float) (n P : ℕ) (opens : (ds : List Check) → first (open
   unfolding ledoitWolfIntensity ledoitWolfOrder settle first
   answers F e = ap (λ (c : Check). settle c [] (answered (Intensity (ledoitWolf F P n (at r n))) []) .answer) (opens (noCorrelation (LedoitWolf F) P n (at r n) ∷ []) ∙ ap (λ (c : Check). first (c ∷ [])) e)
 
-  ledoitWolf-known : (F : Target) → AtLeast 40 (ledoitWolf F P n (at r n)) → (ledoitWolf F P n (at r n) ≡ nan) ⊎ Shrinking.Intensity (ledoitWolf F P n (at r n))
+  ledoitWolf-known : (F : Target) → AtLeast intensityRange (ledoitWolf F P n (at r n)) → (ledoitWolf F P n (at r n) ≡ nan) ⊎ Shrinking.Intensity (ledoitWolf F P n (at r n))
   unfolding ledoitWolf intensityOf
   ledoitWolf-known F a = go (lt zero⁺ _) _ (div-fits binary64 _ _) a
     where
-      go : (b : Bool) (w : Float) → lib.Dec.T (fits binary64 w) → AtLeast 40 (elim b [ true ↦ clamp01 w | false ↦ zero⁺ ])
+      go : (b : Bool) (w : Float) → lib.Dec.T (fits binary64 w) → AtLeast intensityRange (elim b [ true ↦ clamp01 w | false ↦ zero⁺ ])
           → ((elim b [ true ↦ clamp01 w | false ↦ zero⁺ ]) ≡ nan) ⊎ Shrinking.Intensity (elim b [ true ↦ clamp01 w | false ↦ zero⁺ ])
-      go true w t a = clamped-range 40 (lit≤ tt) w t a
+      go true w t a = clamped-range intensityRange (lit≤ tt) w t a
       go false w t a = inr (range-zero 982 (2 ^ 1034) (2 ^ 1074))
 
   no : {F : Target} → LedoitWolf F ≡ Unshrunk → ⊥
@@ -90,18 +90,13 @@ module _ (r : List Float) (n P : ℕ) (opens : (ds : List Check) → first (open
   intensity-known : (S : Shrinkage) (E : Estimate) → ShrinkageInRange S (isSample E) r n P → badShrinkage S ≡ passes → notTheSample S E ≡ passes → noCorrelation S P n (at r n) ≡ passes → Known S (intensity S P n (at r n))
   unfolding intensity badShrinkage notTheSample
   intensity-known Unshrunk E q a b c = inr (range-zero 982 (2 ^ 1034) (2 ^ 1074))
-  intensity-known (Fixed δ) E q a b c = inr (fixed δ (q .0) (q .1) (both (le zero⁺ δ) (le δ one) a))
+  intensity-known (Fixed δ) E q a b c = inr (fixed δ (q .0) (q .1) (and-eq-true-iff (le zero⁺ δ) (le δ one) .0 (pass-must (le zero⁺ δ && le δ one) (BadSetting ShrinkageField) a)))
     where
-      both : (u v : Bool) → when (not (u && v)) (BadSetting ShrinkageField) ≡ passes → (u ≡ true) × (v ≡ true)
-      both true true e = (refl, refl)
-      both true false e = let z : false ≡ true = cc in (refl, z)
-      both false v e = let z : false ≡ true = cc in (z, absurd (subst lib.Dec.T (sym z) tt))
-
-      fixed : (δ : Float) → lib.Dec.T (fits binary64 δ) → AtLeast 40 δ → (le zero⁺ δ ≡ true) × (le δ one ≡ true) → Shrinking.Intensity δ
-      fixed δ t a e = elim (unit-range 40 (lit≤ tt) δ t a (le-not-lt zero⁺ δ (e .0)) (le-not-lt δ one (e .1))) [ inl z ↦ absurd (at-least-nan δ z (e .0)) | inr q ↦ q ]
+      fixed : (δ : Float) → lib.Dec.T (fits binary64 δ) → AtLeast intensityRange δ → (le zero⁺ δ ≡ true) × (le δ one ≡ true) → Shrinking.Intensity δ
+      fixed δ t a e = elim (unit-range intensityRange (lit≤ tt) δ t a (le-not-lt zero⁺ δ (e .0)) (le-not-lt δ one (e .1))) [ inl z ↦ absurd (at-least-nan δ z (e .0)) | inr q ↦ q ]
   intensity-known (LedoitWolf F) E q a b c =
       let e : isSample E ≡ true = pass-must (isSample E) NotTheSample b in
-      let l : All (AtLeast 40) (ledoitWolf F P n (at r n) ∷ []) = subst (λ (w : Answer). All (AtLeast 40) (answerParts n w [] .intensity)) (answers F c) (subst (λ (z : Bool). All (AtLeast 40) (cond z (answerParts n (ledoitWolfIntensity r n P F) [] .intensity) [])) e q) in
+      let l : All (AtLeast intensityRange) (ledoitWolf F P n (at r n) ∷ []) = subst (λ (w : Answer). All (AtLeast intensityRange) (answerParts n w [] .intensity)) (answers F c) (subst (λ (z : Bool). All (AtLeast intensityRange) (cond z (answerParts n (ledoitWolfIntensity r n P F) [] .intensity) [])) e q) in
       elim (ledoitWolf-known F (l .0)) [ inl z ↦ inl (z, λ w. no w) | inr i ↦ inr i ]
 
 -- ---- the checks of the settings, and the adjusted matrix
@@ -109,7 +104,7 @@ not-finite-nan : {A : Type 0} → isFinite nan ≡ true → A
 unfolding isFinite
 not-finite-nan e = absurd (subst lib.Dec.T (sym e) tt)
 
-module _ (k : ℕ) (small : k ≤ 80) (r : List Float) (sizes : All (Sized 40) r) (n P : ℕ) (s : Shape r n P) (side limit : ℕ) (S : Shrinkage) (H H' : Regularization) (h : Regularized (k + k) H H') (E E' : Estimate) (G G' : Matrix)
+module _ (k : ℕ) (small : k ≤ maxPower) (r : List Float) (sizes : All (Sized returnRange) r) (n P : ℕ) (s : Shape r n P) (side limit : ℕ) (S : Shrinkage) (H H' : Regularization) (h : Regularized (k + k) H H') (E E' : Estimate) (G G' : Matrix)
     (e : Based k n P side E E' (at r n) (at (map (shift (pos k)) r) n) G G') (δ : Float)
     (known : badShrinkage S ≡ passes → notTheSample S E ≡ passes → noCorrelation S P n (at r n) ≡ passes → Known S δ) where
   abbrev x : Matrix
@@ -124,7 +119,7 @@ module _ (k : ℕ) (small : k ≤ 80) (r : List Float) (sizes : All (Sized 40) r
   abbrev b' : Matrix
   b' = at (rows n n (base E' P (at (map (shift (pos k)) r) n) G')) n
 
-  double : k + k ≤ 160
+  double : k + k ≤ maxPower + maxPower
   double = omega arith
 
   -- the estimate
@@ -217,8 +212,8 @@ pub record Outcome (k n : ℕ) (δ δ' : Float) (d d' : Decomposition) (a a' : M
   pub decomposition : d' ≡ d
   pub entries : (i j : ℕ) → i < n → j < n → Adjusted (k + k) (a i j) (a' i j)
 
-module _ (k : ℕ) (small : k ≤ 80) (r : List Float) (sizes : All (Sized 40) r) (n P side limit : ℕ) (S : Shrinkage) (H H' : Regularization) (h : Regularized (k + k) H H') (E E' : Estimate) (g g' : List Float)
-    (copied : CopiedEstimate (pos k) E E') (q : EstimateInRange P E) (q' : EstimateInRange P E') (given : isGiven E ≡ true → All (Sized 80) g × (g' ≡ map (shift (pos (k + k))) g)) (shrinks : ShrinkageInRange S (isSample E) r n P) where
+module _ (k : ℕ) (small : k ≤ maxPower) (r : List Float) (sizes : All (Sized returnRange) r) (n P side limit : ℕ) (S : Shrinkage) (H H' : Regularization) (h : Regularized (k + k) H H') (E E' : Estimate) (g g' : List Float)
+    (copied : CopiedEstimate (pos k) E E') (q : EstimateInRange P E) (q' : EstimateInRange P E') (given : isGiven E ≡ true → All (Sized covarianceRange) g × (g' ≡ map (shift (pos (k + k))) g)) (shrinks : ShrinkageInRange S (isSample E) r n P) where
   abbrev r' : List Float
   r' = map (shift (pos k)) r
 

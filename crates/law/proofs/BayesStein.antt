@@ -1,7 +1,6 @@
 -- The Bayes-Stein mean: the call. Moments, correlations and decomposition are the same in both runs, so the checks are; `Pull` has what is answered where they pass. Assumes nothing.
 use mathlib.Core.Path.{_≡_, refl, ap, _∙_, subst}
 use Prim.Native.Nat.{ℕ, _≤_, _<_}
-use mathlib.Core.Bool.{Bool, true, false}
 use mathlib.Core.List.{List, _++_, map}
 use lib.Dec.{ltb, lit≤}
 use lib.IntN.{pos}
@@ -16,7 +15,7 @@ use Rattle.leaves.proofs.Loops.{first-all}
 use Rattle.leaves.proofs.Whole.{over}
 use Rattle.matrix.specs.Limits.{maxSweeps}
 use Rattle.matrix.specs.Matrix.{at, allFinite}
-use Rattle.estimators.specs.Refusals.{Check, passes, when}
+use Rattle.estimators.specs.Refusals.{Check}
 use Rattle.estimators.specs.Sample.{constantAsset}
 use Rattle.estimators.specs.Moments.{Moments}
 use Rattle.estimators.specs.BayesStein.{singular, pulled}
@@ -26,16 +25,16 @@ use Rattle.estimators.specs.declared.Field.the-variants.{SweepLimitField}
 use Rattle.estimators.specs.declared.Refusal.the-variants.{BadSetting, ZeroVariance, Singular}
 use Rattle.estimators.specs.declared.Answer.the-variants.{Shrunk}
 use borrow.Author.Tests.{ltb-false}
-use Rattle.law.specs.Law.{All, Sized, AtLeast, Alike, ask}
+use Rattle.law.specs.Law.{All, Sized, AtLeast, Alike, ask, maxPower, returnRange, meanRange}
 use Rattle.law.specs.Law as Law
-use Rattle.law.proofs.Chain.{Chain, ends, chain-same, chain-test, chain-must, chain-some, chained, parts, settled}
+use Rattle.law.proofs.Chain.{Chain, ends, pass-test, chain-same, chain-test, chain-must, chain-some, chained, parts, settled}
 use Rattle.law.proofs.Moments.{large, Copied, shrunk-alike}
 use Rattle.law.proofs.Opening.{Shape, returns, opening-chain}
 use Rattle.law.proofs.Columns.{C, column, constant-same, exps, exps-at, found, found-same, pull, sizeOf, taken, Σ}
 use Rattle.law.proofs.Pull.{Passed, target-fits, target-moved, intensity-same, means-moved}
 
 -- ---- the call
-module _ (k : ℕ) (small : k ≤ 80) (r : List Float) (sizes : All (Sized 40) r) (sizes' : All (Sized 40) (map (shift (pos k)) r)) (n P limit : ℕ) where
+module _ (k : ℕ) (small : k ≤ maxPower) (r : List Float) (sizes : All (Sized returnRange) r) (sizes' : All (Sized returnRange) (map (shift (pos k)) r)) (n P limit : ℕ) where
   abbrev result : List Float → List Float → Answered
   result r slice =
       let m = found P n (at r n) in
@@ -47,15 +46,15 @@ module _ (k : ℕ) (small : k ≤ 80) (r : List Float) (sizes : All (Sized 40) r
   order r slice = let m = found P n (at r n) in bayesSteinOrder r n P limit slice (sizeOf P n (at r n)) (Σ n m) (C n m) (taken limit n m)
 
   pub bayes-stein-law : (slice slice' : List Float) → length slice' ≡ length slice
-      → All (AtLeast 400) (parts n (ask r n P (Law.bayesStein limit) slice) .meansAndTarget ++ parts n (ask r n P (Law.bayesStein limit) slice) .intensity)
-      → All (AtLeast 400) (parts n (ask (map (shift (pos k)) r) n P (Law.bayesStein limit) slice') .meansAndTarget ++ parts n (ask (map (shift (pos k)) r) n P (Law.bayesStein limit) slice') .intensity)
+      → All (AtLeast meanRange) (parts n (ask r n P (Law.bayesStein limit) slice) .meansAndTarget ++ parts n (ask r n P (Law.bayesStein limit) slice) .intensity)
+      → All (AtLeast meanRange) (parts n (ask (map (shift (pos k)) r) n P (Law.bayesStein limit) slice') .meansAndTarget ++ parts n (ask (map (shift (pos k)) r) n P (Law.bayesStein limit) slice') .intensity)
       → Alike (pos k) (parts n (ask r n P (Law.bayesStein limit) slice)) (parts n (ask (map (shift (pos k)) r) n P (Law.bayesStein limit) slice'))
   unfolding bayesSteinMean settle
   bayes-stein-law slice slice' e large₁ large₂ =
       let r' = map (shift (pos k)) r in
       settled (chained chain) (pos k) n slice slice' (result r slice) (result r' slice') (λ p p' q.
-      let a = large n _ _ _ slice (subst (λ (c : Check). All (AtLeast 400) (parts n (settle c slice (result r slice)) .meansAndTarget ++ parts n (settle c slice (result r slice)) .intensity)) p large₁) in
-      let b = large n _ _ _ slice' (subst (λ (c : Check). All (AtLeast 400) (parts n (settle c slice' (result r' slice')) .meansAndTarget ++ parts n (settle c slice' (result r' slice')) .intensity)) p' large₂) in
+      let a = large n _ _ _ slice (subst (λ (c : Check). All (AtLeast meanRange) (parts n (settle c slice (result r slice)) .meansAndTarget ++ parts n (settle c slice (result r slice)) .intensity)) p large₁) in
+      let b = large n _ _ _ slice' (subst (λ (c : Check). All (AtLeast meanRange) (parts n (settle c slice' (result r' slice')) .meansAndTarget ++ parts n (settle c slice' (result r' slice')) .intensity)) p' large₂) in
       shrunk-alike slice slice' (copied (q .0) (q .1) (a .intensity) (a .target) (b .target)))
     where
       chain : Chain (Shape r n P × Passed limit n (found P n (at r n)) (sizeOf P n (at r n))) (order r slice) (order (map (shift (pos k)) r) slice')
@@ -71,21 +70,14 @@ module _ (k : ℕ) (small : k ≤ 80) (r : List Float) (sizes : All (Sized 40) r
           chain-test (singular n (taken limit n m)) Singular (ap (λ (m : Moments). singular n (taken limit n m)) same) (λ e₅. ends (
             s,
             record {
-              limited = unfold sweepLimit in limits e₁;
+              limited = unfold sweepLimit in ltb-false maxSweeps limit (pass-test (ltb maxSweeps limit) (BadSetting SweepLimitField) e₁);
               above = unfold constantAsset in first-all (λ i. le (sqrt (Σ n m i i)) (1e-10 ⊗ sizeOf P n (at r n) i)) n e₂;
               regular = e₅;
             },
           )))))))
-        where
-          limits : when (ltb maxSweeps limit) (BadSetting SweepLimitField) ≡ passes → limit ≤ maxSweeps
-          limits h = ltb-false maxSweeps limit (go (ltb maxSweeps limit) h)
-            where
-              go : (b : Bool) → when b (BadSetting SweepLimitField) ≡ passes → b ≡ false
-              go true h = let z : true ≡ false = cc in z
-              go false h = refl
 
-      copied : (s : Shape r n P) → Passed limit n (found P n (at r n)) (sizeOf P n (at r n)) → AtLeast 400 (pull limit n (found P n (at r n)) (exps P n (at r n)) .intensity) → AtLeast 400 (pull limit n (found P n (at r n)) (exps P n (at r n)) .target)
-          → AtLeast 400 (pull limit n (found P n (at (map (shift (pos k)) r) n)) (exps P n (at (map (shift (pos k)) r) n)) .target)
+      copied : (s : Shape r n P) → Passed limit n (found P n (at r n)) (sizeOf P n (at r n)) → AtLeast meanRange (pull limit n (found P n (at r n)) (exps P n (at r n)) .intensity) → AtLeast meanRange (pull limit n (found P n (at r n)) (exps P n (at r n)) .target)
+          → AtLeast meanRange (pull limit n (found P n (at (map (shift (pos k)) r) n)) (exps P n (at (map (shift (pos k)) r) n)) .target)
           → Copied k n (pull limit n (found P n (at r n)) (exps P n (at r n)) .intensity) (pull limit n (found P n (at (map (shift (pos k)) r) n)) (exps P n (at (map (shift (pos k)) r) n)) .intensity)
           (pull limit n (found P n (at r n)) (exps P n (at r n)) .target) (pull limit n (found P n (at (map (shift (pos k)) r) n)) (exps P n (at (map (shift (pos k)) r) n)) .target)
           (taken limit n (found P n (at r n)) .sweeps) (taken limit n (found P n (at (map (shift (pos k)) r) n)) .sweeps) (taken limit n (found P n (at r n)) .rotations) (taken limit n (found P n (at (map (shift (pos k)) r) n)) .rotations)
@@ -98,7 +90,7 @@ module _ (k : ℕ) (small : k ≤ 80) (r : List Float) (sizes : All (Sized 40) r
           let same = found-same small R in
           let s' : Shape r' n P = record { assets = s .assets; few = s .few; periods = s .periods; most = s .most; full = length-map r (shift (pos k)) ∙ s .full } in
           let tops : (i : ℕ) → i < n → over (exps P n (at r' n) i) ≤ 40 = λ i l. rw (exps-at P n (at r' n) i l) (column (lit≤ {m = 0} tt) (returns 0 (lit≤ tt) r' sizes' n P s') i l .small .0) in
-          let c' = subst (λ (m : Moments). AtLeast 400 (pull limit n m f .target)) same c in
+          let c' = subst (λ (m : Moments). AtLeast meanRange (pull limit n m f .target)) same c in
           record {
             intensity = ap (λ (m : Moments). pull limit n m f .intensity) same ∙ intensity-same small R tops limit q;
             target = (target-fits small R tops limit q, ap (λ (m : Moments). pull limit n m f .target) same ∙ target-moved small R tops limit q b c');

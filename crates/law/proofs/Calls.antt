@@ -10,17 +10,17 @@ use Rattle.leaves.specs.Scaling.{binaryExponent, pow2Scaled}
 use Rattle.matrix.specs.Matrix.{Matrix, at, amax}
 use Rattle.matrix.specs.Jacobi.{Decomposition}
 use Rattle.estimators.specs.Refusals.{Check, when, first}
-use Rattle.estimators.specs.Sample.{scaled}
-use Rattle.estimators.specs.Moments.{Moments, moments}
+use Rattle.estimators.specs.Moments.{Moments}
 use Rattle.estimators.specs.Given.{averagedOf}
 use Rattle.estimators.specs.Adjusted.{decompositionOf, intensity, baseOf, adjustedOf}
-use Rattle.estimators.specs.JamesStein.{grandMean, unevenness, decomposeUneven, jamesSteinIntensity, towards}
+use Rattle.estimators.specs.JamesStein.{jamesSteinIntensity, towards}
 use Rattle.estimators.specs.BayesStein.{Pull, bayesSteinPull, pulled}
 use Rattle.estimators.specs.Order.{opening, sweepLimit, ofGiven, ofSettings, byCorrelations, byDecomposition, adjustedOrder, jamesSteinOrder, bayesSteinOrder}
 use Rattle.estimators.specs.Calls.{Answered, answered, settle, adjustedCovariance, jamesSteinMean, bayesSteinMean}
 use Rattle.estimators.specs.declared.Settings.{Settings}
 use Rattle.estimators.specs.declared.Refusal.the-variants.{Singular}
 use Rattle.estimators.specs.declared.Answer.the-variants.{Covariance, Shrunk}
+use Rattle.law.proofs.JamesStein as James
 use Rattle.law.proofs.Columns.{exps, found, Σ, C, taken, sizeOf}
 
 -- ---- the adjusted covariance
@@ -50,13 +50,13 @@ module _ (r : List Float) (n P : ℕ) where
   unit = binaryExponent (amax P n (at r n))
 
   abbrev pub inUnit : Moments
-  inUnit = moments P n (scaled (λ i. unit) (at r n))
+  inUnit = James.found P n (at r n)
 
   abbrev pub centre : Float
-  centre = grandMean n (nth (inUnit .mean))
+  centre = James.centre n inUnit
 
   abbrev pub uneven : ℕ → Decomposition
-  uneven limit = decomposeUneven limit n (unevenness n (nth (inUnit .mean)) centre) (at (inUnit .covariance) n)
+  uneven limit = James.taken limit n inUnit
 
   abbrev pub jamesBy : List Float → Decomposition → Check → Answered
   jamesBy slice d c =

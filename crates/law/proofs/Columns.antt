@@ -32,13 +32,13 @@ use Rattle.estimators.specs.Sample.{mean, deviation, gram, covariance, largest,
 use Rattle.estimators.specs.Moments.{Moments, moments}
 use Rattle.estimators.specs.BayesStein.{Pull, bayesSteinPull, exponentsOf, largestIn, correlations}
 use borrow.Author.Tests.{ne-eqb}
+use Rattle.law.specs.Law.{maxPower}
 use Rattle.law.proofs.Sizes.{plus-val, le-no}
 use Rattle.law.proofs.Sample.{Returns, entries-as, mean-moved, covariance-moved, largest-moved, largest-above, tenth-moved, tenth-above}
-use Rattle.law.proofs.Scaled.{Scaling, scaling, scaled-least, exponent-within, exponent-null}
+use Rattle.law.proofs.Scaled.{sign-scaled, Scaling, scaling, scaled-least, exponent-within, exponent-null}
 use Rattle.law.proofs.Correlation.{sign-variance, sign-largest, above-zero}
 use Rattle.law.proofs.Shrinkage.{one-moved}
 use Rattle.law.proofs.Moments.{moments-same}
-use Rattle.law.proofs.Share.{sign-scaled}
 use Rattle.law.proofs.Ratio.{product-is, quotient-is}
 
 -- ---- the parts of the call
@@ -67,7 +67,7 @@ pub exps-at : (P n : ℕ) (x : Matrix) (i : ℕ) → i < n → exps P n x i ≡ 
 exps-at P n x i l = nth-tab n (λ i. binaryExponent (largest P x i)) i (pos 0) l
 
 -- ---- each column over its power of two
-module _ {k n P : ℕ} {x y : Matrix} (small : k ≤ 80) (r : Returns k n P 982 1034 1114 x y) where
+module _ {k n P : ℕ} {x y : Matrix} (small : k ≤ maxPower) (r : Returns k n P 982 1034 1114 x y) where
   pub column : (i : ℕ) → i < n → Scaling k 982 1034 1114 (largest P x i) (largest P y i)
   column i a = scaling (largest-moved r i a) (lit≤ tt) (lit≤ tt) (lit≤ tt) (lit≤ tt) (lit≤ tt) (lit≤ tt) (omega arith)
 

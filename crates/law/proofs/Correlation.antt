@@ -1,8 +1,8 @@
 -- The constant-correlation target of a covariance s whose variances are above zero, and of its copy s', each entry 4 ^ k times as large: deviations are 2 ^ k times as large and correlations the same.
 -- Products are in the normal range all the way, so nothing rounds differently. Assumes nothing.
 use mathlib.Core.Path.{_≡_, refl, sym, subst}
-use Prim.Native.Nat.{ℕ, zero, suc, _+_, _-_, _*_, _≤_, _<_, zero-le}
-use native.Mathlib.Nat.{le-trans, lt-of-le-of-lt, zero-add, mul-pos, mul-le-mul, not-suc-le-zero}
+use Prim.Native.Nat.{ℕ, zero, suc, _+_, _-_, _*_, _^_, _≤_, _<_, zero-le}
+use native.Mathlib.Nat.{le-trans, sub-le, lt-of-le-of-lt, zero-add, mul-pos, not-suc-le-zero}
 use native.Mathlib.Omega.{arith}
 use mathlib.Core.Bool.{Bool, true, false, cond}
 use lib.Dec.{T, eqb, eqb-refl, lit≤}
@@ -16,8 +16,11 @@ use Rattle.leaves.proofs.Signs.{sign-mul, sign-div, sign-sum, sign-count, sign-
 use Rattle.leaves.proofs.SqrtNearest.{moved-sqrt}
 use Rattle.leaves.proofs.Totals.{amax-one}
 use Rattle.matrix.specs.Matrix.{Matrix}
-use Rattle.estimators.specs.Sample.{deviation, gram, covariance, largest}
-use Rattle.estimators.specs.LedoitWolf.{apart, deviationOf, averageCorrelation, constantCorrelation}
+use Rattle.estimators.specs.Sample.{deviation, gram, covariance, volatility, correlation, largest}
+use Rattle.estimators.specs.LedoitWolf.{apart, averageCorrelation, constantCorrelation}
+use Rattle.matrix.specs.Limits.{maxSide}
+use Rattle.law.specs.Law.{maxPower}
+use Rattle.law.proofs.Bits.{cellBits, cell-bits}
 use Rattle.law.proofs.Sizes.{plus-val, le-no}
 use Rattle.law.proofs.Sample.{count-moved}
 use Rattle.law.proofs.Matrices.{over-moved}
@@ -38,7 +41,7 @@ pub above-zero : {g L B g' L' B' : ℕ} (v a : Float) → Range g L B (sqrt v) �
 above-zero v a p q sv sa h = lt-of-le-of-lt zero-le (le-no (sqrt v) (1e-10 ⊗ a) (plus-val p (sign-sqrt v sv)) (plus-val q (sign-mul 1e-10 a (unfold sign ofBits in sym sa))) h)
 
 -- ---- the target
-module _ (k n : ℕ) (small : k ≤ 80) (assets : 0 < n) (few : n ≤ 32) (s s' : Matrix) (each : (i j : ℕ) → i < n → j < n → Moved (k + k) 698 750 1192 (s i j) (s' i j))
+module _ (k n : ℕ) (small : k ≤ maxPower) (assets : 0 < n) (few : n ≤ maxSide) (s s' : Matrix) (each : (i j : ℕ) → i < n → j < n → Moved (k + k) 698 750 1192 (s i j) (s' i j))
     (plus : (i : ℕ) → i < n → sign (s i i) ≡ false) (above : (i : ℕ) → i < n → 0 < mag (sqrt (s i i))) where
   deviation-moved : (i : ℕ) → i < n → Moved k 860 912 1133 (sqrt (s i i)) (sqrt (s' i i))
   deviation-moved i a = moved-sqrt (each i i a a) (sign-not-below (s i i) (plus i a)) 860 1133 (lit≤ tt) (lit≤ tt)
@@ -51,12 +54,9 @@ module _ (k n : ℕ) (small : k ≤ 80) (assets : 0 < n) (few : n ≤ 32) (s s' 
   average-moved : 2 ≤ n → Moved 0 518 570 1526 (averageCorrelation n s) (averageCorrelation n s')
   unfolding averageCorrelation
   average-moved two =
-      let pairs : n * (n - 1) ≤ 1024 = le-trans (mul-le-mul few (le-trans (less n) few)) (lit≤ tt) in
-      moved-over (over-moved n apart (λ i j. s i j ⊘ deviationOf s i ⊘ deviationOf s j) (λ i j. s' i j ⊘ deviationOf s' i ⊘ deviationOf s' j) (le-trans (mul-le-mul few few) (lit≤ tt)) (lit≤ tt) correlation-moved)
-      (count-moved 10 (n * (n - 1)) (lit≤ tt) pairs) (count-pos (n * (n - 1)) (mul-pos assets (omega arith)) (le-trans pairs (lit≤ tt))) 518 1526 (lit≤ tt) (lit≤ tt) (lit≤ tt)
-    where
-      less : (n : ℕ) → n - 1 ≤ n
-      less n = omega arith
+      let pairs : n * (n - 1) ≤ 2 ^ cellBits = cell-bits few (le-trans (sub-le n 1) few) in
+      moved-over (over-moved n apart (correlation s) (correlation s') few (lit≤ tt) correlation-moved)
+      (count-moved cellBits (n * (n - 1)) (lit≤ tt) pairs) (count-pos (n * (n - 1)) (mul-pos assets (omega arith)) (le-trans pairs (lit≤ tt))) 518 1526 (lit≤ tt) (lit≤ tt) (lit≤ tt)
 
   pub target-moved : (i j : ℕ) → i < n → j < n → Moved (k + k) 194 246 1644 (constantCorrelation n s i j) (constantCorrelation n s' i j)
   unfolding constantCorrelation
@@ -68,7 +68,7 @@ module _ (k n : ℕ) (small : k ≤ 80) (assets : 0 < n) (few : n ≤ 32) (s s' 
       two zero (suc j) (suc n) a b e = omega arith
       two (suc i) j (suc n) a b e = omega arith
 
-      go : (c : Bool) → eqb i j ≡ c → Moved (k + k) 194 246 1644 (cond c (s i i) (averageCorrelation n s ⊗ deviationOf s i ⊗ deviationOf s j)) (cond c (s' i i) (averageCorrelation n s' ⊗ deviationOf s' i ⊗ deviationOf s' j))
+      go : (c : Bool) → eqb i j ≡ c → Moved (k + k) 194 246 1644 (cond c (s i i) (averageCorrelation n s ⊗ volatility s i ⊗ volatility s j)) (cond c (s' i i) (averageCorrelation n s' ⊗ volatility s' i ⊗ volatility s' j))
       go true e = moved-weaken 194 246 1644 (lit≤ tt) (lit≤ tt) (lit≤ tt) (each i i a a)
       go false e =
           let once = rw (zero-add k) at (moved-mul-normal (average-moved (two i j n a b e)) (deviation-moved i a) 356 1585 (lit≤ tt) (lit≤ tt) (omega arith)) in

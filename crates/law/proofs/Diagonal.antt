@@ -10,6 +10,7 @@ use mathlib.Core.Option.{Option, none, some}
 use lib.Dec.{T, ltb, eqb}
 use lib.IntN.{pos}
 use lib.Ieee.{Float, nan, inf, fin, binary64, lt, le, eq, isNan, fits}
+use lib.Ieee.Bits.{is-true}
 use lib.Ieee.Fits.{div-fits}
 use borrow.Author.Tests.{ltb-true, eqb-true, eqb-false}
 use Rattle.leaves.specs.Numbers.{_⊕_, _⊗_, _⊘_, zero⁺, half, two, ε, isFinite}
@@ -136,14 +137,10 @@ diagonal-found limit n a p fit all diagonal = go (eq (amax n n a) zero⁺) refl
 -- ---- a given matrix: its averages are to be finite, which those of entries of size 2^1023 are not
 finite-from : (n : ℕ) (a : Matrix) → ((i j : ℕ) → i < n → j < n → T (isFinite (a i j))) → allFinite n n a ≡ true
 unfolding allFinite firstEntry
-finite-from n a h = ap decided (none-first (n * n) (λ k. not (isFinite (a (k / n) (k % n)))) (λ k l. yes (isFinite (a (k / n) (k % n))) (h (k / n) (k % n) (row-below k n l) (col-below k n l))))
+finite-from n a h = ap decided (none-first (n * n) (λ k. not (isFinite (a (k / n) (k % n)))) (λ k l. ap not (is-true (isFinite (a (k / n) (k % n))) (h (k / n) (k % n) (row-below k n l) (col-below k n l)))))
   where
     decided : Option ℕ → Bool
     decided o = elim (elim o as (λ z. Option (ℕ × ℕ)) [ none ↦ none | some k ↦ some (k / n, k % n) ]) as (λ z. Bool) [ none ↦ true | some k ↦ false ]
-
-    yes : (b : Bool) → T b → not b ≡ false
-    yes true t = refl
-    yes false t = absurd t
 
 above-not : (x : Float) → lt zero⁺ x ≡ true → eq x zero⁺ ≡ false
 above-not nan e = unfold lt in absurd (subst T (sym e) tt)

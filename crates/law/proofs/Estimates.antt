@@ -7,7 +7,7 @@ use native.Mathlib.Omega.{arith}
 use mathlib.Core.Bool.{Bool, true, false, not, _&&_}
 use mathlib.Core.List.{List, map}
 use mathlib.Core.Option.{Option}
-use lib.Dec.{T, eqb, lit≤}
+use lib.Dec.{eqb, lit≤}
 use lib.IntN.{pos}
 use lib.ListN.{length}
 use lib.Ieee.{Float, eq}
@@ -16,6 +16,7 @@ use Rattle.leaves.specs.Numbers.{zero⁺, isFinite}
 use Rattle.leaves.specs.Shift.{shift}
 use Rattle.leaves.proofs.Loops.{first-ext}
 use Rattle.leaves.proofs.Shift.{isFinite-shift, eq-shift, shift-zero⁺}
+use Rattle.leaves.proofs.Zero.{no}
 use Rattle.leaves.proofs.Operations.{moved-weaken}
 use Rattle.matrix.specs.Matrix.{Matrix, at}
 use Rattle.estimators.specs.Refusals.{passes, when, whenSome}
@@ -29,7 +30,7 @@ use Rattle.estimators.specs.declared.Shrinkage.{Shrinkage}
 use Rattle.estimators.specs.declared.Regularization.{Regularization}
 use Rattle.estimators.specs.declared.Field.the-variants.{HalfLifeField, ThresholdField}
 use Rattle.estimators.specs.declared.Refusal.the-variants.{BadSetting, ZeroVariance}
-use Rattle.law.specs.Law.{All, Sized, EstimateInRange, CopiedEstimate, sample, given, weighted, semi, semiBelow}
+use Rattle.law.specs.Law.{All, Sized, EstimateInRange, CopiedEstimate, sample, given, weighted, semi, semiBelow, maxPower, returnRange, covarianceRange}
 use Rattle.law.proofs.Numbers.{copy-shift}
 use Rattle.law.proofs.Chain.{Chain, ends, pass-must}
 use Rattle.law.proofs.Sizes.{sized-fits}
@@ -48,7 +49,7 @@ pub record Based (k n P side : ℕ) (E E' : Estimate) (x y G G' : Matrix) : Type
   pub variance : (b b' : Matrix) → ((i : ℕ) → i < n → b' i i ≡ shift (pos (k + k)) (b i i)) → noVariance false E' P n y b' ≡ noVariance false E P n x b
   pub sampled : isSample E ≡ true → (i j : ℕ) → (base E P x G i j ≡ covariance P x i j) × (base E' P y G' i j ≡ covariance P y i j)
 
-module _ (k : ℕ) (small : k ≤ 80) (r : List Float) (sizes : All (Sized 40) r) (n P : ℕ) (s : Shape r n P) (side : ℕ) (G G' : Matrix) where
+module _ (k : ℕ) (small : k ≤ maxPower) (r : List Float) (sizes : All (Sized returnRange) r) (n P : ℕ) (s : Shape r n P) (side : ℕ) (G G' : Matrix) where
   abbrev x : Matrix
   x = at r n
 
@@ -61,9 +62,6 @@ module _ (k : ℕ) (small : k ≤ 80) (r : List Float) (sizes : All (Sized 40) r
   -- 9, of a variance from the returns
   varies : (b b' : Matrix) → ((i : ℕ) → i < n → b' i i ≡ shift (pos (k + k)) (b i i)) → whenSome (constantAsset n b' (largest P y)) ZeroVariance ≡ whenSome (constantAsset n b (largest P x)) ZeroVariance
   varies b b' e = ap (λ (o : Option ℕ). whenSome o ZeroVariance) (constant-same R (lit≤ tt) (lit≤ tt) (omega arith) b b' e)
-
-  no : {A : Type 0} → false ≡ true → A
-  no e = absurd (subst T (sym e) tt)
 
   from-sample : Based k n P side Sample Sample (at r n) (at (map (shift (pos k)) r) n) G G'
   unfolding badEstimate base noVariance
@@ -84,18 +82,18 @@ module _ (k : ℕ) (small : k ≤ 80) (r : List Float) (sizes : All (Sized 40) r
     given = refl;
     entries = λ e e' i j a b. moved-weaken 154 154 1522 (lit≤ tt) (lit≤ tt) (lit≤ tt) (semicovariance-moved R 918 (lit≤ tt) (omega arith) 762 (lit≤ tt) 698 (lit≤ tt) 1180 (lit≤ tt) (omega arith) i j a b);
     variance = varies;
-    sampled = λ e. no e;
+    sampled = λ e. no e refl;
   }
 
-  from-threshold : (θ θ' : Float) → Sized 40 θ → θ' ≡ shift (pos k) θ → Based k n P side (SemiBelow θ) (SemiBelow θ') (at r n) (at (map (shift (pos k)) r) n) G G'
+  from-threshold : (θ θ' : Float) → Sized returnRange θ → θ' ≡ shift (pos k) θ → Based k n P side (SemiBelow θ) (SemiBelow θ') (at r n) (at (map (shift (pos k)) r) n) G G'
   unfolding badEstimate base noVariance
   from-threshold θ θ' z e = record {
     bad = ap (λ (b : Bool). when (not b) (BadSetting ThresholdField)) (ap isFinite e ∙ isFinite-shift (pos k) θ);
     sample = refl;
     given = refl;
-    entries = λ q q' i j a b. moved-weaken 154 154 1522 (lit≤ tt) (lit≤ tt) (lit≤ tt) (semicovarianceBelow-moved R 918 (lit≤ tt) (omega arith) 762 (lit≤ tt) 698 (lit≤ tt) 1180 (lit≤ tt) (omega arith) (sized-moved k 40 (lit≤ tt) θ θ' z e) i j a b);
+    entries = λ q q' i j a b. moved-weaken 154 154 1522 (lit≤ tt) (lit≤ tt) (lit≤ tt) (semicovarianceBelow-moved R 918 (lit≤ tt) (omega arith) 762 (lit≤ tt) 698 (lit≤ tt) 1180 (lit≤ tt) (omega arith) (sized-moved k returnRange (lit≤ tt) θ θ' z e) i j a b);
     variance = varies;
-    sampled = λ e. no e;
+    sampled = λ e. no e refl;
   }
 
   from-weights : (h : Float) → EstimateInRange P (Weighted h) → Based k n P side (Weighted h) (Weighted h) (at r n) (at (map (shift (pos k)) r) n) G G'
@@ -106,11 +104,11 @@ module _ (k : ℕ) (small : k ≤ 80) (r : List Float) (sizes : All (Sized 40) r
     given = refl;
     entries = λ q q' i j a b. Weighted.covariance-moved small R h long (pass-must (accepted (logDecay h)) (BadSetting HalfLifeField) q) i j a b;
     variance = varies;
-    sampled = λ e. no e;
+    sampled = λ e. no e refl;
   }
 
 -- a given matrix, where its slice has the right length
-module _ (k : ℕ) (small : k ≤ 80) (n P side : ℕ) (x y : Matrix) (g : List Float) (sizes : All (Sized 80) g) (full : length g ≡ side * side) where
+module _ (k : ℕ) (small : k ≤ maxPower) (n P side : ℕ) (x y : Matrix) (g : List Float) (sizes : All (Sized covarianceRange) g) (full : length g ≡ side * side) where
   from-given : Based k n P side Given Given x y (average side g) (average side (map (shift (pos (k + k))) g))
   unfolding badEstimate base noVariance
   from-given = record {
@@ -121,12 +119,12 @@ module _ (k : ℕ) (small : k ≤ 80) (n P side : ℕ) (x y : Matrix) (g : List 
         let e : side ≡ n = eqb-true side n (not-false (eqb side n) q') in
         moved-weaken 154 154 1522 (lit≤ tt) (lit≤ tt) (lit≤ tt) (average-moved (k + k) (omega arith) side 0 g sizes full i j (lt-of-lt-of-le a (le-of-eq (sym e))) (lt-of-lt-of-le b (le-of-eq (sym e))));
     variance = λ b b' e. ap (λ (o : Option ℕ). whenSome o ZeroVariance) (first-ext n (λ i. eq (b' i i) zero⁺) (λ i. eq (b i i) zero⁺) (λ i l. ap₂ eq (e i l) (sym (shift-zero⁺ (pos (k + k)))) ∙ eq-shift (pos (k + k)) (b i i) zero⁺));
-    sampled = λ e. absurd (subst T (sym e) tt);
+    sampled = λ e. no e refl;
   }
 
 -- ---- the checks of a given matrix, and after them what is known of the estimate
-pub estimate-chain : {Q : Type 0} (k : ℕ) (small : k ≤ 80) (r : List Float) (sizes : All (Sized 40) r) (n P : ℕ) (s : Shape r n P) (side limit : ℕ) (S : Shrinkage) (H H' : Regularization) (E E' : Estimate) (g g' : List Float)
-    → CopiedEstimate (pos k) E E' → EstimateInRange P E → EstimateInRange P E' → (isGiven E ≡ true → All (Sized 80) g × (g' ≡ map (shift (pos (k + k))) g))
+pub estimate-chain : {Q : Type 0} (k : ℕ) (small : k ≤ maxPower) (r : List Float) (sizes : All (Sized returnRange) r) (n P : ℕ) (s : Shape r n P) (side limit : ℕ) (S : Shrinkage) (H H' : Regularization) (E E' : Estimate) (g g' : List Float)
+    → CopiedEstimate (pos k) E E' → EstimateInRange P E → EstimateInRange P E' → (isGiven E ≡ true → All (Sized covarianceRange) g × (g' ≡ map (shift (pos (k + k))) g))
     → (Based k n P side E E' (at r n) (at (map (shift (pos k)) r) n) (average side g) (average side g') → decompositionOf (sets E' S H' limit) side (average side g') ≡ decompositionOf (sets E S H limit) side (average side g) → Q)
     → Chain Q (ofGiven (sets E S H limit) g side (decompositionOf (sets E S H limit) side (average side g))) (ofGiven (sets E' S H' limit) g' side (decompositionOf (sets E' S H' limit) side (average side g')))
 unfolding ofGiven decompositionOf
@@ -134,7 +132,7 @@ estimate-chain k small r sizes n P s side limit S H H' E E' g g' sample q q' kno
 estimate-chain k small r sizes n P s side limit S H H' E E' g g' semi q q' known then = ends (then (from-semi k small r sizes n P s side (average side g) (average side g')) refl)
 estimate-chain k small r sizes n P s side limit S H H' E E' g g' (weighted {halfLife = h}) q q' known then = ends (then (from-weights k small r sizes n P s side (average side g) (average side g') h q) refl)
 estimate-chain k small r sizes n P s side limit S H H' E E' g g' (semiBelow {x = θ} {y = θ'} c) q q' known then =
-    ends (then (from-threshold k small r sizes n P s side (average side g) (average side g') θ θ' q (copy-shift k θ θ' (sized-fits 40 θ q) (sized-fits 40 θ' q') c)) refl)
+    ends (then (from-threshold k small r sizes n P s side (average side g) (average side g') θ θ' q (copy-shift k θ θ' (sized-fits returnRange θ q) (sized-fits returnRange θ' q') c)) refl)
 estimate-chain {Q} k small r sizes n P s side limit S H H' E E' g g' given q q' known then =
     let m = known refl in
     let y = map (shift (pos (k + k))) g in

@@ -4,7 +4,7 @@
 use mathlib.Core.Path.{_≡_, refl, sym, ap, ap₂, _∙_, subst, subst₂}
 use mathlib.Core.Logic.{_⊎_, inl, inr}
 use Prim.Native.Nat.{ℕ, zero, suc, _+_, _-_, _*_, _/_, _^_, _≤_, _<_, zero-le}
-use native.Mathlib.Nat.{le-refl, le-trans, le-of-eq, le-of-lt, lt-of-le-of-lt, mul-le-mul, mul-le-mul-left, mul-le-mul-right, mul-pos, mul-assoc, mul-right-comm, mul-one, one-mul, zero-mul, eq-zero-or-pos, le-of-mul-le-mul-right, lt-of-mul-lt-mul-right, zero-lt-suc, div-add-mod', mod-lt, div-eq-of-lt}
+use native.Mathlib.Nat.{le-refl, le-trans, le-of-eq, le-of-lt, le-of-suc-le-suc, lt-of-le-of-lt, mul-le-mul, mul-le-mul-left, mul-le-mul-right, mul-pos, mul-assoc, mul-right-comm, mul-one, one-mul, zero-mul, eq-zero-or-pos, le-of-mul-le-mul-right, lt-of-mul-lt-mul-right, zero-lt-suc, div-add-mod', mod-lt, div-eq-of-lt}
 use native.Mathlib.Omega.{arith}
 use mathlib.Core.Bool.{Bool, true, false, not, cond, _&&_, _||_, or-true}
 use lib.Dec.{T, ltb, eqb, lit≤, lit<}
@@ -90,6 +90,9 @@ one-plus c few x t b v h = go t v
         (near n 1, subst (λ (s : Bool). Val (one ⊕ x) s (near n 1)) (ap (λ (z : Bool). cond z true false) i) (q .0), least n (omega (arith, less, more)), q .1)
 
 -- ---- Horner's scheme
+regroup : (W : ℕ) → 16 * W * (44 * W) ≡ 22 * W * (32 * W)
+regroup W = omega arith
+
 module _ (r : Float) (s : Bool) (a : ℕ) (v : Val r s a) (small-r : a ≤ 16 * W) where
   -- one step, divided by m
   step : (m : ℕ) (p : Float) (b c : ℕ) → 0 < m → m ≤ 14 → Val p false b → b ≤ 44 * W → c ≤ 31 → 22 ≤ c * m → (d : ℕ) × Val (one ⊕ r ⊗ p ⊘ count m) false d × ((32 - c) * W ≤ d) × (d ≤ (32 + c) * W)
@@ -99,9 +102,6 @@ module _ (r : Float) (s : Bool) (a : ℕ) (v : Val r s a) (small-r : a ≤ 16 * 
       (le-trans (mul-le-mul-right U (q .1)) (le-trans (mul-le-mul-right U (mul-le-mul-right W e)) (le-of-eq (along c m W U)))) in
       one-plus c few (r ⊗ p ⊘ count m) (unlike (unlike s false) false) (near (near (a * b) U * U) (m * U)) (k .0) (k .1)
     where
-      regroup : (W : ℕ) → 16 * W * (44 * W) ≡ 22 * W * (32 * W)
-      regroup W = omega arith
-
       along : (c m W U : ℕ) → c * m * W * U ≡ c * W * (m * U)
       along c m W U = omega arith
 
@@ -293,16 +293,13 @@ module _ (y : Float) (Y : ℕ) (v : Val y true Y) (few : Y ≤ 96 * (32 * W)) wh
         K = K;
         is = c .1;
         few = facts .0;
-        near = λ l. le-of-suc 70 (lt-of-mul-lt-mul-right U (let f = turns Y Z S D (K * U) U W U-W W-large (omega arith) Z-above (near-above S D 1 E) (c .3) in let u = U-W in let p = W-pos in omega (arith, l, f, u)));
+        near = λ l. le-of-suc-le-suc (lt-of-mul-lt-mul-right U (let f = turns Y Z S D (K * U) U W U-W W-large (omega arith) Z-above (near-above S D 1 E) (c .3) in let u = U-W in let p = W-pos in omega (arith, l, f, u)));
         above = facts .1;
         below = facts .2;
         none = λ l. absurd (omega (arith, Z-above, W-large));
         some = λ l. facts .3;
       }
     where
-      le-of-suc : (n : ℕ) {K : ℕ} → K < suc n → K ≤ n
-      le-of-suc n h = omega arith
-
       turns : (Y Z S D q u w : ℕ) → u ≡ 32 * w → 10000000 ≤ w → Z ≡ D + 16 * w → 69314 * Z ≤ 100001 * Y + 50000 → 100000 * (S * 1) ≤ 100001 * D + 50000 * 1 → q < S + u → 100 * q ≤ 145 * Y + 52 * u
       turns Y Z S D q u w e large z a f m = omega arith
 
@@ -310,7 +307,7 @@ module _ (y : Float) (Y : ℕ) (v : Val y true Y) (few : Y ≤ 96 * (32 * W)) wh
           → 100000 * (S * 1) ≤ 100001 * D + 50000 * 1 → 99999 * D ≤ 100000 * (S * 1) + 50000 * 1 → S ≤ K * u → K * u < S + u → K * (69314 * u) ≤ K * (100000 * nh) → K * (100000 * nh) ≤ K * (69315 * u)
           → (K ≤ 140) × (K * nh ≤ Y + 12 * w) × (Y ≤ K * nh + 12 * w) × (0 < K)
       bounds Y Z S D K u w nh e large z far few a b f g l m i j = (
-        le-of-suc 140 (lt-of-mul-lt-mul-right u (let t = turns Y Z S D (K * u) u w e large z a f m in omega arith)),
+        le-of-suc-le-suc (lt-of-mul-lt-mul-right u (let t = turns Y Z S D (K * u) u w e large z a f m in omega arith)),
         upper Y Z S D (K * u) (K * nh) u w e large z few a f m (omega arith),
         lower Y Z S D (K * u) (K * nh) u w e large z few b g l (omega arith),
         positive K u S (omega arith) l,
@@ -467,6 +464,19 @@ module _ (y : Float) (Y : ℕ) (v : Val y true Y) (few : Y ≤ 96 * (32 * W)) wh
         is = ap (λ (z : Float). mag z * 2 ^ K) e ∙ lowered-is K (w .few) p (h .0) fit (h .1) (h .2) (h .3);
       }
 
+-- ---- a rounded product g of Y and a factor b: of 20/32 at least, and of c/32 at most
+pub product-least : (Y b g w u : ℕ) → u ≡ 32 * w → 0 < w → 0 < Y → 20 * w ≤ b → 2 * (Y * b) ≤ 4 * (g * u) + u → Y ≤ 16 * g
+product-least Y b g w u e p s lo h =
+    let f : Y * (20 * w) ≤ Y * b = mul-le-mul-left Y lo in
+    let c : (40 * Y) * w ≤ (128 * g + 32) * w = subst (λ (u : ℕ). 2 * (Y * b) ≤ 4 * (g * u) + u → 40 * Y * w ≤ (128 * g + 32) * w) (sym e) (λ h. omega arith) h in
+    let d : 40 * Y ≤ 128 * g + 32 = le-of-mul-le-mul-right {k = w} c p in
+    omega arith
+
+pub product-most : (Y b c g w u : ℕ) → u ≡ 32 * w → 0 < w → b ≤ c * w → g * u ≤ 2 * (Y * b) → 32 * g ≤ 2 * (c * Y)
+product-most Y b c g w u e p hi h =
+    let f : Y * b ≤ Y * (c * w) = mul-le-mul-left Y hi in
+    le-of-mul-le-mul-right {k = w} (subst (λ (u : ℕ). g * u ≤ 2 * (Y * b) → 32 * g * w ≤ 2 * (c * Y) * w) (sym e) (λ h. omega arith) h) p
+
 -- ---- exp_m1 y: from 1/16 of y to 3 times y where y is at least -1/2, and from 5/32 to 1 below
 pub record ExpM1 (y : Float) (Y : ℕ) : Type 0 where
   pub E : ℕ
@@ -493,26 +503,9 @@ module _ (y : Float) (Y : ℕ) (v : Val y true Y) (some : 0 < Y) (few : Y ≤ 96
         E = near (Y * b) U;
         val = subst (λ (z : Float). Val z true (near (Y * b) U)) (sym e) (m .0);
         fit = subst (λ (z : Float). T (fits binary64 z)) (sym e) (mul-fits binary64 y p);
-        near-zero = λ l. (at-least Y b (near (Y * b) U) W U U-W W-pos some (q .2) (n .halved), at-most Y b (near (Y * b) U) W U U-W W-pos (q .3) (n .doubled));
+        near-zero = λ l. (product-least Y b (near (Y * b) U) W U U-W W-pos some (q .2) (n .halved), omega (arith, product-most Y b 44 (near (Y * b) U) W U U-W W-pos (q .3) (n .doubled)));
         far = λ l. absurd (omega arith);
       }
-    where
-      regroup : (W : ℕ) → 16 * W * (44 * W) ≡ 22 * W * (32 * W)
-      regroup W = omega arith
-
-      at-least : (Y b g w u : ℕ) → u ≡ 32 * w → 0 < w → 0 < Y → 20 * w ≤ b → 2 * (Y * b) ≤ 4 * (g * u) + u → Y ≤ 16 * g
-      at-least Y b g w u e p s lo h =
-          let f : Y * (20 * w) ≤ Y * b = mul-le-mul-left Y lo in
-          let c : (40 * Y) * w ≤ (128 * g + 32) * w = subst (λ (u : ℕ). 2 * (Y * b) ≤ 4 * (g * u) + u → 40 * Y * w ≤ (128 * g + 32) * w) (sym e) (λ h. omega arith) h in
-          let d : 40 * Y ≤ 128 * g + 32 = le-of-mul-le-mul-right {k = w} c p in
-          omega arith
-
-      at-most : (Y b g w u : ℕ) → u ≡ 32 * w → 0 < w → b ≤ 44 * w → g * u ≤ 2 * (Y * b) → g ≤ 3 * Y
-      at-most Y b g w u e p hi h =
-          let f : Y * b ≤ Y * (44 * w) = mul-le-mul-left Y hi in
-          let c : 32 * g * w ≤ 88 * Y * w = subst (λ (u : ℕ). g * u ≤ 2 * (Y * b) → 32 * g * w ≤ 88 * Y * w) (sym e) (λ h. omega arith) h in
-          let d : 32 * g ≤ 88 * Y = le-of-mul-le-mul-right {k = w} c p in
-          omega arith
 
   beyond : 16 * W < Y → ExpM1 y Y
   unfolding expM1 sub

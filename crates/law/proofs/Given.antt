@@ -29,7 +29,7 @@ use Rattle.estimators.specs.declared.Estimate.the-variants.{Given}
 use Rattle.estimators.specs.declared.Shrinkage.{Shrinkage}
 use Rattle.estimators.specs.declared.Regularization.{Regularization}
 use Rattle.estimators.specs.declared.Refusal.the-variants.{NoAssets, TooLarge, WrongSide, Asymmetric, Indefinite, NotDecomposed}
-use Rattle.law.specs.Law.{All, Sized}
+use Rattle.law.specs.Law.{All, Sized, maxPower, covarianceRange}
 use Rattle.law.proofs.Chain.{Chain, ends, chain-same, chain-when, chain-test, chain-must, chain-some}
 use Rattle.law.proofs.Sizes.{all-at, two-is}
 use Rattle.law.proofs.Sample.{count-moved}
@@ -45,7 +45,7 @@ trillionth-moved = still 1034 1035 (range-sized 982 1035 1e-12 tt)
 abbrev pub average : ℕ → List Float → Matrix
 average side g = at (averagedOf g side) side
 
-module _ (k : ℕ) (small : k ≤ 160) (side limit : ℕ) (g : List Float) (sizes : All (Sized 80) g) where
+module _ (k : ℕ) (small : k ≤ maxPower + maxPower) (side limit : ℕ) (g : List Float) (sizes : All (Sized covarianceRange) g) where
   abbrev g' : List Float
   g' = map (shift (pos k)) g
 
@@ -53,7 +53,7 @@ module _ (k : ℕ) (small : k ≤ 160) (side limit : ℕ) (g : List Float) (size
     given-moved : (i j : ℕ) → i < side → j < side → Moved k 942 942 1154 (at g side i j) (at g' side i j)
     given-moved i j a b =
         let in-g : i * side + j < length g = lt-of-lt-of-le (cell i side j side a b) (le-of-eq (sym full)) in
-        moved-weaken 942 942 1154 (lit≤ tt) (lit≤ tt) (lit≤ tt) (sized-moved k 80 (lit≤ tt) (at g side i j) (at g' side i j) (all-at (Sized 80) g (i * side + j) sizes in-g) (at-copy (pos k) g side i j))
+        moved-weaken 942 942 1154 (lit≤ tt) (lit≤ tt) (lit≤ tt) (sized-moved k covarianceRange (lit≤ tt) (at g side i j) (at g' side i j) (all-at (Sized covarianceRange) g (i * side + j) sizes in-g) (at-copy (pos k) g side i j))
 
     pub average-moved : (i j : ℕ) → i < side → j < side → Moved k 889 941 1155 (average side g i j) (average side (map (shift (pos k)) g) i j)
     average-moved = rows-moved side side (averaged (at g side)) (averaged (at g' side)) (λ i j a b. rw (← two-is)

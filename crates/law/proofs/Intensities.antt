@@ -1,11 +1,10 @@
 -- An intensity that a call reports is NaN or from 0 to 1, over all inputs: document 01, "Records" and "Estimators". A fixed one was checked, Ledoit-Wolf's and James-Stein's are cut to that range, and
 -- Bayes-Stein's is a part of a whole. Assumes nothing.
-use mathlib.Core.Path.{_≡_, refl, sym, _∙_, subst}
+use mathlib.Core.Path.{_≡_, refl}
 use mathlib.Core.Logic.{_⊎_, inl, inr}
 use Prim.Native.Nat.{ℕ, _*_, _≤_}
-use mathlib.Core.Bool.{Bool, true, false, cond, _&&_}
+use mathlib.Core.Bool.{Bool, true, false, cond, _&&_, and-eq-true-iff}
 use mathlib.Core.List.{List, _++_}
-use lib.Dec.{T}
 use lib.Ieee.{Float, nan, inf, fin, lt, le, eq}
 use Rattle.leaves.specs.Numbers.{zero⁺, one, clamp01}
 use Rattle.leaves.proofs.Signs.{sign-count}
@@ -28,7 +27,7 @@ use Rattle.estimators.specs.declared.Answer.{Answer}
 use Rattle.estimators.specs.declared.Answer.the-variants.{Refused, Covariance, Intensity, Mean, Shrunk}
 use Rattle.law.specs.Law as Law
 use Rattle.law.specs.Law.{Question, ask}
-use Rattle.law.proofs.Sizes.{number, le-or}
+use Rattle.law.proofs.Sizes.{not-lt}
 use Rattle.law.proofs.Columns.{exps, found, pull}
 use Rattle.law.proofs.Pull.{pull-unit}
 use Rattle.law.proofs.Chain.{pass-must}
@@ -39,17 +38,10 @@ abbrev pub Share : Float → Type 0
 Share x = (x ≡ nan) ⊎ ((le zero⁺ x ≡ true) × (le x one ≡ true))
 
 -- ---- from comparisons
-le-of : (x y : Float) → T (number x) → T (number y) → lt y x ≡ false → le x y ≡ true
-le-of x y p q h = go (le x y) refl
-  where
-    go : (b : Bool) → le x y ≡ b → b ≡ true
-    go true e = refl
-    go false e = absurd (subst T (sym (le-or x y p q e) ∙ h) tt)
-
 share-of : (x : Float) → lt x zero⁺ ≡ false → lt one x ≡ false → Share x
 share-of nan h k = inl refl
-share-of (inf s) h k = inr (le-of zero⁺ (inf s) tt tt h, le-of (inf s) one tt tt k)
-share-of (fin s m e) h k = inr (le-of zero⁺ (fin s m e) tt tt h, le-of (fin s m e) one tt tt k)
+share-of (inf s) h k = inr (not-lt zero⁺ (inf s) tt tt h, not-lt (inf s) one tt tt k)
+share-of (fin s m e) h k = inr (not-lt zero⁺ (fin s m e) tt tt h, not-lt (fin s m e) one tt tt k)
 
 zero-share : Share zero⁺
 unfolding le lt eq
@@ -93,12 +85,7 @@ bayes-share r limit n P few =
 adjusted-share : (S : Shrinkage) (P n : ℕ) (x : Matrix) → badShrinkage S ≡ passes → Share (intensity S P n x)
 unfolding intensity badShrinkage
 adjusted-share Unshrunk P n x h = zero-share
-adjusted-share (Fixed δ) P n x h = go (le zero⁺ δ) refl (le δ one) refl (pass-must (le zero⁺ δ && le δ one) (BadSetting ShrinkageField) h)
-  where
-    go : (a : Bool) → le zero⁺ δ ≡ a → (b : Bool) → le δ one ≡ b → (a && b) ≡ true → Share δ
-    go true p true q e = inr (p, q)
-    go true p false q e = absurd (subst T (sym e) tt)
-    go false p b q e = absurd (subst T (sym e) tt)
+adjusted-share (Fixed δ) P n x h = inr (and-eq-true-iff (le zero⁺ δ) (le δ one) .0 (pass-must (le zero⁺ δ && le δ one) (BadSetting ShrinkageField) h))
 adjusted-share (LedoitWolf F) P n x h = ledoitWolf-share F P n x
 
 -- ---- what a call reports

@@ -3,22 +3,22 @@
 -- intensity that is not a number makes every mean NaN, in both runs. Assumes nothing.
 use mathlib.Core.Path.{_≡_, refl, sym, ap, _∙_, subst}
 use mathlib.Core.Logic.{_⊎_, inl, inr}
-use Prim.Native.Nat.{ℕ, zero, suc, _+_, _-_, _/_, _%_, _^_, _≤_, _<_, zero-le}
+use Prim.Native.Nat.{ℕ, zero, suc, _+_, _-_, _^_, _≤_, _<_, zero-le}
 use native.Mathlib.Nat.{le-trans, le-of-eq, zero-add}
 use native.Mathlib.Omega.{arith}
 use mathlib.Core.Bool.{Bool, true, false, cond}
 use mathlib.Core.List.{List, _++_, map}
 use lib.Dec.{T, lit≤}
-use lib.IntN.{ℤ, pos, negsuc, negℤ, _+ℤ_}
+use lib.IntN.{ℤ, pos, negℤ, _+ℤ_}
 use lib.ListN.{length}
-use lib.Ieee.{Float, nan, inf, fin, binary64, fits, eq, lt, add, mul}
-use lib.Ieee.Fits.{mul-fits}
+use lib.Ieee.{Float, nan, inf, fin, binary64, fits, eq, lt, mul}
 use Rattle.leaves.specs.Numbers.{_⊕_, _⊖_, _⊗_, _⊘_, zero⁺, one, two, isFinite, clamp01}
-use Rattle.leaves.specs.Loops.{loop, maxTo, fill, nth}
-use Rattle.leaves.specs.Scaling.{pow2, times, binaryExponent, pow2Scaled}
+use Rattle.leaves.specs.Loops.{maxTo, fill, nth}
+use Rattle.leaves.specs.Scaling.{binaryExponent, pow2Scaled}
 use Rattle.leaves.specs.Shift.{shift}
+use Rattle.leaves.proofs.Nan.{nan-add}
 use Rattle.leaves.proofs.Loops.{nth-tab}
-use Rattle.leaves.proofs.Units.{U, Val, sign, mag, val-mag, mag-val}
+use Rattle.leaves.proofs.Units.{Val, sign, mag, val-mag, mag-val}
 use Rattle.leaves.proofs.Shift.{shift-nan}
 use Rattle.leaves.proofs.Range.{Range, range-zero, range-size, count-pos}
 use Rattle.leaves.proofs.Operations.{Moved, still, moved-weaken, moved-add, moved-sub, moved-mul, moved-over}
@@ -33,13 +33,14 @@ use Rattle.estimators.specs.Order.{sweepLimit, jamesSteinOrder}
 use Rattle.estimators.specs.Calls.{Answered, answered, settle, jamesSteinMean}
 use Rattle.estimators.specs.declared.Refusal.the-variants.{Singular}
 use Rattle.estimators.specs.declared.Answer.the-variants.{Shrunk}
-use Rattle.law.specs.Law.{All, Sized, AtLeast, Alike, ask}
+use Rattle.law.specs.Law.{All, Sized, AtLeast, Alike, ask, maxPower, returnRange, meanRange}
 use Rattle.law.specs.Law as Law
+use Rattle.law.proofs.Bits.{sideBits, side-bits}
 use Rattle.law.proofs.Chain.{Chain, ends, chain-same, chain-must, chained, parts, settled}
-use Rattle.law.proofs.Sizes.{at-least, lt-no}
+use Rattle.law.proofs.Sizes.{at-least, lt-no, one-val}
 use Rattle.law.proofs.Sample.{Returns, entries-as, count-moved, mean-moved}
 use Rattle.law.proofs.Matrices.{amax-moved, amax-above}
-use Rattle.law.proofs.Scaled.{Scaling, scaling, scaled-back}
+use Rattle.law.proofs.Scaled.{scaled-fits, nan-scaled, Scaling, scaling, scaled-back}
 use Rattle.law.proofs.Moments.{moments-same, large, Copied, shrunk-alike}
 use Rattle.law.proofs.Opening.{Shape, returns, opening-chain}
 
@@ -56,9 +57,6 @@ unit-range l h (fin s m e) t a b c =
     let most : mag x ≤ 2 ^ 1074 = sign-case s v b c in
     inr (range-size (1022 - l) (2 ^ 1074) x t f (elim (at-least l (omega arith) x v a) [ inl z ↦ inl z | inr p ↦ inr (le-trans (le-of-eq (ap (λ (n : ℕ). 2 ^ n) (omega arith))) p) ]) most)
   where
-    one-val : Val one false (2 ^ 1074)
-    one-val = unfold U in (refl, refl)
-
     sign-case : (s : Bool) → Val (fin s m e) (sign (fin s m e)) (mag (fin s m e)) → lt (fin s m e) zero⁺ ≡ false → lt one (fin s m e) ≡ false → mag (fin s m e) ≤ 2 ^ 1074
     sign-case false v b c = lt-no one (fin false m e) one-val (unfold sign in v) c
     sign-case true v b c = zero-case m v b
@@ -71,13 +69,9 @@ pub clamped-range : (l : ℕ) → l ≤ 1022 → (x : Float) → T (fits binary6
 unfolding clamp01
 clamped-range l h x t a = go (lt x zero⁺) refl (lt one x) refl a
   where
-    G : ℕ
-    G = 1022 - l
-
     one-range : Range (1022 - l) (2 ^ (1022 - l + 52)) (2 ^ 1074) one
     one-range =
-        let v : Val one false (2 ^ 1074) = unfold U in (refl, refl) in
-        let i = val-mag one false (2 ^ 1074) v .1 in
+        let i = val-mag one false (2 ^ 1074) one-val .1 in
         range-size (1022 - l) (2 ^ 1074) one (unfold fits in tt) (unfold isFinite in tt) (inr (le-trans (lib.Pow.pow-mono {i = 1022 - l + 52} {j = 1074} (omega arith)) (le-of-eq (sym i)))) (le-of-eq i)
 
     go : (u : Bool) → lt x zero⁺ ≡ u → (v : Bool) → lt one x ≡ v → AtLeast l (cond u zero⁺ (cond v one x))
@@ -87,34 +81,12 @@ clamped-range l h x t a = go (lt x zero⁺) refl (lt one x) refl a
     go false b false c a = unit-range l h x t a b c
 
 -- ---- what is not a number
-pub add-nan : (x : Float) → x ⊕ nan ≡ nan
-unfolding add
-add-nan nan = refl
-add-nan (inf s) = refl
-add-nan (fin s m e) = refl
-
-nan-steps : (n : ℕ) (y : Float) → times n y nan ≡ nan
-unfolding times loop mul
-nan-steps zero y = refl
-nan-steps (suc n) y = ap (λ (z : Float). z ⊗ y) (nan-steps n y)
-
-pub nan-scaled : (j : ℤ) → pow2Scaled nan j ≡ nan
-unfolding pow2Scaled mul
-nan-scaled (pos zero) = refl
-nan-scaled (pos (suc k)) = ap (λ (z : Float). z ⊗ pow2 (pos (suc (k % 1023)))) (nan-steps (k / 1023) (pow2 (pos 1023)))
-nan-scaled (negsuc k) = ap (λ (z : Float). z ⊗ pow2 (negsuc (k % 1022))) (nan-steps (k / 1022) (pow2 (negsuc 1021)))
-
-pub scaled-fits : (x : Float) (j : ℤ) → T (fits binary64 (pow2Scaled x j))
-unfolding pow2Scaled
-scaled-fits x (pos zero) = mul-fits binary64 x (pow2 (pos 0))
-scaled-fits x (pos (suc k)) = mul-fits binary64 (times (k / 1023) (pow2 (pos 1023)) x) (pow2 (pos (suc (k % 1023))))
-scaled-fits x (negsuc k) = mul-fits binary64 (times (k / 1022) (pow2 (negsuc 1021)) x) (pow2 (negsuc (k % 1022)))
 
 -- ---- what is found from the moments alone
-abbrev centre : ℕ → Moments → Float
+abbrev pub centre : ℕ → Moments → Float
 centre n m = grandMean n (nth (m .mean))
 
-abbrev taken : ℕ → ℕ → Moments → Decomposition
+abbrev pub taken : ℕ → ℕ → Moments → Decomposition
 taken limit n m = decomposeUneven limit n (unevenness n (nth (m .mean)) (centre n m)) (at (m .covariance) n)
 
 abbrev pull : ℕ → ℕ → Moments → Float
@@ -123,7 +95,7 @@ pull limit n m = jamesSteinIntensity n m (centre n m) (taken limit n m)
 abbrev moved : ℕ → ℕ → Moments → ℕ → Float
 moved limit n m i = towards (pull limit n m) (centre n m) (nth (m .mean) i)
 
-pull-range : (limit n : ℕ) (m : Moments) → AtLeast 400 (pull limit n m) → (pull limit n m ≡ nan) ⊎ Range 622 (2 ^ 674) (2 ^ 1074) (pull limit n m)
+pull-range : (limit n : ℕ) (m : Moments) → AtLeast meanRange (pull limit n m) → (pull limit n m ≡ nan) ⊎ Range 622 (2 ^ 674) (2 ^ 1074) (pull limit n m)
 unfolding jamesSteinIntensity
 pull-range limit n m a = go (eq (unevenness n (nth (m .mean)) (centre n m)) zero⁺) a
   where
@@ -134,15 +106,15 @@ pull-range limit n m a = go (eq (unevenness n (nth (m .mean)) (centre n m)) zero
     z = pow2Scaled ((trace n (at (m .covariance) n) ⊖ two ⊗ maxTo n (nth (taken limit n m .values))) ⊘ (m .periods ⊗ spread n (nth (m .mean)) (centre n m) (binaryExponent (unevenness n (nth (m .mean)) (centre n m)))))
         (negℤ (binaryExponent (unevenness n (nth (m .mean)) (centre n m)) +ℤ binaryExponent (unevenness n (nth (m .mean)) (centre n m))))
 
-    go : (b : Bool) → AtLeast 400 (elim b [ true ↦ zero⁺ | false ↦ clamp01 z ]) → ((elim b [ true ↦ zero⁺ | false ↦ clamp01 z ]) ≡ nan) ⊎ Range 622 (2 ^ 674) (2 ^ 1074) (elim b [ true ↦ zero⁺ | false ↦ clamp01 z ])
+    go : (b : Bool) → AtLeast meanRange (elim b [ true ↦ zero⁺ | false ↦ clamp01 z ]) → ((elim b [ true ↦ zero⁺ | false ↦ clamp01 z ]) ≡ nan) ⊎ Range 622 (2 ^ 674) (2 ^ 1074) (elim b [ true ↦ zero⁺ | false ↦ clamp01 z ])
     go true a = inr (range-zero 622 (2 ^ 674) (2 ^ 1074))
-    go false a = clamped-range 400 (lit≤ tt) z (scaled-fits _ _) a
+    go false a = clamped-range meanRange (lit≤ tt) z (scaled-fits _ _) a
 
 -- ---- returns over the power of two of the largest
-abbrev found : ℕ → ℕ → Matrix → Moments
+abbrev pub found : ℕ → ℕ → Matrix → Moments
 found P n x = moments P n (scaled (λ i. binaryExponent (amax P n x)) x)
 
-module _ {k n P : ℕ} {x y : Matrix} (small : k ≤ 80) (r : Returns k n P 982 1034 1114 x y) where
+module _ {k n P : ℕ} {x y : Matrix} (small : k ≤ maxPower) (r : Returns k n P 982 1034 1114 x y) where
   common : Scaling k 982 1034 1114 (amax P n x) (amax P n y)
   common = scaling (amax-moved P n x y (r .entries)) (lit≤ tt) (lit≤ tt) (lit≤ tt) (lit≤ tt) (lit≤ tt) (lit≤ tt) (omega arith)
 
@@ -168,7 +140,7 @@ module _ {k n P : ℕ} {x y : Matrix} (small : k ≤ 80) (r : Returns k n P 982 
   unfolding grandMean
   centre-moved =
       let j = common .few in
-      moved-over (moved-sum (common .still) 878 1087 n 5 (r .few) (lit≤ tt) (omega arith) 930 (nth (m .mean)) (nth (m .mean)) μ-moved) (count-moved 5 n (lit≤ tt) (r .few)) (count-pos n (r .assets) (le-trans (r .few) (lit≤ tt)))
+      moved-over (moved-sum (common .still) 878 1087 n sideBits (side-bits (r .few)) (lit≤ tt) (omega arith) 930 (nth (m .mean)) (nth (m .mean)) μ-moved) (count-moved sideBits n (lit≤ tt) (side-bits (r .few))) (count-pos n (r .assets) (le-trans (r .few) (lit≤ tt)))
       821 1092 (lit≤ tt) (lit≤ tt) (omega arith)
 
   towards-moved : (α : Float) → Range 622 (2 ^ 674) (2 ^ 1074) α → (i : ℕ) → i < n → Moved (common .still) 369 369 1094 (towards α (centre n (found P n x)) (nth (found P n x .mean) i)) (towards α (centre n (found P n x)) (nth (found P n x .mean) i))
@@ -184,7 +156,7 @@ module _ {k n P : ℕ} {x y : Matrix} (small : k ≤ 80) (r : Returns k n P 982 
   back : {c e : ℕ} {z : Float} → Moved (common .still) c c e z z → 41 ≤ c → e ≤ 1900 → T (fits binary64 (pow2Scaled z (binaryExponent (amax P n x)))) × (pow2Scaled z (binaryExponent (amax P n y)) ≡ shift (pos k) (pow2Scaled z (binaryExponent (amax P n x))))
   back {z = z} q l h = (scaled-fits z (binaryExponent (amax P n x)), scaled-back common q (lit≤ tt) l (omega arith))
 
-  pub james-copied : (limit : ℕ) → AtLeast 400 (pull limit n (found P n x))
+  pub james-copied : (limit : ℕ) → AtLeast meanRange (pull limit n (found P n x))
       → Copied k n (pull limit n (found P n x)) (pull limit n (found P n y)) (pow2Scaled (centre n (found P n x)) (binaryExponent (amax P n x))) (pow2Scaled (centre n (found P n y)) (binaryExponent (amax P n y)))
       (taken limit n (found P n x) .sweeps) (taken limit n (found P n y) .sweeps) (taken limit n (found P n x) .rotations) (taken limit n (found P n y) .rotations)
       (λ i. pow2Scaled (moved limit n (found P n x) i) (binaryExponent (amax P n x))) (λ i. pow2Scaled (moved limit n (found P n y) i) (binaryExponent (amax P n y)))
@@ -202,13 +174,13 @@ module _ {k n P : ℕ} {x y : Matrix} (small : k ≤ 80) (r : Returns k n P 982 
       one : (i : ℕ) → i < n → (pull limit n (found P n x) ≡ nan) ⊎ Range 622 (2 ^ 674) (2 ^ 1074) (pull limit n (found P n x))
           → T (fits binary64 (pow2Scaled (moved limit n (found P n x) i) (binaryExponent (amax P n x)))) × (pow2Scaled (moved limit n (found P n x) i) (binaryExponent (amax P n y)) ≡ shift (pos k) (pow2Scaled (moved limit n (found P n x) i) (binaryExponent (amax P n x))))
       one i l (inr q) = back (towards-moved (pull limit n m) q i l) (lit≤ tt) (lit≤ tt)
-      one i l (inl q) = nothing (moved limit n m i) (unfold towards mul in (ap (λ (z : Float). nth (m .mean) i ⊕ z ⊗ (centre n m ⊖ nth (m .mean) i)) q ∙ add-nan (nth (m .mean) i)))
+      one i l (inl q) = nothing (moved limit n m i) (unfold towards mul in (ap (λ (z : Float). nth (m .mean) i ⊕ z ⊗ (centre n m ⊖ nth (m .mean) i)) q ∙ nan-add (nth (m .mean) i) nan (inr refl)))
         where
           nothing : (z : Float) → z ≡ nan → T (fits binary64 (pow2Scaled z (binaryExponent (amax P n x)))) × (pow2Scaled z (binaryExponent (amax P n y)) ≡ shift (pos k) (pow2Scaled z (binaryExponent (amax P n x))))
           nothing z e = (scaled-fits z (binaryExponent (amax P n x)), rw (e, nan-scaled (binaryExponent (amax P n y)), nan-scaled (binaryExponent (amax P n x)), shift-nan (pos k)))
 
 -- ---- the call
-module _ (k : ℕ) (small : k ≤ 80) (r : List Float) (sizes : All (Sized 40) r) (n P limit : ℕ) where
+module _ (k : ℕ) (small : k ≤ maxPower) (r : List Float) (sizes : All (Sized returnRange) r) (n P limit : ℕ) where
   abbrev result : List Float → List Float → Answered
   result r slice =
       let m = found P n (at r n) in
@@ -219,13 +191,13 @@ module _ (k : ℕ) (small : k ≤ 80) (r : List Float) (sizes : All (Sized 40) r
   order r slice = jamesSteinOrder r n P limit slice (taken limit n (found P n (at r n)))
 
   pub james-stein-law : (slice slice' : List Float) → length slice' ≡ length slice
-      → All (AtLeast 400) (parts n (ask r n P (Law.jamesStein limit) slice) .meansAndTarget ++ parts n (ask r n P (Law.jamesStein limit) slice) .intensity)
+      → All (AtLeast meanRange) (parts n (ask r n P (Law.jamesStein limit) slice) .meansAndTarget ++ parts n (ask r n P (Law.jamesStein limit) slice) .intensity)
       → Alike (pos k) (parts n (ask r n P (Law.jamesStein limit) slice)) (parts n (ask (map (shift (pos k)) r) n P (Law.jamesStein limit) slice'))
   unfolding jamesSteinMean settle
   james-stein-law slice slice' e large-answer =
       let r' = map (shift (pos k)) r in
       settled (chained chain) (pos k) n slice slice' (result r slice) (result r' slice') (λ p p' s.
-      let l = large n _ _ _ slice (subst (λ (c : Check). All (AtLeast 400) (parts n (settle c slice (result r slice)) .meansAndTarget ++ parts n (settle c slice (result r slice)) .intensity)) p large-answer) in
+      let l = large n _ _ _ slice (subst (λ (c : Check). All (AtLeast meanRange) (parts n (settle c slice (result r slice)) .meansAndTarget ++ parts n (settle c slice (result r slice)) .intensity)) p large-answer) in
       shrunk-alike slice slice' (james-copied small (returns k small r sizes n P s) limit (l .intensity)))
     where
       chain : Chain (Shape r n P) (order r slice) (order (map (shift (pos k)) r) slice')

@@ -23,7 +23,7 @@ use Rattle.estimators.specs.declared.Target.the-variants.{ConstantVariance, Con
 use Rattle.estimators.specs.declared.Shrinkage.the-variants.{LedoitWolf}
 use Rattle.estimators.specs.declared.Refusal.the-variants.{ZeroVariance}
 use Rattle.estimators.specs.declared.Answer.the-variants.{Intensity}
-use Rattle.law.specs.Law.{All, Sized, answerParts, Alike, ask}
+use Rattle.law.specs.Law.{All, Sized, answerParts, Alike, ask, maxPower, returnRange}
 use Rattle.law.specs.Law as Law
 use Rattle.law.proofs.Numbers.{times-itself}
 use Rattle.law.proofs.Chain.{Chain, ends, chain-same, chained, parts, settled}
@@ -32,7 +32,7 @@ use Rattle.law.proofs.Matrices.{amax-moved, amax-above}
 use Rattle.law.proofs.Scaled.{Scaling, scaling}
 use Rattle.law.proofs.Opening.{Shape, returns, sample-moved, opening-chain}
 
-pub ledoitWolf-same : {k n T : ℕ} {x y : Matrix} (F : Target) → k ≤ 80 → Returns k n T 982 1034 1114 x y → ledoitWolf F T n y ≡ ledoitWolf F T n x
+pub ledoitWolf-same : {k n T : ℕ} {x y : Matrix} (F : Target) → k ≤ maxPower → Returns k n T 982 1034 1114 x y → ledoitWolf F T n y ≡ ledoitWolf F T n x
 unfolding ledoitWolf scaled
 ledoitWolf-same {k} {n} {T} {x} {y} F small r =
     let each = deviation-moved r 918 (lit≤ tt) (omega arith) in
@@ -41,7 +41,7 @@ ledoitWolf-same {k} {n} {T} {x} {y} F small r =
     (rows-ext T n (scaled (λ i. binaryExponent (amax T n (deviation T y))) (deviation T y)) (scaled (λ i. binaryExponent (amax T n (deviation T x))) (deviation T x))
     (λ t i a b. s .same (each t i a b) (amax-above T n (deviation T x) (deviation T y) each t i a b)))
 
-module _ (k : ℕ) (small : k ≤ 80) (r : List Float) (sizes : All (Sized 40) r) (n T : ℕ) where
+module _ (k : ℕ) (small : k ≤ maxPower) (r : List Float) (sizes : All (Sized returnRange) r) (n T : ℕ) where
   pub correlation-same : (F : Target) → Shape r n T → noCorrelation (LedoitWolf F) T n (at (map (shift (pos k)) r) n) ≡ noCorrelation (LedoitWolf F) T n (at r n)
   unfolding noCorrelation
   correlation-same ConstantVariance s = refl

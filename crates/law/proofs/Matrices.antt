@@ -11,7 +11,9 @@ use Rattle.leaves.proofs.Units.{mag}
 use Rattle.leaves.proofs.Operations.{Moved}
 use Rattle.leaves.proofs.Totals.{moved-amax, Part, part-zero, part-add, part-more, part-loop, part-moved, moved-sum, amax-most}
 use Rattle.matrix.specs.Matrix.{Matrix, at, rows, trace, amax, sumOver}
+use Rattle.matrix.specs.Limits.{maxSide}
 use Rattle.matrix.proofs.Stored.{by-cell, rows-at}
+use Rattle.law.proofs.Bits.{sideBits, side-bits, cellBits, cell-bits}
 
 module _ {k g l h : ℕ} (m n : ℕ) (f f' : Matrix) (each : (i j : ℕ) → i < m → j < n → Moved k g l h (f i j) (f' i j)) where
   pub amax-moved : Moved k g l h (amax m n f) (amax m n f')
@@ -25,20 +27,20 @@ module _ {k g l h : ℕ} (m n : ℕ) (f f' : Matrix) (each : (i j : ℕ) → i <
       subst₂ (λ (r c : ℕ). mag (f r c) ≤ mag (amaxTo (m * n) (λ c. f (c / n) (c % n)))) (cell-row i n j b) (cell-col i n j b)
       (amax-most (λ c. f (c / n) (c % n)) (m * n) (λ c d. (cells c d .range .fit, cells c d .range .finite)) (i * n + j) (cell i m j n a b))
 
-pub trace-moved : {k g h l : ℕ} (n : ℕ) (f f' : Matrix) → n ≤ 32 → 5 + h + k ≤ 2097 → ((i : ℕ) → i < n → Moved k g l h (f i i) (f' i i)) → Moved k g g (5 + h) (trace n f) (trace n f')
+pub trace-moved : {k g h l : ℕ} (n : ℕ) (f f' : Matrix) → n ≤ maxSide → sideBits + h + k ≤ 2097 → ((i : ℕ) → i < n → Moved k g l h (f i i) (f' i i)) → Moved k g g (sideBits + h) (trace n f) (trace n f')
 unfolding trace
-trace-moved {k} {g} {h} {l} n f f' N o each = moved-sum k g h n 5 N (omega arith) o l (λ i. f i i) (λ i. f' i i) each
+trace-moved {k} {g} {h} {l} n f f' N o each = moved-sum k g h n sideBits (side-bits N) (omega arith) o l (λ i. f i i) (λ i. f' i i) each
 
 -- the terms that are kept
-pub over-moved : {k g h l : ℕ} (n : ℕ) (keep : ℕ → ℕ → Bool) (f f' : Matrix) → n * n ≤ 1024 → 10 + h + k ≤ 2097 → ((i j : ℕ) → i < n → j < n → Moved k g l h (f i j) (f' i j))
-    → Moved k g g (10 + h) (sumOver n keep f zero⁺) (sumOver n keep f' zero⁺)
+pub over-moved : {k g h l : ℕ} (n : ℕ) (keep : ℕ → ℕ → Bool) (f f' : Matrix) → n ≤ maxSide → cellBits + h + k ≤ 2097 → ((i j : ℕ) → i < n → j < n → Moved k g l h (f i j) (f' i j))
+    → Moved k g g (cellBits + h) (sumOver n keep f zero⁺) (sumOver n keep f' zero⁺)
 unfolding sumOver
 over-moved {k} {g} {h} {l} n keep f f' N o each =
-    part-moved k g h (n * n) 10 N (omega arith) o (omega arith)
-    (part-loop k g h (n * n) 10 N (omega arith) o n n (λ i. row f i) (λ i. row f' i)
-    (λ i m s s' a e p. part-more k g h (n * n) 10 N (omega arith) o (omega arith)
-    (part-loop k g h (n * n) 10 N (omega arith) o n 1 (λ j. term f i j) (λ j. term f' i j) (λ j m s s' b e p. one (keep i j) p (each i j a b) (omega arith)) m s s' (omega arith) p))
-    0 zero⁺ zero⁺ (omega arith) (part-zero k g h (n * n) 10 N (omega arith) o))
+    part-moved k g h (n * n) cellBits (cell-bits N N) (omega arith) o (omega arith)
+    (part-loop k g h (n * n) cellBits (cell-bits N N) (omega arith) o n n (λ i. row f i) (λ i. row f' i)
+    (λ i m s s' a e p. part-more k g h (n * n) cellBits (cell-bits N N) (omega arith) o (omega arith)
+    (part-loop k g h (n * n) cellBits (cell-bits N N) (omega arith) o n 1 (λ j. term f i j) (λ j. term f' i j) (λ j m s s' b e p. one (keep i j) p (each i j a b) (omega arith)) m s s' (omega arith) p))
+    0 zero⁺ zero⁺ (omega arith) (part-zero k g h (n * n) cellBits (cell-bits N N) (omega arith) o))
   where
     term : Matrix → ℕ → ℕ → Float → Float
     term f i j s = elim (keep i j) [ true ↦ s ⊕ f i j | false ↦ s ]
@@ -47,8 +49,8 @@ over-moved {k} {g} {h} {l} n keep f f' N o each =
     row f i = loop n (λ j s. elim (keep i j) [ true ↦ s ⊕ f i j | false ↦ s ])
 
     one : {m : ℕ} {s s' x x' : Float} (b : Bool) → Part k g h m s s' → Moved k g l h x x' → m + 1 ≤ n * n → Part k g h (m + 1) (elim b [ true ↦ s ⊕ x | false ↦ s ]) (elim b [ true ↦ s' ⊕ x' | false ↦ s' ])
-    one true p u e = part-more k g h (n * n) 10 N (omega arith) o (omega arith) (part-add k g h (n * n) 10 N (omega arith) o (omega arith) p u)
-    one false p u e = part-more k g h (n * n) 10 N (omega arith) o (omega arith) p
+    one true p u e = part-more k g h (n * n) cellBits (cell-bits N N) (omega arith) o (omega arith) (part-add k g h (n * n) cellBits (cell-bits N N) (omega arith) o (omega arith) p u)
+    one false p u e = part-more k g h (n * n) cellBits (cell-bits N N) (omega arith) o (omega arith) p
 
 pub rows-moved : {k g l h : ℕ} (m n : ℕ) (f f' : Matrix) → ((i j : ℕ) → i < m → j < n → Moved k g l h (f i j) (f' i j)) → (i j : ℕ) → i < m → j < n → Moved k g l h (at (rows m n f) n i j) (at (rows m n f') n i j)
 rows-moved {k} {g} {l} {h} m n f f' each i j a b = subst₂ (Moved k g l h) (sym (rows-at f m n i j a b)) (sym (rows-at f' m n i j a b)) (each i j a b)

@@ -16,7 +16,7 @@ use Rattle.estimators.specs.Sample.{mean, deviation, gram, covariance}
 use Rattle.estimators.specs.Moments.{moments}
 use Rattle.estimators.specs.Calls.{answered}
 use Rattle.estimators.specs.declared.Answer.the-variants.{Shrunk}
-use Rattle.law.specs.Law.{Alike, All, AtLeast}
+use Rattle.law.specs.Law.{Alike, All, AtLeast, meanRange}
 use Rattle.law.proofs.Numbers.{times-shift, times-itself, take-fill, means-alike, all-tab}
 use Rattle.law.proofs.Chain.{parts}
 
@@ -38,22 +38,22 @@ module _ (P n : ℕ) (u v : Matrix) (same : (t i : ℕ) → t < P → i < n → 
 -- ---- an answer with intensity and target
 -- "every nonzero number, intensity and target included, has size at least 2^-400"
 pub record Large (n : ℕ) (α μ₀ : Float) (f : ℕ → Float) : Type 0 where
-  pub intensity : AtLeast 400 α
-  pub target : AtLeast 400 μ₀
-  pub means : (i : ℕ) → i < n → AtLeast 400 (f i)
+  pub intensity : AtLeast meanRange α
+  pub target : AtLeast meanRange μ₀
+  pub means : (i : ℕ) → i < n → AtLeast meanRange (f i)
 
-pub large : (n : ℕ) (α μ₀ : Float) (f : ℕ → Float) (slice : List Float) → All (AtLeast 400) ((μ₀ ∷ take n (fill n f slice)) ++ (α ∷ [])) → Large n α μ₀ f
+pub large : (n : ℕ) (α μ₀ : Float) (f : ℕ → Float) (slice : List Float) → All (AtLeast meanRange) ((μ₀ ∷ take n (fill n f slice)) ++ (α ∷ [])) → Large n α μ₀ f
 large n α μ₀ f slice h = record {
   intensity = back (take n (fill n f slice)) (h .1);
   target = h .0;
-  means = all-tab (AtLeast 400) n f (subst (All (AtLeast 400)) (take-fill n f slice) (front (take n (fill n f slice)) (h .1)));
+  means = all-tab (AtLeast meanRange) n f (subst (All (AtLeast meanRange)) (take-fill n f slice) (front (take n (fill n f slice)) (h .1)));
 }
   where
-    front : (l : List Float) → All (AtLeast 400) (l ++ (α ∷ [])) → All (AtLeast 400) l
+    front : (l : List Float) → All (AtLeast meanRange) (l ++ (α ∷ [])) → All (AtLeast meanRange) l
     front [] h = tt
     front (x ∷ l) h = (h .0, front l (h .1))
 
-    back : (l : List Float) → All (AtLeast 400) (l ++ (α ∷ [])) → AtLeast 400 α
+    back : (l : List Float) → All (AtLeast meanRange) (l ++ (α ∷ [])) → AtLeast meanRange α
     back [] h = h .0
     back (x ∷ l) h = back l (h .1)
 

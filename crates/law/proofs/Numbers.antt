@@ -8,10 +8,12 @@ use mathlib.Core.List.{List, [], _∷_, _++_, map}
 use lib.Dec.{T}
 use lib.IntN.{ℤ, pos, negsuc, negℤ, natAbs, _+ℤ_, _*ℤ_, *ℤ-one}
 use lib.ListN.{take, drop}
+use lib.Seq.{take-append-seam}
 use lib.Ieee.{Float, nan, inf, fin, binary64, fits}
 use Rattle.leaves.specs.Numbers.{isFinite, signum}
 use Rattle.leaves.specs.Loops.{tab, fill}
 use Rattle.leaves.specs.Shift.{shift}
+use Rattle.leaves.proofs.Loops.{length-tab}
 use Rattle.leaves.proofs.Shift.{shift-fin, expo}
 use Rattle.leaves.proofs.Units.{U, Top, Val, sign, mag, val-unique, val-shift, mag-val, mag-held, mag-shift, fits-shift}
 use Rattle.law.specs.Law.{units, TimesPower, Times, All, Each, Copy, AnswerParts, Alike}
@@ -89,15 +91,10 @@ unfolding tab
 each-tab R zero f f' h = tt
 each-tab R (suc n) f f' h = (h 0 (omega arith), each-tab R n (λ i. f (suc i)) (λ i. f' (suc i)) (λ i l. h (suc i) (omega arith)))
 
-take-tab : (n : ℕ) (f : ℕ → Float) (rest : List Float) → take n (tab n f ++ rest) ≡ tab n f
-unfolding tab
-take-tab zero f rest = refl
-take-tab (suc n) f rest = ap (λ (l : List Float). f 0 ∷ l) (take-tab n (λ i. f (suc i)) rest)
-
 -- the answer's part of a slice
 pub take-fill : (n : ℕ) (f : ℕ → Float) (slice : List Float) → take n (fill n f slice) ≡ tab n f
 unfolding fill
-take-fill n f slice = take-tab n f (drop n slice)
+take-fill n f slice = ap (λ (k : ℕ). take k (tab n f ++ drop n slice)) (sym (length-tab f n)) ∙ take-append-seam (tab n f) (drop n slice)
 
 pub means-alike : (k n : ℕ) (f f' : ℕ → Float) (slice slice' : List Float) → ((i : ℕ) → i < n → T (fits binary64 (f i)) × (f' i ≡ shift (pos k) (f i))) → Each (Times (pos k)) (take n (fill n f slice)) (take n (fill n f' slice'))
 means-alike k n f f' slice slice' h =

@@ -1,17 +1,17 @@
 -- The checks that open every call, of returns in range and of the same returns times 2 ^ k: the shapes and lengths are equal, and returns in range, with their covariance, are finite. So both runs
 -- refuse alike, or both go on with returns of the granted sizes, the second's each 2 ^ k times the first's. Assumes nothing.
-use mathlib.Core.Path.{_≡_, refl, sym, ap, ap₂, _∙_, subst}
-use Prim.Native.Nat.{ℕ, zero, suc, _+_, _-_, _*_, _≤_, _<_}
-use native.Mathlib.Nat.{le-trans, le-of-eq, lt-of-lt-of-le}
+use mathlib.Core.Path.{_≡_, refl, sym, ap, ap₂, _∙_}
+use Prim.Native.Nat.{ℕ, _+_, _-_, _*_, _≤_, _<_}
+use native.Mathlib.Nat.{le-of-eq, lt-of-lt-of-le}
 use native.Mathlib.Omega.{arith}
-use mathlib.Core.Bool.{Bool, true, false, not, _||_}
+use mathlib.Core.Bool.{true, false, not, _||_}
 use mathlib.Core.List.{List, [], _++_, map}
 use mathlib.Core.Option.{Option}
 use lib.Dec.{T, eqb, ltb, lit≤}
 use lib.IntN.{ℤ, pos}
 use lib.ListN.{length, getD, length-map, List·getD-map}
 use lib.Ieee.{Float, nan}
-use borrow.Author.Tests.{ltb-false, eqb-true, eq-eqb, not-false}
+use borrow.Author.Tests.{ltb-false, eqb-true, eqb-false, eq-eqb, not-false}
 use Rattle.leaves.specs.Numbers.{isFinite}
 use Rattle.leaves.specs.Shift.{shift}
 use Rattle.leaves.proofs.Loops.{cell}
@@ -24,8 +24,8 @@ use Rattle.estimators.specs.Refusals.{Check, passes, whenSome, first}
 use Rattle.estimators.specs.Sample.{covariance}
 use Rattle.estimators.specs.Order.{maxPeriods, notFinite, opening}
 use Rattle.estimators.specs.declared.Refusal.the-variants.{NoAssets, TooLarge, TooFewPeriods, WrongLength, NotFinite, CovarianceNotFinite}
-use Rattle.law.specs.Law.{All, Sized}
-use Rattle.law.proofs.Chain.{Chain, chain-same, chain-test, chain-must}
+use Rattle.law.specs.Law.{All, Sized, maxPower, returnRange}
+use Rattle.law.proofs.Chain.{Chain, neither, chain-same, chain-test, chain-must}
 use Rattle.law.proofs.Sizes.{all-at, sized-range}
 use Rattle.law.proofs.Sample.{Returns, covariance-moved}
 
@@ -45,12 +45,12 @@ entries-same k l m n = ap (λ (o : Option (ℕ × ℕ)). whenSome o (λ p. NotFi
 -- ---- the shapes that are accepted
 pub record Shape (r : List Float) (n T : ℕ) : Type 0 where
   pub assets : 0 < n
-  pub few : n ≤ 32
+  pub few : n ≤ maxSide
   pub periods : 2 ≤ T
-  pub most : T ≤ 4096
+  pub most : T ≤ maxPeriods
   pub full : length r ≡ T * n
 
-module _ (k : ℕ) (small : k ≤ 80) (r : List Float) (sizes : All (Sized 40) r) (n T : ℕ) where
+module _ (k : ℕ) (small : k ≤ maxPower) (r : List Float) (sizes : All (Sized returnRange) r) (n T : ℕ) where
   abbrev r' : List Float
   r' = map (shift (pos k)) r
 
@@ -68,7 +68,7 @@ module _ (k : ℕ) (small : k ≤ 80) (r : List Float) (sizes : All (Sized 40) r
     most = s .most;
     entries = λ t i a b.
         let in-r : t * n + i < length r = lt-of-lt-of-le (cell t T i n a b) (le-of-eq (sym (s .full))) in
-        sized-moved k 40 (lit≤ tt) (at r n t i) (at r' n t i) (all-at (Sized 40) r (t * n + i) sizes in-r) (at-copy (pos k) r n t i);
+        sized-moved k returnRange (lit≤ tt) (at r n t i) (at r' n t i) (all-at (Sized returnRange) r (t * n + i) sizes in-r) (at-copy (pos k) r n t i);
   }
 
   pub sample-moved : Shape r n T → (i j : ℕ) → i < n → j < n → Moved (k + k) 698 750 1192 (covariance T (at r n) i j) (covariance T (at (map (shift (pos k)) r) n) i j)
@@ -86,13 +86,13 @@ module _ (k : ℕ) (small : k ≤ 80) (r : List Float) (sizes : All (Sized 40) r
       chain-test (ltb maxSide n || ltb maxPeriods T) TooLarge refl (λ e₂.
       chain-test (ltb T 2) (TooFewPeriods T) refl (λ e₃.
       chain-test (not (eqb (length r) (T * n)) || ltb (length slice) needed) WrongLength (ap₂ (λ (u v : ℕ). not (eqb u (T * n)) || ltb v needed) (length-map r (shift (pos k))) e) (λ e₄.
-      let large = or-no (ltb maxSide n) (ltb maxPeriods T) e₂ in
-      let long = or-no (not (eqb (length r) (T * n))) (ltb (length slice) needed) e₄ in
+      let large = neither (ltb maxSide n) (ltb maxPeriods T) e₂ in
+      let long = neither (not (eqb (length r) (T * n))) (ltb (length slice) needed) e₄ in
       let s : Shape r n T = record {
-        assets = not-zero n e₁;
-        few = le-trans (ltb-false maxSide n (large .0)) (lit≤ tt);
+        assets = (let z = eqb-false n 0 e₁ in omega arith);
+        few = ltb-false maxSide n (large .0);
         periods = ltb-false T 2 e₃;
-        most = le-trans (ltb-false maxPeriods T (large .1)) (lit≤ tt);
+        most = ltb-false maxPeriods T (large .1);
         full = eqb-true (length r) (T * n) (not-false (eqb (length r) (T * n)) (long .0));
       } in
       chain-same (notFinite T n (at r n)) (entries-same k r T n) (λ e₅.
@@ -102,11 +102,3 @@ module _ (k : ℕ) (small : k ≤ 80) (r : List Float) (sizes : All (Sized 40) r
       opens : eqb n 0 ≡ false → (ltb maxSide n || ltb maxPeriods T) ≡ false → ltb T 2 ≡ false → length r ≡ T * n → notFinite T n (at r n) ≡ passes → allFinite n n (covariance T (at r n)) ≡ true
           → (ds : List Check) → first (opening r n T 0 [] ++ ds) ≡ first ds
       opens e₁ e₂ e₃ e e₅ e₆ ds = rw (e₁, e₂, e₃, e, eq-eqb (T * n) (T * n) refl, e₅, e₆)
-
-      or-no : (a b : Bool) → (a || b) ≡ false → (a ≡ false) × (b ≡ false)
-      or-no true b h = absurd (subst lib.Dec.T h tt)
-      or-no false b h = (refl, h)
-
-      not-zero : (n : ℕ) → eqb n 0 ≡ false → 0 < n
-      not-zero zero h = absurd (subst lib.Dec.T h (lib.Dec.eqb-refl 0))
-      not-zero (suc n) h = omega arith

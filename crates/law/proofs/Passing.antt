@@ -1,9 +1,9 @@
 -- What is known of a list of checks that all pass, and of a call that accepts: document 01, "Causes". Assumes nothing.
 use mathlib.Core.Path.{_≡_, refl, sym, subst}
 use Prim.Native.Nat.{ℕ, _*_, _≤_}
-use mathlib.Core.Bool.{Bool, true, false, not, _||_}
+use mathlib.Core.Bool.{not}
 use mathlib.Core.List.{List, [], _∷_, _++_}
-use lib.Dec.{T, eqb, ltb}
+use lib.Dec.{eqb, ltb}
 use lib.ListN.{length}
 use lib.Ieee.{Float}
 use borrow.Author.Tests.{ltb-false}
@@ -14,7 +14,7 @@ use Rattle.estimators.specs.Calls.{Answered, settle}
 use Rattle.estimators.specs.declared.Refusal.{Refusal}
 use Rattle.estimators.specs.declared.Refusal.the-variants.{TooLarge, WrongLength}
 use Rattle.estimators.specs.declared.Answer.the-variants.{Refused}
-use Rattle.law.proofs.Chain.{pass-test}
+use Rattle.law.proofs.Chain.{pass-test, neither}
 
 abbrev IsPass : Check → Type 0
 IsPass passes = Unit {0}
@@ -32,11 +32,7 @@ pass-append [] ds h = (refl, h)
 pass-append (passes ∷ cs) ds h = pass-append cs ds h
 pass-append (refuses c ∷ cs) ds h = absurd (subst IsPass (sym h) tt)
 
-or-no : (a b : Bool) → (a || b) ≡ false → (a ≡ false) × (b ≡ false)
-or-no true b h = absurd (subst T h tt)
-or-no false b h = (refl, h)
-
--- no more than 32 assets, and the answer slice is long enough
+-- no more than maxSide assets, and the answer slice is long enough
 pub pass-opening : (r : List Float) (n P needed : ℕ) (slice : List Float) → first (opening r n P needed slice) ≡ passes → (n ≤ maxSide) × (needed ≤ length slice)
 unfolding opening
 pass-opening r n P needed slice h =
@@ -44,8 +40,8 @@ pass-opening r n P needed slice h =
     let h₂ = pass-cons _ _ (h₁ .1) in
     let h₃ = pass-cons _ _ (h₂ .1) in
     let h₄ = pass-cons _ _ (h₃ .1) in (
-      ltb-false maxSide n (or-no (ltb maxSide n) (ltb maxPeriods P) (pass-test _ TooLarge (h₂ .0)) .0),
-      ltb-false (length slice) needed (or-no (not (eqb (length r) (P * n))) (ltb (length slice) needed) (pass-test _ WrongLength (h₄ .0)) .1),
+      ltb-false maxSide n (neither (ltb maxSide n) (ltb maxPeriods P) (pass-test _ TooLarge (h₂ .0)) .0),
+      ltb-false (length slice) needed (neither (not (eqb (length r) (P * n))) (ltb (length slice) needed) (pass-test _ WrongLength (h₄ .0)) .1),
     )
 
 -- ---- a call

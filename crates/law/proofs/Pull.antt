@@ -10,13 +10,14 @@ use mathlib.Core.List.{List}
 use lib.Dec.{T, lit≤}
 use lib.IntN.{ℤ, pos, negℤ, _+ℤ_, _-ℤ_}
 use lib.Pow.{pow-add, pow-pos, pow-mono}
-use lib.Ieee.{Float, nan, inf, fin, binary64, fits, le, lt, eq, add, mul, size}
+use lib.Ieee.{Float, nan, inf, fin, binary64, fits, le, lt, add, mul, size}
 use lib.Ieee.Fits.{mul-fits, div-fits}
 use Rattle.leaves.specs.Numbers.{_⊕_, _⊖_, _⊗_, _⊘_, zero⁺, one, two, 1e-10, count, isFinite, max0}
 use Rattle.leaves.specs.Loops.{sumTo, nth}
 use Rattle.leaves.specs.Root.{sqrt}
 use Rattle.leaves.specs.Scaling.{pow2, binaryExponent, pow2Scaled}
 use Rattle.leaves.specs.Shift.{shift}
+use Rattle.leaves.proofs.Nan.{nan-add}
 use Rattle.leaves.proofs.Loops.{tab-ext, nth-tab}
 use Rattle.leaves.proofs.Whole.{over, under, plus, minus, same, one-side, over-neg, under-neg}
 use Rattle.leaves.proofs.Shift.{shift-nan, isFinite-shift}
@@ -27,10 +28,10 @@ use Rattle.leaves.proofs.Range.{Range, range-value, range-size}
 use Rattle.leaves.proofs.Operations.{Moved, still, moved-weaken, moved-add, moved-sub, moved-mul}
 use Rattle.leaves.proofs.Signs.{sign-mul, sign-count}
 use Rattle.leaves.proofs.PowersOfTwo.{range-move, scaled-moves, shift-null, exponent-range, fits-move, scaled-copy}
-use Rattle.matrix.specs.Limits.{maxSweeps}
-use Rattle.matrix.specs.Matrix.{Matrix, at, amax, allFinite}
+use Rattle.matrix.specs.Limits.{maxSweeps, maxSide}
+use Rattle.matrix.specs.Matrix.{Matrix, at, amax}
 use Rattle.matrix.specs.Jacobi.{Decomposition, decompose, unturned, scaledBack, swept, start}
-use Rattle.matrix.proofs.Alike.{decomposedBy, decompose-is}
+use Rattle.matrix.proofs.Alike.{decompose-cases}
 use Rattle.matrix.proofs.Turn.{Limit}
 use Rattle.matrix.proofs.Vectors.{Small, vectors-small}
 use Rattle.estimators.specs.Moments.{Moments, moments}
@@ -38,30 +39,30 @@ use Rattle.estimators.specs.BayesStein.{singular, commonExponent, gathered, pro
 use borrow.Author.Tests.{ne-eqb}
 use Rattle.leaves.proofs.Zero.{not-above}
 use Rattle.leaves.proofs.Laws.{room→fits}
-use Rattle.law.specs.Law.{AtLeast}
+use Rattle.law.specs.Law.{AtLeast, maxPower, meanRange}
 use Rattle.law.proofs.Sizes.{pow2-val, at-least}
 use Rattle.law.proofs.Sample.{Returns}
-use Rattle.law.proofs.Scaled.{scaled-range, lead}
+use Rattle.law.proofs.Scaled.{scaled-fits, nan-scaled, sign-scaled, scaled-range, lead}
 use Rattle.law.proofs.Shrinkage.{one-moved}
 use Rattle.law.proofs.Weighted.{sum-fits}
-use Rattle.law.proofs.JamesStein.{unit-range, add-nan, nan-scaled, scaled-fits}
-use Rattle.law.proofs.Share.{sign-scaled, max0-plus, intensityOf, share-unit}
+use Rattle.law.proofs.JamesStein.{unit-range}
+use Rattle.law.proofs.Share.{max0-plus, intensityOf, share-unit}
 use Rattle.law.proofs.Common.{LeZ, common-in, common-above, common-lower}
 use Rattle.law.proofs.Tied.{one-step, inf-scaled, tied}
 use Rattle.law.proofs.Ratio.{product-is, sum-finite, sum-most, ratio-most}
 use Rattle.law.proofs.Columns.{C, exponent-small, exps, found, grows, inverse-exponent, inverse-some, pull, share-exponent, share-range, sizeOf, taken, Σ, μ-range}
 
 -- ---- the exponents of the two vectors
-abbrev Small' : ℕ → ℕ → ℤ → Type 0
-Small' hi lo j = (over j ≤ hi) × (under j ≤ lo)
+abbrev Within : ℕ → ℕ → ℤ → Type 0
+Within hi lo j = (over j ≤ hi) × (under j ≤ lo)
 
-plus-small : {a b c d : ℕ} (i j : ℤ) → Small' a b i → Small' c d j → Small' (a + c) (b + d) (i +ℤ j)
+plus-small : {a b c d : ℕ} (i j : ℤ) → Within a b i → Within c d j → Within (a + c) (b + d) (i +ℤ j)
 plus-small i j p q = (omega (arith, plus i j, one-side (i +ℤ j), p, q), omega (arith, plus i j, one-side (i +ℤ j), p, q))
 
-neg-small : {a b : ℕ} (j : ℤ) → Small' a b j → Small' b a (negℤ j)
+neg-small : {a b : ℕ} (j : ℤ) → Within a b j → Within b a (negℤ j)
 neg-small j p = (omega (arith, over-neg j, p), omega (arith, under-neg j, p))
 
-none-small : (a b : ℕ) → Small' a b (pos 0)
+none-small : (a b : ℕ) → Within a b (pos 0)
 unfolding over under
 none-small a b = (zero-le, zero-le)
 
@@ -95,18 +96,12 @@ below-two {g} {L} h x r j low high not-above = elim (eq-zero-or-pos (mag x)) [
 -- ---- what is found of a decomposition's parts
 -- the values are numbers of the format
 values-fit : (limit n : ℕ) (a : Matrix) (e : ℕ) → e < n → T (fits binary64 (nth (decompose limit n a .values) e))
-values-fit limit n a e l = rw (decompose-is limit n a) (go (allFinite n n a) (eq (amax n n a) zero⁺))
-  where
-    zeros : (f : Bool) → T (fits binary64 (nth (unturned n f .values) e))
-    zeros f = unfold unturned in rw (nth-tab n (λ i. zero⁺) e nan l) (unfold fits in tt)
-
-    go : (f z : Bool) → T (fits binary64 (nth (decomposedBy limit n f z (amax n n a) (start n (amax n n a) a) .values) e))
-    go false z = zeros false
-    go true true = zeros true
-    go true false = unfold scaledBack in rw (nth-tab n (λ i. at (swept limit n (start n (amax n n a) a) .reached .matrix) n i i ⊗ amax n n a) e nan l) (mul-fits binary64 (at (swept limit n (start n (amax n n a) a) .reached .matrix) n e e) (amax n n a))
+values-fit limit n a e l =
+    decompose-cases (λ d. T (fits binary64 (nth (d .values) e))) limit n a (λ found. unfold unturned in rw (nth-tab n (λ i. zero⁺) e nan l) (unfold fits in tt))
+    (unfold scaledBack in rw (nth-tab n (λ i. at (swept limit n (start n (amax n n a) a) .reached .matrix) n i i ⊗ amax n n a) e nan l) (mul-fits binary64 (at (swept limit n (start n (amax n n a) a) .reached .matrix) n e e) (amax n n a)))
 
 -- a projection, where it is finite
-project-most : (limit n : ℕ) (a : Matrix) → n ≤ 32 → limit ≤ maxSweeps → (z : ℕ → Float) → ((i : ℕ) → i < n → T (fits binary64 (z i)) × T (isFinite (z i)) × (mag (z i) ≤ 2 ^ 1075))
+project-most : (limit n : ℕ) (a : Matrix) → n ≤ maxSide → limit ≤ maxSweeps → (z : ℕ → Float) → ((i : ℕ) → i < n → T (fits binary64 (z i)) × T (isFinite (z i)) × (mag (z i) ≤ 2 ^ 1075))
     → (e : ℕ) → e < n → T (isFinite (nth (project n (decompose limit n a) z) e)) → mag (nth (project n (decompose limit n a) z) e) ≤ 2 ^ 1380
 project-most limit n a few short z each e l F =
     let W = at (decompose limit n a .vectors) n in
@@ -114,7 +109,7 @@ project-most limit n a few short z each e l F =
     rw i (sum-most n 1375 (λ i. W i e ⊗ z i) few (lit≤ tt) (λ t b.
     let f = sum-finite n (λ i. W i e ⊗ z i) (subst (λ (y : Float). T (isFinite y)) i F) t b in
     let q = mul-finite (W t e) (z t) f in
-    let s = vector (W t e) (vectors-small limit n a (le-trans few (lit≤ tt)) short t e b l) (q .0) in (
+    let s = vector (W t e) (vectors-small limit n a few short t e b l) (q .0) in (
       mul-fits binary64 (W t e) (z t),
       f,
       rw (product-is (W t e) (z t) (s .0) (each t b .0) f)
@@ -176,13 +171,13 @@ distance-plus n d P x y b h =
     let q = project n d (λ i. nth y i ⊖ ratio n d x y ⊗ nth x i) in
     sign-mul P (pow2Scaled (max0 (form n d q q)) (b +ℤ b)) (h ∙ sym (sign-scaled (max0 (form n d q q)) (b +ℤ b) (max0-plus (form n d q q))))
 
-pub pull-unit : (limit n : ℕ) (m : Moments) (e : ℕ → ℤ) → n ≤ 32 → sign (m .periods) ≡ false → (lt (pull limit n m e .intensity) zero⁺ ≡ false) × (lt one (pull limit n m e .intensity) ≡ false)
+pub pull-unit : (limit n : ℕ) (m : Moments) (e : ℕ → ℤ) → n ≤ maxSide → sign (m .periods) ≡ false → (lt (pull limit n m e .intensity) zero⁺ ≡ false) × (lt one (pull limit n m e .intensity) ≡ false)
 pull-unit limit n m e few h =
     let d = taken limit n m in
     rw (pull-is limit n m e .0) (share-unit n (distance n d (m .periods) (ones n m e) (means n m) (bOf n m)) few (mul-fits binary64 (m .periods) _) (distance-plus n d (m .periods) (ones n m e) (means n m) (bOf n m) h))
 
 -- the ratio of a decomposition that passes the test, for vectors below 2 in size
-ratio-small : (limit n : ℕ) (a : Matrix) → 0 < n → n ≤ 32 → limit ≤ maxSweeps → singular n (decompose limit n a) ≡ false → (x y : List Float)
+ratio-small : (limit n : ℕ) (a : Matrix) → 0 < n → n ≤ maxSide → limit ≤ maxSweeps → singular n (decompose limit n a) ≡ false → (x y : List Float)
     → ((i : ℕ) → i < n → T (fits binary64 (nth y i)) × T (isFinite (nth y i)) × (mag (nth y i) ≤ 2 ^ 1075))
     → T (isFinite (ratio n (decompose limit n a) x y)) → mag (ratio n (decompose limit n a) x y) ≤ 2 ^ 1983
 unfolding form singular
@@ -195,7 +190,7 @@ ratio-small limit (suc n) a p few short test x y hy F =
     projected : (x : List Float) (e : ℕ) → e < suc n → T (fits binary64 (nth (project (suc n) (decompose limit (suc n) a) (nth x)) e))
     projected x e l = unfold project in rw (nth-tab (suc n) (λ e. sumTo (suc n) (λ i. at (decompose limit (suc n) a .vectors) (suc n) i e ⊗ nth x i)) e nan l) (sum-fits (suc n) (λ i. at (decompose limit (suc n) a .vectors) (suc n) i e ⊗ nth x i))
 
-module _ {k n P : ℕ} {x y : Matrix} (small : k ≤ 80) (r : Returns k n P 982 1034 1114 x y) (tops : (i : ℕ) → i < n → over (exps P n y i) ≤ 40) (limit : ℕ) (p : Passed limit n (found P n x) (sizeOf P n x)) where
+module _ {k n P : ℕ} {x y : Matrix} (small : k ≤ maxPower) (r : Returns k n P 982 1034 1114 x y) (tops : (i : ℕ) → i < n → over (exps P n y i) ≤ 40) (limit : ℕ) (p : Passed limit n (found P n x) (sizeOf P n x)) where
   abbrev m' : Moments
   m' = found P n x
 
@@ -208,8 +203,8 @@ module _ {k n P : ℕ} {x y : Matrix} (small : k ≤ 80) (r : Returns k n P 982 
   abbrev d : Decomposition
   d = taken limit n (found P n x)
 
-  a-small : Small' 75 61 (aOf n (found P n x) (exps P n x))
-  a-small = common-in (inverse n m') (λ i. negℤ (e i)) (Small' 75 61) n (none-small 75 61) (λ i l.
+  a-small : Within 75 61 (aOf n (found P n x) (exps P n x))
+  a-small = common-in (inverse n m') (λ i. negℤ (e i)) (Within 75 61) n (none-small 75 61) (λ i l.
       plus-small (binaryExponent (inverse n m' i)) (negℤ (e i)) (inverse-exponent small r i l (p .above i l)) (neg-small (e i) (exponent-small small r i l (p .above i l))))
 
   a'-small : under (aOf n (found P n x) (exps P n y)) ≤ 61
@@ -218,8 +213,8 @@ module _ {k n P : ℕ} {x y : Matrix} (small : k ≤ 80) (r : Returns k n P 982 
       let q = inverse-exponent small r i l (p .above i l) in
       omega (arith, plus b (negℤ (f i)), one-side (b +ℤ negℤ (f i)), over-neg (f i), under-neg (f i), tops i l, q))
 
-  b-small : Small' 47 165 (bOf n (found P n x))
-  b-small = common-in (share n m') (λ i. pos 0) (Small' 47 165) n (none-small 47 165) (λ i l. plus-small (binaryExponent (share n m' i)) (pos 0) (share-exponent small r i l (p .above i l)) (none-small 0 0))
+  b-small : Within 47 165 (bOf n (found P n x))
+  b-small = common-in (share n m') (λ i. pos 0) (Within 47 165) n (none-small 47 165) (λ i l. plus-small (binaryExponent (share n m' i)) (pos 0) (share-exponent small r i l (p .above i l)) (none-small 0 0))
 
   lower : aOf n (found P n x) (exps P n y) +ℤ pos k ≡ aOf n (found P n x) (exps P n x)
   lower = common-lower (inverse n m') e f k n (r .assets) (λ i l. grows small r i l (p .above i l)) (λ i l. inverse-some small r i l (p .above i l))
@@ -258,14 +253,14 @@ module _ {k n P : ℕ} {x y : Matrix} (small : k ≤ 80) (r : Returns k n P 982 
   abbrev S : ℤ
   S = bOf n (found P n x) -ℤ aOf n (found P n x) (exps P n x)
 
-  S-small : Small' 108 240 S
+  S-small : Within 108 240 S
   S-small = (omega (arith, minus (bOf n m') (aOf n m' e), one-side S, a-small, b-small), omega (arith, minus (bOf n m') (aOf n m' e), one-side S, a-small, b-small))
 
   S-moves : bOf n (found P n x) -ℤ aOf n (found P n x) (exps P n y) ≡ S +ℤ pos k
   unfolding over under
   S-moves = same (bOf n m' -ℤ aOf n m' f) (S +ℤ pos k) (omega (arith, minus (bOf n m') (aOf n m' f), minus (bOf n m') (aOf n m' e), plus S (pos k), plus (aOf n m' f) (pos k), ap over lower, ap under lower))
 
-  S'-small : Small' 108 240 (S +ℤ pos k)
+  S'-small : Within 108 240 (S +ℤ pos k)
   unfolding over under
   S'-small = (omega (arith, ap over S-moves, minus (bOf n m') (aOf n m' f), one-side (bOf n m' -ℤ aOf n m' f), a'-small, b-small), omega (arith, plus S (pos k), one-side (S +ℤ pos k), S-small))
 
@@ -278,7 +273,7 @@ module _ {k n P : ℕ} {x y : Matrix} (small : k ≤ 80) (r : Returns k n P 982 
   endless : (s : Bool) → shift (pos k) (inf s) ≡ inf s
   endless s = unfold shift in refl
 
-  scaled-moved : (z : Float) → R ≡ z → AtLeast 400 (pow2Scaled R S) → AtLeast 400 (pow2Scaled R (S +ℤ pos k)) → pow2Scaled R (S +ℤ pos k) ≡ shift (pos k) (pow2Scaled R S)
+  scaled-moved : (z : Float) → R ≡ z → AtLeast meanRange (pow2Scaled R S) → AtLeast meanRange (pow2Scaled R (S +ℤ pos k)) → pow2Scaled R (S +ℤ pos k) ≡ shift (pos k) (pow2Scaled R S)
   scaled-moved nan q a b = rw (q, nan-scaled (S +ℤ pos k), nan-scaled S, shift-nan (pos k))
   scaled-moved (inf s) q a b =
       let c = S-small in
@@ -292,14 +287,14 @@ module _ {k n P : ℕ} {x y : Matrix} (small : k ≤ 80) (r : Returns k n P 982 
   pub target-fits : T (fits binary64 (pull limit n (found P n x) (exps P n x) .target))
   target-fits = rw target-is (scaled-fits R S)
 
-  pub target-moved : AtLeast 400 (pull limit n (found P n x) (exps P n x) .target) → AtLeast 400 (pull limit n (found P n x) (exps P n y) .target) → pull limit n (found P n x) (exps P n y) .target ≡ shift (pos k) (pull limit n (found P n x) (exps P n x) .target)
-  target-moved a b = target'-is ∙ scaled-moved R refl (subst (AtLeast 400) target-is a) (subst (AtLeast 400) target'-is b) ∙ ap (shift (pos k)) (sym target-is)
+  pub target-moved : AtLeast meanRange (pull limit n (found P n x) (exps P n x) .target) → AtLeast meanRange (pull limit n (found P n x) (exps P n y) .target) → pull limit n (found P n x) (exps P n y) .target ≡ shift (pos k) (pull limit n (found P n x) (exps P n x) .target)
+  target-moved a b = target'-is ∙ scaled-moved R refl (subst (AtLeast meanRange) target-is a) (subst (AtLeast meanRange) target'-is b) ∙ ap (shift (pos k)) (sym target-is)
 
   -- a finite target's range: 0, or from 2 ^ -400, and not so large that it overflows in either run
-  target-range : AtLeast 400 (pull limit n (found P n x) (exps P n x) .target) → T (isFinite (pull limit n (found P n x) (exps P n x) .target)) → Range 622 (2 ^ 674) (2 ^ (2091 - k)) (pull limit n (found P n x) (exps P n x) .target)
-  target-range a F = rw target-is (go (subst (AtLeast 400) target-is a) (subst (λ (z : Float). T (isFinite z)) target-is F))
+  target-range : AtLeast meanRange (pull limit n (found P n x) (exps P n x) .target) → T (isFinite (pull limit n (found P n x) (exps P n x) .target)) → Range 622 (2 ^ 674) (2 ^ (2091 - k)) (pull limit n (found P n x) (exps P n x) .target)
+  target-range a F = rw target-is (go (subst (AtLeast meanRange) target-is a) (subst (λ (z : Float). T (isFinite z)) target-is F))
     where
-      go : AtLeast 400 (pow2Scaled R S) → T (isFinite (pow2Scaled R S)) → Range 622 (2 ^ 674) (2 ^ (2091 - k)) (pow2Scaled R S)
+      go : AtLeast meanRange (pow2Scaled R S) → T (isFinite (pow2Scaled R S)) → Range 622 (2 ^ 674) (2 ^ (2091 - k)) (pow2Scaled R S)
       go a F =
           let c = S-small in
           let e = one-step R S (le-trans (c .0) (lit≤ tt)) (le-trans (c .1) (lit≤ tt)) in
@@ -307,7 +302,7 @@ module _ {k n P : ℕ} {x y : Matrix} (small : k ≤ 80) (r : Returns k n P 982 
           let w = pow2-val S (1074 + over S - under S) (omega arith) in
           let most : mag (pow2Scaled R S) ≤ 2 ^ (2091 - k) = rw (e, product-is R (pow2 S) R-fits (pow2-fits S (c .0) (c .1)) (subst (λ (z : Float). T (isFinite z)) e F), val-mag (pow2 S) false (2 ^ (1074 + over S - under S)) w .1)
           (near-most (mag R * 2 ^ (1074 + over S - under S)) U (2 ^ (2091 - k)) U-pos (held-pow (2091 - k)) (le-trans (mul-le-mul-right (2 ^ (1074 + over S - under S)) (R-small (q .0))) (powers (over S) (under S) room))) in
-          range-size 622 (2 ^ (2091 - k)) (pow2Scaled R S) (scaled-fits R S) F (at-least 400 (lit≤ tt) (pow2Scaled R S) (mag-val (pow2Scaled R S) (scaled-fits R S) F) a) most
+          range-size 622 (2 ^ (2091 - k)) (pow2Scaled R S) (scaled-fits R S) F (at-least meanRange (lit≤ tt) (pow2Scaled R S) (mag-val (pow2Scaled R S) (scaled-fits R S) F) a) most
         where
           room : over S + k ≤ 108 + under S
           room = unfold over under in omega (arith, plus S (pos k), one-side (S +ℤ pos k), S'-small)
@@ -322,10 +317,10 @@ module _ {k n P : ℕ} {x y : Matrix} (small : k ≤ 80) (r : Returns k n P 982 
   pub intensity-same : pull limit n (found P n x) (exps P n y) .intensity ≡ pull limit n (found P n x) (exps P n x) .intensity
   intensity-same = pull-is limit n m' f .0 ∙ ap (λ (o : List Float). intensityOf n (distance n d (m' .periods) o (means n m') (bOf n m'))) ones-same ∙ sym (pull-is limit n m' e .0)
 
-  intensity-range : AtLeast 400 (pull limit n (found P n x) (exps P n x) .intensity) → (pull limit n (found P n x) (exps P n x) .intensity ≡ nan) ⊎ Range 622 (2 ^ 674) (2 ^ 1074) (pull limit n (found P n x) (exps P n x) .intensity)
+  intensity-range : AtLeast meanRange (pull limit n (found P n x) (exps P n x) .intensity) → (pull limit n (found P n x) (exps P n x) .intensity ≡ nan) ⊎ Range 622 (2 ^ 674) (2 ^ 1074) (pull limit n (found P n x) (exps P n x) .intensity)
   intensity-range a =
       let u = pull-unit limit n m' e (r .few) (unfold moments in sign-count P) in
-      unit-range 400 (lit≤ tt) α (rw (pull-is limit n m' e .0) (div-fits binary64 (count n ⊕ two) _)) a (u .0) (u .1)
+      unit-range meanRange (lit≤ tt) α (rw (pull-is limit n m' e .0) (div-fits binary64 (count n ⊕ two) _)) a (u .0) (u .1)
 
   -- ---- the means
   -- with a target that is finite, and with one that is not
@@ -345,7 +340,7 @@ module _ {k n P : ℕ} {x y : Matrix} (small : k ≤ 80) (r : Returns k n P 982 
           copy = ap (pow2Scaled z) (grows small r i l (p .above i l)) ∙ scaled-copy j (pos k) z (q .fit) (fits-move 1088 z q j (omega arith) (omega arith)) (fits-move 1088 z q (j +ℤ pos k) (unfold over under in omega (arith, plus j (pos k), one-side (j +ℤ pos k))) (unfold over under in omega (arith, plus j (pos k), one-side (j +ℤ pos k))));
         }
 
-    mean-finite : AtLeast 400 t → T (isFinite t) → (t' : Float) → t' ≡ shift (pos k) t → pow2Scaled ((one ⊖ α) ⊗ nth (found P n x .mean) i) (exps P n y i) ⊕ α ⊗ t' ≡ shift (pos k) (pow2Scaled ((one ⊖ α) ⊗ nth (found P n x .mean) i) (exps P n x i) ⊕ α ⊗ t)
+    mean-finite : AtLeast meanRange t → T (isFinite t) → (t' : Float) → t' ≡ shift (pos k) t → pow2Scaled ((one ⊖ α) ⊗ nth (found P n x .mean) i) (exps P n y i) ⊕ α ⊗ t' ≡ shift (pos k) (pow2Scaled ((one ⊖ α) ⊗ nth (found P n x .mean) i) (exps P n x i) ⊕ α ⊗ t)
     mean-finite b F t' e =
         let w : Moved k 622 674 (2091 - k) t t' = record { range = target-range b F; copy = e } in
         let q = rw (zero-add k) at (moved-mul (still 674 1074 a) w 170 170 (2091 - k) (lit≤ tt) (lit≤ tt) (omega arith) (omega arith)) in
@@ -367,13 +362,13 @@ module _ {k n P : ℕ} {x y : Matrix} (small : k ≤ 80) (r : Returns k n P 982 
         unmoved (fin s c w) g = absurd (g (unfold isFinite in tt))
 
         absorbs : (x z : Float) → T (isFinite x) → (T (isFinite z) → ⊥) → x ⊕ z ≡ z
-        absorbs x nan f g = add-nan x
+        absorbs x nan f g = nan-add x nan (inr refl)
         absorbs nan (inf s) f g = unfold isFinite in absurd f
         absorbs (inf r) (inf s) f g = unfold isFinite in absurd f
         absorbs (fin r c w) (inf s) f g = unfold add in refl
         absorbs x (fin s c w) f g = absurd (g (unfold isFinite in tt))
 
-  pub means-moved : AtLeast 400 α → AtLeast 400 (pull limit n (found P n x) (exps P n x) .target) → AtLeast 400 (pull limit n (found P n x) (exps P n y) .target) → (i : ℕ) → i < n
+  pub means-moved : AtLeast meanRange α → AtLeast meanRange (pull limit n (found P n x) (exps P n x) .target) → AtLeast meanRange (pull limit n (found P n x) (exps P n y) .target) → (i : ℕ) → i < n
       → pulled (pull limit n (found P n x) (exps P n y)) (nth (found P n x .mean) i) (exps P n y i) ≡ shift (pos k) (pulled (pull limit n (found P n x) (exps P n x)) (nth (found P n x .mean) i) (exps P n x i))
   unfolding pulled
   means-moved a b c i l =
@@ -393,4 +388,4 @@ module _ {k n P : ℕ} {x y : Matrix} (small : k ≤ 80) (r : Returns k n P 982 
       go (inl q) = nothing (pow2Scaled ((one ⊖ α) ⊗ nth (m' .mean) i) (exps P n y i)) (pull limit n m' f .target) ∙ sym (shift-nan (pos k)) ∙ ap (shift (pos k)) (sym (nothing (pow2Scaled ((one ⊖ α) ⊗ nth (m' .mean) i) (exps P n x i)) (pull limit n m' e .target)))
         where
           nothing : (u z : Float) → u ⊕ α ⊗ z ≡ nan
-          nothing u z = ap (λ (s : Float). u ⊕ s ⊗ z) q ∙ unfold mul in add-nan u
+          nothing u z = ap (λ (s : Float). u ⊕ s ⊗ z) q ∙ unfold mul in nan-add u nan (inr refl)

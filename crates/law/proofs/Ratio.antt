@@ -5,29 +5,31 @@
 use mathlib.Core.Path.{_≡_, refl, sym, ap, ap₂, _∙_, subst, subst₂}
 use mathlib.Core.Logic.{inl, inr}
 use Prim.Native.Nat.{ℕ, zero, suc, _+_, _-_, _*_, _/_, _^_, _≤_, _<_, zero-le}
-use native.Mathlib.Nat.{le-refl, le-trans, le-of-eq, le-of-lt, lt-of-lt-of-le, lt-of-le-of-lt, lt-irrefl, lt-suc-self, lt-trans, mul-le-mul, mul-le-mul-left, mul-le-mul-right, mul-pos, mul-assoc, mul-comm, mul-right-comm, mul-one, one-mul, le-of-mul-le-mul-right, zero-lt-suc, eq-zero-or-pos, not-suc-le-zero, le-div-iff-mul-le, div-mul-le-self, eq-or-lt-of-le, le-of-suc-le-suc, add-zero}
+use native.Mathlib.Nat.{le-refl, le-add-right, sub-le, sub-le-sub-left, le-trans, le-of-eq, le-of-lt, lt-of-lt-of-le, lt-of-le-of-lt, lt-irrefl, lt-suc-self, lt-trans, mul-le-mul, mul-le-mul-left, mul-le-mul-right, mul-pos, mul-assoc, mul-comm, mul-right-comm, mul-one, one-mul, le-of-mul-le-mul-right, zero-lt-suc, eq-zero-or-pos, not-suc-le-zero, le-div-iff-mul-le, div-mul-le-self, eq-or-lt-of-le, le-of-suc-le-suc, add-zero}
 use native.Mathlib.Omega.{arith}
 use mathlib.Core.Bool.{Bool, true, false, cond}
 use lib.Dec.{T, ltb, eqb·suc-zero, lit≤, lit<}
 use lib.IntN.{ℤ, pos}
+use lib.Arith.{add-le-cancel-left, add-lt-cancel-left}
 use lib.Pow.{pow-add, pow-pos, pow-mono}
-use lib.Ieee.{Float, nan, inf, fin, binary64, fits, down, mul, div, unlike, lt, le, size, below}
+use lib.Ieee.{Float, nan, inf, fin, binary64, fits, mul, div, unlike, lt, le, size, below}
 use lib.Ieee.Digits.{size-lt, size-reaches}
-use lib.Ieee.Fits.{up-pos, mul-fits, div-fits}
-use lib.Ieee.Positive.{first-pos}
+use lib.Ieee.Fits.{mul-fits, div-fits}
 use Rattle.leaves.proofs.Laws.{size-pos}
 use Rattle.leaves.proofs.Whole.{le-or-lt}
 use borrow.Author.Tests.{lt-ltb, le-ltb, ltb-true, ltb-false}
 use Rattle.leaves.specs.Numbers.{_⊕_, _⊗_, _⊘_, ε, count, isFinite, larger, smaller}
 use Rattle.leaves.specs.Loops.{loop, sumTo, minTo, maxTo}
 use Rattle.leaves.proofs.Rounding.{near, Near, near-most, near-error, near-held, held-small, held-times}
-use Rattle.leaves.proofs.Units.{U, U-pos, Top, pow-under-Top, Val, zero-mag, sign, mag, val-mag, mag-val, mag-held, rounded, finite-mag, rounded-val, lt-val}
+use Rattle.leaves.proofs.Units.{val-pos, U, U-pos, Top, pow-under-Top, Val, zero-mag, sign, mag, val-mag, mag-val, mag-held, rounded, finite-mag, rounded-val, lt-val}
 use Rattle.leaves.proofs.Arithmetic.{sumSign, total, total-le, add-finite, mul-finite, div-finite, add-rounded, mul-rounded, div-rounded}
 use Rattle.leaves.proofs.Range.{range-weaken, count-val}
 use Rattle.leaves.proofs.Operations.{still}
 use Rattle.leaves.proofs.Signs.{sign-mul, sign-div}
 use Rattle.leaves.proofs.Totals.{moved-sum}
-use Rattle.law.proofs.Sizes.{number, val-number, le-or}
+use Rattle.matrix.specs.Limits.{maxSide}
+use Rattle.law.proofs.Bits.{sideBits, side-bits}
+use Rattle.law.proofs.Sizes.{over-inf, number, val-number, le-or}
 use Rattle.law.proofs.Weighted.{sum-fits, sum-least}
 
 -- ---- one operation's size
@@ -55,9 +57,9 @@ sum-finite (suc n) f h t l =
     let q = add-finite (sumTo n f) (f n) h in
     elim (eq-or-lt-of-le (le-of-suc-le-suc l)) [ inl e ↦ subst (λ (i : ℕ). T (isFinite (f i))) (sym e) (q .1) | inr i ↦ sum-finite n f (q .0) t i ]
 
--- at most 2 ^ h units each, and 32 of them
-pub sum-most : (n h : ℕ) (f : ℕ → Float) → n ≤ 32 → 5 + h ≤ 2097 → ((t : ℕ) → t < n → T (fits binary64 (f t)) × T (isFinite (f t)) × (mag (f t) ≤ 2 ^ h)) → mag (sumTo n f) ≤ 2 ^ (5 + h)
-sum-most n h f few o each = moved-sum 0 0 h n 5 few (lit≤ tt) (rw (add-zero (5 + h)) o) 0 f f (λ t l. let q = each t l in still 0 h (range-weaken (2 ^ 0) (2 ^ h) (le-refl 1) (q .2) (record { fit = q .0; finite = q .1; count = mag (f t); grain = sym (mul-one (mag (f t))); least = λ p. p; most = le-refl (mag (f t)) }))) .range .most
+-- at most 2 ^ h units each
+pub sum-most : (n h : ℕ) (f : ℕ → Float) → n ≤ maxSide → sideBits + h ≤ 2097 → ((t : ℕ) → t < n → T (fits binary64 (f t)) × T (isFinite (f t)) × (mag (f t) ≤ 2 ^ h)) → mag (sumTo n f) ≤ 2 ^ (sideBits + h)
+sum-most n h f few o each = moved-sum 0 0 h n sideBits (side-bits few) (lit≤ tt) (rw (add-zero (sideBits + h)) o) 0 f f (λ t l. let q = each t l in still 0 h (range-weaken (2 ^ 0) (2 ^ h) (le-refl 1) (q .2) (record { fit = q .0; finite = q .1; count = mag (f t); grain = sym (mul-one (mag (f t))); least = λ p. p; most = le-refl (mag (f t)) }))) .range .most
 
 -- zeros sum to zero, so a sum that is not zero has a term that is not
 sum-some : (n : ℕ) (f : ℕ → Float) → ((t : ℕ) → t < n → T (fits binary64 (f t))) → T (isFinite (sumTo n f)) → 0 < mag (sumTo n f) → (t : ℕ) × (t < n) × (0 < mag (f t))
@@ -90,10 +92,10 @@ ltb-same a b c d f g = go (ltb a b) refl
   where
     go : (x : Bool) → ltb a b ≡ x → x ≡ ltb c d
     go true e = sym (lt-ltb c d (f (ltb-true a b e)))
-    go false e = sym (le-ltb c d (omega' (ltb-false a b e)))
+    go false e = sym (le-ltb c d (back (ltb-false a b e)))
       where
-        omega' : b ≤ a → d ≤ c
-        omega' h = elim (le-or-lt d c) [ inl l ↦ l | inr l ↦ absurd (lt-irrefl a (lt-of-lt-of-le (g l) h)) ]
+        back : b ≤ a → d ≤ c
+        back h = elim (le-or-lt d c) [ inl l ↦ l | inr l ↦ absurd (lt-irrefl a (lt-of-lt-of-le (g l) h)) ]
 
 module _ (x y : Float) (fx : T (fits binary64 x)) (fy : T (fits binary64 y)) where
   lt-key : T (number x) → T (number y) → lt x y ≡ ltb (key x) (key y)
@@ -132,45 +134,41 @@ le-key : (x y : Float) → T (fits binary64 x) → T (fits binary64 y) → T (nu
 le-key x y fx fy p q h = ltb-true (key y) (key x) (sym (lt-key y x fy fx q p) ∙ le-or x y p q h)
 
 -- ---- the smallest and the largest
+abbrev Fine : Float → Type 0
+Fine x = T (fits binary64 x) × T (number x)
+
+larger-key : (m x : Float) → Fine m → Fine x → Fine (larger m x) × (key m ≤ key (larger m x)) × (key x ≤ key (larger m x))
+unfolding larger
+larger-key m x a b = go (lt m x) (lt-key m x (a .0) (b .0) (a .1) (b .1))
+  where
+    go : (c : Bool) → c ≡ ltb (key m) (key x) → Fine (cond c x m) × (key m ≤ key (cond c x m)) × (key x ≤ key (cond c x m))
+    go true e = (b, le-of-lt (ltb-true (key m) (key x) (sym e)), le-refl (key x))
+    go false e = (a, le-refl (key m), ltb-false (key m) (key x) (sym e))
+
+smaller-key : (m x : Float) → Fine m → Fine x → Fine (smaller m x) × (key (smaller m x) ≤ key m) × (key (smaller m x) ≤ key x)
+unfolding smaller
+smaller-key m x a b = go (lt x m) (lt-key x m (b .0) (a .0) (b .1) (a .1))
+  where
+    go : (c : Bool) → c ≡ ltb (key x) (key m) → Fine (cond c x m) × (key (cond c x m) ≤ key m) × (key (cond c x m) ≤ key x)
+    go true e = (b, le-of-lt (ltb-true (key x) (key m) (sym e)), le-refl (key x))
+    go false e = (a, le-refl (key m), ltb-false (key x) (key m) (sym e))
+
 module _ (f : ℕ → Float) (n : ℕ) (fit : (t : ℕ) → t < suc n → T (fits binary64 (f t))) (nums : (t : ℕ) → t < suc n → T (number (f t))) where
-  abbrev Fine : Float → Type 0
-  Fine x = T (fits binary64 x) × T (number x)
-
-  larger-key : (m x : Float) → Fine m → Fine x → Fine (larger m x) × (key m ≤ key (larger m x)) × (key x ≤ key (larger m x))
-  unfolding larger
-  larger-key m x a b = go (lt m x) (lt-key m x (a .0) (b .0) (a .1) (b .1))
-    where
-      go : (c : Bool) → c ≡ ltb (key m) (key x) → Fine (cond c x m) × (key m ≤ key (cond c x m)) × (key x ≤ key (cond c x m))
-      go true e = (b, le-of-lt (ltb-true (key m) (key x) (sym e)), le-refl (key x))
-      go false e = (a, le-refl (key m), ltb-false (key m) (key x) (sym e))
-
-  smaller-key : (m x : Float) → Fine m → Fine x → Fine (smaller m x) × (key (smaller m x) ≤ key m) × (key (smaller m x) ≤ key x)
-  unfolding smaller
-  smaller-key m x a b = go (lt x m) (lt-key x m (b .0) (a .0) (b .1) (a .1))
-    where
-      go : (c : Bool) → c ≡ ltb (key x) (key m) → Fine (cond c x m) × (key (cond c x m) ≤ key m) × (key (cond c x m) ≤ key x)
-      go true e = (b, le-of-lt (ltb-true (key x) (key m) (sym e)), le-refl (key x))
-      go false e = (a, le-refl (key m), ltb-false (key x) (key m) (sym e))
-
-  max-loop : (k : ℕ) → k ≤ suc n → Fine (loop k (λ k m. larger m (f k)) (f 0)) × ((t : ℕ) → t < k → key (f t) ≤ key (loop k (λ k m. larger m (f k)) (f 0)))
+  -- the loop's number stands to each as a step's does
+  picked : (pick : Float → Float → Float) (R : ℕ → ℕ → Type 0) → ((a b c : ℕ) → R a b → R b c → R a c)
+      → ((m x : Float) → Fine m → Fine x → Fine (pick m x) × R (key (pick m x)) (key m) × R (key (pick m x)) (key x))
+      → (k : ℕ) → k ≤ suc n → Fine (loop k (λ k m. pick m (f k)) (f 0)) × ((t : ℕ) → t < k → R (key (loop k (λ k m. pick m (f k)) (f 0))) (key (f t)))
   unfolding loop
-  max-loop zero h = ((fit 0 (zero-lt-suc n), nums 0 (zero-lt-suc n)), λ t l. absurd (not-suc-le-zero l))
-  max-loop (suc k) h =
-      let r = max-loop k (le-trans (le-of-lt (lt-suc-self k)) h) in
-      let q = larger-key (loop k (λ k m. larger m (f k)) (f 0)) (f k) (r .0) (fit k h, nums k h) in
-      (q .0, λ t l. elim (eq-or-lt-of-le (le-of-suc-le-suc l)) [ inl e ↦ le-trans (le-of-eq (ap (λ (i : ℕ). key (f i)) e)) (q .2) | inr i ↦ le-trans (r .1 t i) (q .1) ])
-
-  min-loop : (k : ℕ) → k ≤ suc n → Fine (loop k (λ k m. smaller m (f k)) (f 0)) × ((t : ℕ) → t < k → key (loop k (λ k m. smaller m (f k)) (f 0)) ≤ key (f t))
-  unfolding loop
-  min-loop zero h = ((fit 0 (zero-lt-suc n), nums 0 (zero-lt-suc n)), λ t l. absurd (not-suc-le-zero l))
-  min-loop (suc k) h =
-      let r = min-loop k (le-trans (le-of-lt (lt-suc-self k)) h) in
-      let q = smaller-key (loop k (λ k m. smaller m (f k)) (f 0)) (f k) (r .0) (fit k h, nums k h) in
-      (q .0, λ t l. elim (eq-or-lt-of-le (le-of-suc-le-suc l)) [ inl e ↦ le-trans (q .2) (le-of-eq (ap (λ (i : ℕ). key (f i)) (sym e))) | inr i ↦ le-trans (q .1) (r .1 t i) ])
+  picked pick R trans step zero h = ((fit 0 (zero-lt-suc n), nums 0 (zero-lt-suc n)), λ t l. absurd (not-suc-le-zero l))
+  picked pick R trans step (suc k) h =
+      let r = picked pick R trans step k (le-trans (le-of-lt (lt-suc-self k)) h) in
+      let m = loop k (λ k m. pick m (f k)) (f 0) in
+      let q = step m (f k) (r .0) (fit k h, nums k h) in
+      (q .0, λ t l. elim (eq-or-lt-of-le (le-of-suc-le-suc l)) [ inl e ↦ subst (λ (i : ℕ). R (key (pick m (f k))) (key (f i))) (sym e) (q .2) | inr i ↦ trans (key (pick m (f k))) (key m) (key (f t)) (q .1) (r .1 t i) ])
 
 -- ---- values that pass the test of Bayes and Stein
 -- n 2 ^ -52
-tiny : (n : ℕ) → n ≤ 32 → Val (count n ⊗ ε) false (n * 2 ^ 1022)
+tiny : (n : ℕ) → n ≤ maxSide → Val (count n ⊗ ε) false (n * 2 ^ 1022)
 tiny n few =
     let e : near (n * U * 2 ^ 1022) U ≡ n * 2 ^ 1022 = ap (λ (z : ℕ). near z U) (mul-right-comm n U (2 ^ 1022)) ∙ near-held (n * 2 ^ 1022) U U-pos (held-times n 1022 (lt-of-le-of-lt few (lit< tt))) in
     let ε-val : Val ε false (2 ^ 1022) = unfold U in (refl, refl) in
@@ -188,7 +186,7 @@ pub record Positive (n : ℕ) (v : ℕ → Float) : Type 0 where
   pub least : (e : ℕ) → e < n → L ≤ 9007199254740992 * mag (v e)
 
 -- by the largest, Λ
-module _ (n : ℕ) (few : suc n ≤ 32) (v : ℕ → Float) (fit : (e : ℕ) → e < suc n → T (fits binary64 (v e))) (nums : (e : ℕ) → e < suc n → T (number (v e))) where
+module _ (n : ℕ) (few : suc n ≤ maxSide) (v : ℕ → Float) (fit : (e : ℕ) → e < suc n → T (fits binary64 (v e))) (nums : (e : ℕ) → e < suc n → T (number (v e))) where
   by-largest : (Λ : Float) → T (fits binary64 Λ) → T (number Λ) → ((e : ℕ) → e < suc n → key (v e) ≤ key Λ) → (m : Float) → T (fits binary64 m) → T (number m) → ((e : ℕ) → e < suc n → key m ≤ key (v e))
       → le m (count (suc n) ⊗ ε ⊗ Λ) ≡ false → Positive (suc n) v
   by-largest nan t p hi m tm pm lo h = absurd p
@@ -254,17 +252,14 @@ module _ (n : ℕ) (few : suc n ≤ 32) (v : ℕ → Float) (fit : (e : ℕ) →
       signed true i hi lo h =
           let k : key (fin s c e) ≡ Top - mag (fin s c e) = unfold key in ap (λ (b : Bool). cond b (Top - L) (Top + L)) i in
           let k' : key (count (suc n) ⊗ ε ⊗ fin s c e) ≡ Top - B = key-val bar (unlike false s) B bar-val ∙ ap (λ (b : Bool). cond (unlike false b) (Top - B) (Top + B)) i in
-          absurd (lt-irrefl (key m) (lt-of-le-of-lt (le-trans (lo 0 (zero-lt-suc n)) (le-trans (hi 0 (zero-lt-suc n)) (le-trans (le-of-eq k) (le-trans (less Top B L B-most) (le-of-eq (sym k')))))) h))
-        where
-          less : (t b l : ℕ) → b ≤ l → t - l ≤ t - b
-          less t b l h = omega arith
+          absurd (lt-irrefl (key m) (lt-of-le-of-lt (le-trans (lo 0 (zero-lt-suc n)) (le-trans (hi 0 (zero-lt-suc n)) (le-trans (le-of-eq k) (le-trans (sub-le-sub-left B-most Top) (le-of-eq (sym k')))))) h))
       signed false i hi lo h =
           let k : key (fin s c e) ≡ Top + mag (fin s c e) = unfold key in ap (λ (b : Bool). cond b (Top - L) (Top + L)) i in
           let k' : key (count (suc n) ⊗ ε ⊗ fin s c e) ≡ Top + B = key-val bar (unlike false s) B bar-val ∙ ap (λ (b : Bool). cond (unlike false b) (Top - B) (Top + B)) i in
           let l = mag-held Λ t finite-Λ .1 in
-          let each : (j : ℕ) → j < suc n → T (isFinite (v j)) × (sign (v j) ≡ false) × (key (v j) ≡ Top + mag (v j)) = λ j q. between (v j) (fit j q) (nums j q) (lt-of-le-of-lt (over Top B) (lt-of-lt-of-le (lt-of-le-of-lt (le-of-eq (sym k')) h) (lo j q))) (lt-of-le-of-lt (le-trans (hi j q) (le-of-eq k)) (under Top L l)) in
-          let more : (j : ℕ) → j < suc n → B < mag (v j) = λ j q. inside Top B (mag (v j)) (lt-of-lt-of-le (lt-of-le-of-lt (le-of-eq (sym k')) h) (le-trans (lo j q) (le-of-eq (each j q .2)))) in
-          let most : (j : ℕ) → j < suc n → mag (v j) ≤ L = λ j q. within Top (mag (v j)) L (le-trans (le-of-eq (sym (each j q .2))) (le-trans (hi j q) (le-of-eq k))) in
+          let each : (j : ℕ) → j < suc n → T (isFinite (v j)) × (sign (v j) ≡ false) × (key (v j) ≡ Top + mag (v j)) = λ j q. between (v j) (fit j q) (nums j q) (lt-of-le-of-lt (le-add-right Top B) (lt-of-lt-of-le (lt-of-le-of-lt (le-of-eq (sym k')) h) (lo j q))) (lt-of-le-of-lt (le-trans (hi j q) (le-of-eq k)) (under Top L l)) in
+          let more : (j : ℕ) → j < suc n → B < mag (v j) = λ j q. add-lt-cancel-left Top (lt-of-lt-of-le (lt-of-le-of-lt (le-of-eq (sym k')) h) (le-trans (lo j q) (le-of-eq (each j q .2)))) in
+          let most : (j : ℕ) → j < suc n → mag (v j) ≤ L = λ j q. add-le-cancel-left Top (le-trans (le-of-eq (sym (each j q .2))) (le-trans (hi j q) (le-of-eq k))) in
           record {
             L = L;
             some = lt-of-le-of-lt zero-le (lt-of-lt-of-le (more 0 (zero-lt-suc n)) (most 0 (zero-lt-suc n)));
@@ -275,17 +270,8 @@ module _ (n : ℕ) (few : suc n ≤ 32) (v : ℕ → Float) (fit : (e : ℕ) →
             least = λ j q. enough L B (mag (v j)) (2 ^ 1022) U (suc n * 2 ^ 1022) U-wide (le-trans (le-of-eq (sym (one-mul (2 ^ 1022)))) (mul-le-mul-right (2 ^ 1022) (zero-lt-suc n))) (pow-pos 1022) (near-error (suc n * 2 ^ 1022 * L) U U-pos .halved) (more j q);
           }
         where
-          over : (t b : ℕ) → t ≤ t + b
-          over t b = omega arith
-
           under : (t l : ℕ) → l < t → t + l < t + t
           under t l h = omega arith
-
-          inside : (t b m : ℕ) → t + b < t + m → b < m
-          inside t b m h = omega arith
-
-          within : (t m l : ℕ) → t + m ≤ t + l → m ≤ l
-          within t m l h = omega arith
 
           U-wide : U ≡ 4503599627370496 * 2 ^ 1022
           U-wide = unfold U in refl
@@ -294,10 +280,7 @@ module _ (n : ℕ) (few : suc n ≤ 32) (v : ℕ → Float) (fit : (e : ℕ) →
           between nan t p a b = absurd p
           between (inf true) t p a b = unfold key in absurd (not-suc-le-zero a)
           between (inf false) t p a b = unfold key in absurd (lt-irrefl (Top + Top) b)
-          between (fin true k d) t p a b = unfold key in absurd (lt-irrefl Top (lt-of-lt-of-le a (less Top (mag (fin true k d)))))
-            where
-              less : (t m : ℕ) → t - m ≤ t
-              less t m = omega arith
+          between (fin true k d) t p a b = unfold key in absurd (lt-irrefl Top (lt-of-lt-of-le a (sub-le Top (mag (fin true k d)))))
           between (fin false k d) t p a b = unfold key isFinite sign in (tt, refl, refl)
 
           enough : (L B M z u a : ℕ) → u ≡ 4503599627370496 * z → z ≤ a → 0 < z → 2 * (a * L) ≤ 4 * (B * u) + u → B < M → L ≤ 9007199254740992 * M
@@ -307,11 +290,11 @@ module _ (n : ℕ) (few : suc n ≤ 32) (v : ℕ → Float) (fit : (e : ℕ) →
               let d : 2 * L ≤ (4 * B + 1) * 4503599627370496 = le-of-mul-le-mul-right {k = z} c p in
               omega arith
 
-pub positive : (n : ℕ) → suc n ≤ 32 → (v : ℕ → Float) → ((e : ℕ) → e < suc n → T (fits binary64 (v e))) → ((e : ℕ) → e < suc n → T (number (v e))) → le (minTo (suc n) v) (count (suc n) ⊗ ε ⊗ maxTo (suc n) v) ≡ false → Positive (suc n) v
+pub positive : (n : ℕ) → suc n ≤ maxSide → (v : ℕ → Float) → ((e : ℕ) → e < suc n → T (fits binary64 (v e))) → ((e : ℕ) → e < suc n → T (number (v e))) → le (minTo (suc n) v) (count (suc n) ⊗ ε ⊗ maxTo (suc n) v) ≡ false → Positive (suc n) v
 unfolding minTo maxTo
 positive n few v fit nums h =
-    let M = max-loop v n fit nums (suc n) (le-refl (suc n)) in
-    let m = min-loop v n fit nums (suc n) (le-refl (suc n)) in
+    let M = picked v n fit nums larger (λ a b. b ≤ a) (λ a b c p q. le-trans q p) larger-key (suc n) (le-refl (suc n)) in
+    let m = picked v n fit nums smaller (λ a b. a ≤ b) (λ a b c p q. le-trans p q) smaller-key (suc n) (le-refl (suc n)) in
     by-largest n few v fit nums (loop (suc n) (λ k m. larger m (v k)) (v 0)) (M .0 .0) (M .0 .1) (M .1) (loop (suc n) (λ k m. smaller m (v k)) (v 0)) (m .0 .0) (m .0 .1) (m .1) h
 
 -- ---- the largest of numbers
@@ -328,7 +311,7 @@ largest-of (suc n) a =
     ]
 
 -- ---- the ratio
-module _ (n : ℕ) (few : suc n ≤ 32) (v : ℕ → Float) (vf : (e : ℕ) → e < suc n → T (fits binary64 (v e))) (test : le (minTo (suc n) v) (count (suc n) ⊗ ε ⊗ maxTo (suc n) v) ≡ false)
+module _ (n : ℕ) (few : suc n ≤ maxSide) (v : ℕ → Float) (vf : (e : ℕ) → e < suc n → T (fits binary64 (v e))) (test : le (minTo (suc n) v) (count (suc n) ⊗ ε ⊗ maxTo (suc n) v) ≡ false)
     (p m : ℕ → Float) (pf : (e : ℕ) → e < suc n → T (fits binary64 (p e))) (mf : (e : ℕ) → e < suc n → T (fits binary64 (m e))) (small : (e : ℕ) → e < suc n → T (isFinite (m e)) → mag (m e) ≤ 2 ^ 1380) where
   abbrev N : Float
   N = sumTo (suc n) (λ e. p e ⊗ m e ⊘ v e)
@@ -425,7 +408,7 @@ module _ (n : ℕ) (few : suc n ≤ 32) (v : ℕ → Float) (vf : (e : ℕ) → 
         le-trans (mul-le-mul-right L most) (le-trans (le-of-eq (mul-assoc 64 Q L)) (le-trans (mul-le-mul-left 64 (div-mul-le-self X L)) (le-of-eq (sym (mul-assoc 64 (2 ^ 1435) Pm)))))
       where
         by-size : (Q : ℕ) → 0 < Q → (h : ℕ) → size Q ≡ h → ((e : ℕ) → e < suc n → T (fits binary64 (p e ⊗ m e ⊘ v e)) × T (isFinite (p e ⊗ m e ⊘ v e)) × (mag (p e ⊗ m e ⊘ v e) ≤ 2 ^ size Q)) → mag N ≤ 64 * Q
-        by-size Q q h i each = elim (le-or-lt (5 + size Q) 2097) [
+        by-size Q q h i each = elim (le-or-lt (sideBits + size Q) 2097) [
           | inl l ↦ le-trans (sum-most (suc n) (size Q) (λ e. p e ⊗ m e ⊘ v e) few l each) (le-trans (le-of-eq (halves (size Q) some)) (mul-le-mul-left 64 reach))
           | inr l ↦ le-trans (le-of-lt (mag-held N (sum-fits (suc n) (λ e. p e ⊗ m e ⊘ v e)) FN .1)) (le-trans top (mul-le-mul-left 64 (le-trans (pow-mono {i = 2092} {j = size Q - 1} (omega arith)) reach)))
         ]
@@ -440,7 +423,7 @@ module _ (n : ℕ) (few : suc n ≤ 32) (v : ℕ → Float) (vf : (e : ℕ) → 
             reach : 2 ^ (size Q - 1) ≤ Q
             reach = size-reaches Q (size Q - 1) (let k = some in omega arith)
 
-            halves : (h : ℕ) → 0 < h → 2 ^ (5 + h) ≡ 64 * 2 ^ (h - 1)
+            halves : (h : ℕ) → 0 < h → 2 ^ (sideBits + h) ≡ 64 * 2 ^ (h - 1)
             halves h p = ap (λ (i : ℕ). 2 ^ i) (omega arith) ∙ pow-add 2 6 (h - 1)
 
             top : Top ≤ 64 * 2 ^ 2092
@@ -480,12 +463,7 @@ module _ (n : ℕ) (few : suc n ≤ 32) (v : ℕ → Float) (vf : (e : ℕ) → 
     where
       go : (d : Float) → D ≡ d → T (isFinite N) → T (isFinite (N ⊘ D)) → mag (N ⊘ D) ≤ 2 ^ 1983
       go nan e f g = absurd (over-number N nan (subst (λ (z : Float). T (isFinite (N ⊘ z))) e g))
-      go (inf s) e f g = le-trans (le-of-eq (ap (λ (z : Float). mag (N ⊘ z)) e ∙ by-inf N f)) zero-le
-        where
-          by-inf : (x : Float) → T (isFinite x) → mag (x ⊘ inf s) ≡ 0
-          by-inf nan f = unfold isFinite in absurd f
-          by-inf (inf r) f = unfold isFinite in absurd f
-          by-inf (fin r k d) f = unfold div in zero-mag (unlike r s) (pos 0)
+      go (inf s) e f g = let q = over-inf N s f in le-trans (le-of-eq (ap (λ (z : Float). mag (N ⊘ z)) e ∙ ap mag (q .1) ∙ zero-mag (q .0) (pos 0))) zero-le
       go (fin s zero d) e f g = absurd (by-zero N (subst (λ (z : Float). T (isFinite (N ⊘ z))) e g))
         where
           by-zero : (x : Float) → T (isFinite (x ⊘ fin s zero d)) → ⊥
@@ -496,7 +474,4 @@ module _ (n : ℕ) (few : suc n ≤ 32) (v : ℕ → Float) (vf : (e : ℕ) → 
       go (fin s (suc k) d) e f g =
           let FD : T (isFinite D) = subst (λ (z : Float). T (isFinite z)) (sym e) (unfold isFinite in tt) in
           let w = mag-val D (sum-fits (suc n) (λ e. p e ⊗ p e ⊘ v e)) FD in
-          ratio-finite-most f FD (subst (λ (z : Float). 0 < mag z) (sym e) (above k s d (subst (λ (z : Float). Val z (sign z) (mag z)) e w))) g
-        where
-          above : (k : ℕ) (s : Bool) (d : ℤ) → Val (fin s (suc k) d) (sign (fin s (suc k) d)) (mag (fin s (suc k) d)) → 0 < mag (fin s (suc k) d)
-          above k s d w = first-pos (mag (fin s (suc k) d)) (down d) (subst (λ (n : ℕ). 0 < n) (w .1) (mul-pos (mul-pos (zero-lt-suc k) (up-pos d)) U-pos))
+          ratio-finite-most f FD (subst (λ (z : Float). 0 < mag z) (sym e) (val-pos s k d _ _ (subst (λ (z : Float). Val z (sign z) (mag z)) e w))) g

@@ -21,8 +21,11 @@ use Rattle.leaves.proofs.Range.{Range, sized, range-zero, range-sized, range-co
 use Rattle.leaves.proofs.Operations.{Moved, moved-weaken, moved-sub, moved-mul, moved-over, still}
 use Rattle.leaves.proofs.Totals.{moved-amax, moved-sum, amax-most}
 use Rattle.matrix.specs.Matrix.{Matrix}
+use Rattle.matrix.specs.Limits.{maxSide}
 use Rattle.estimators.specs.Sample.{mean, deviation, gram, covariance, largest, constantAsset}
 use Rattle.estimators.specs.Semi.{shortfall, semicovariance, semicovarianceBelow}
+use Rattle.estimators.specs.Order.{maxPeriods}
+use Rattle.law.proofs.Bits.{periodBits, period-bits}
 
 -- ---- counts
 pub count-moved : (c n : ℕ) → c ≤ 53 → n ≤ 2 ^ c → Moved 0 1074 1074 (c + 1074) (count n) (count n)
@@ -32,9 +35,9 @@ count-moved c n l h = still 1074 (c + 1074) (range-count c n l h)
 -- returns and their copies, of n assets in T periods
 pub record Returns (k n T g l h : ℕ) (x y : Matrix) : Type 0 where
   pub assets : 0 < n
-  pub few : n ≤ 32
+  pub few : n ≤ maxSide
   pub periods : 2 ≤ T
-  pub most : T ≤ 4096
+  pub most : T ≤ maxPeriods
   pub entries : (t i : ℕ) → t < T → i < n → Moved k g l h (x t i) (y t i)
 
 -- the same periods and assets, with other entries
@@ -42,21 +45,21 @@ pub entries-as : {k k' n T g g' l l' h h' : ℕ} {x x' y y' : Matrix} → Return
 entries-as r each = record { assets = r .assets; few = r .few; periods = r .periods; most = r .most; entries = each }
 
 -- a sum of T terms over a count
-pub average-moved : {k g h l : ℕ} (T c : ℕ) (u u' : ℕ → Float) → T ≤ 4096 → 0 < c → c ≤ 4096 → ((t : ℕ) → t < T → Moved k g l h (u t) (u' t)) → (g' : ℕ) → g' + 64 ≤ g → 12 + h + k ≤ 2097
-    → Moved k g' (g' + 52) (12 + h) (sumTo T u ⊘ count c) (sumTo T u' ⊘ count c)
+pub average-moved : {k g h l : ℕ} (T c : ℕ) (u u' : ℕ → Float) → T ≤ maxPeriods → 0 < c → c ≤ maxPeriods → ((t : ℕ) → t < T → Moved k g l h (u t) (u' t)) → (g' : ℕ) → g' + 52 + periodBits ≤ g → periodBits + h + k ≤ 2097
+    → Moved k g' (g' + 52) (periodBits + h) (sumTo T u ⊘ count c) (sumTo T u' ⊘ count c)
 average-moved {k} {g} {h} {l} T c u u' t p f each g' a b =
-    moved-over (moved-sum k g h T 12 t (lit≤ tt) b l u u' each) (count-moved 12 c (lit≤ tt) f) (count-pos c p (le-trans f (lit≤ tt))) g' (12 + h) (omega arith) (omega arith) b
+    moved-over (moved-sum k g h T periodBits (period-bits t) (lit≤ tt) b l u u' each) (count-moved periodBits c (lit≤ tt) (period-bits f)) (count-pos c p (le-trans f (lit≤ tt))) g' (periodBits + h) (omega arith) (omega arith) b
 
-module _ {k n T g l h : ℕ} {x y : Matrix} (r : Returns k n T g l h x y) (d : ℕ) (grain : d + 64 ≤ g) (room : 13 + h + k ≤ 2097) where
-  pub mean-moved : (i : ℕ) → i < n → Moved k d (d + 52) (12 + h) (mean T x i) (mean T y i)
+module _ {k n T g l h : ℕ} {x y : Matrix} (r : Returns k n T g l h x y) (d : ℕ) (grain : d + 52 + periodBits ≤ g) (room : suc (periodBits + h) + k ≤ 2097) where
+  pub mean-moved : (i : ℕ) → i < n → Moved k d (d + 52) (periodBits + h) (mean T x i) (mean T y i)
   unfolding mean
   mean-moved i a = average-moved T T (λ t. x t i) (λ t. y t i) (r .most) (omega (arith, r .periods)) (r .most) (λ t b. r .entries t i b a) d grain (omega arith)
 
   -- less a number of the means' grain
-  pub less-moved : {m m' : Float} {lm : ℕ} → Moved k d lm (12 + h) m m' → (t i : ℕ) → t < T → i < n → Moved k d d (suc (12 + h)) (x t i ⊖ m) (y t i ⊖ m')
-  less-moved m t i a b = moved-sub (moved-weaken d 0 (12 + h) (omega arith) zero-le (omega arith) (r .entries t i a b)) m (omega arith)
+  pub less-moved : {m m' : Float} {lm : ℕ} → Moved k d lm (periodBits + h) m m' → (t i : ℕ) → t < T → i < n → Moved k d d (suc (periodBits + h)) (x t i ⊖ m) (y t i ⊖ m')
+  less-moved m t i a b = moved-sub (moved-weaken d 0 (periodBits + h) (omega arith) zero-le (omega arith) (r .entries t i a b)) m (omega arith)
 
-  pub deviation-moved : (t i : ℕ) → t < T → i < n → Moved k d d (suc (12 + h)) (deviation T x t i) (deviation T y t i)
+  pub deviation-moved : (t i : ℕ) → t < T → i < n → Moved k d d (suc (periodBits + h)) (deviation T x t i) (deviation T y t i)
   unfolding deviation
   deviation-moved t i a b = less-moved (mean-moved i b) t i a b
 
@@ -69,20 +72,20 @@ unfolding largest
 largest-above {T = T} {x = x} r t i a b = amax-most (λ t. x t i) T (λ t c. (r .entries t i c b .range .fit, r .entries t i c b .range .finite)) t a
 
 -- ---- sums of products over a count
-module _ {k T : ℕ} (c : ℕ) (most : T ≤ 4096) (some : 0 < c) (few : c ≤ 4096) {d h : ℕ} (p : ℕ) (grain : p + 1074 ≤ d + d) (s : ℕ) (scale : s + 64 ≤ p) (e : ℕ) (room : h + h ≤ e + 1074) (top : 12 + e + (k + k) ≤ 2097) where
-  pub gram-moved : (z z' : Matrix) (i j : ℕ) → ((t : ℕ) → t < T → Moved k d d h (z t i) (z' t i)) → ((t : ℕ) → t < T → Moved k d d h (z t j) (z' t j)) → Moved (k + k) s (s + 52) (12 + e) (gram T z i j ⊘ count c) (gram T z' i j ⊘ count c)
+module _ {k T : ℕ} (c : ℕ) (most : T ≤ maxPeriods) (some : 0 < c) (few : c ≤ maxPeriods) {d h : ℕ} (p : ℕ) (grain : p + 1074 ≤ d + d) (s : ℕ) (scale : s + 52 + periodBits ≤ p) (e : ℕ) (room : h + h ≤ e + 1074) (top : periodBits + e + (k + k) ≤ 2097) where
+  pub gram-moved : (z z' : Matrix) (i j : ℕ) → ((t : ℕ) → t < T → Moved k d d h (z t i) (z' t i)) → ((t : ℕ) → t < T → Moved k d d h (z t j) (z' t j)) → Moved (k + k) s (s + 52) (periodBits + e) (gram T z i j ⊘ count c) (gram T z' i j ⊘ count c)
   unfolding gram
   gram-moved z z' i j a b = average-moved T c (λ t. z t i ⊗ z t j) (λ t. z' t i ⊗ z' t j) most some few (λ t l. moved-mul (a t l) (b t l) p p e grain grain room (omega arith)) s scale top
 
-module _ {k n T g l h : ℕ} {x y : Matrix} (r : Returns k n T g l h x y) (d : ℕ) (grain : d + 64 ≤ g) (room : 13 + h + k ≤ 2097)
-    (p : ℕ) (square : p + 1074 ≤ d + d) (s : ℕ) (scale : s + 64 ≤ p) (e : ℕ) (wide : suc (12 + h) + suc (12 + h) ≤ e + 1074) (top : 12 + e + (k + k) ≤ 2097) where
+module _ {k n T g l h : ℕ} {x y : Matrix} (r : Returns k n T g l h x y) (d : ℕ) (grain : d + 52 + periodBits ≤ g) (room : suc (periodBits + h) + k ≤ 2097)
+    (p : ℕ) (square : p + 1074 ≤ d + d) (s : ℕ) (scale : s + 52 + periodBits ≤ p) (e : ℕ) (wide : suc (periodBits + h) + suc (periodBits + h) ≤ e + 1074) (top : periodBits + e + (k + k) ≤ 2097) where
   some : 0 < T - 1
   some = omega (arith, r .periods)
 
-  few : T - 1 ≤ 4096
+  few : T - 1 ≤ maxPeriods
   few = omega (arith, r .most)
 
-  pub covariance-moved : (i j : ℕ) → i < n → j < n → Moved (k + k) s (s + 52) (12 + e) (covariance T x i j) (covariance T y i j)
+  pub covariance-moved : (i j : ℕ) → i < n → j < n → Moved (k + k) s (s + 52) (periodBits + e) (covariance T x i j) (covariance T y i j)
   unfolding covariance
   covariance-moved i j a b = gram-moved (T - 1) (r .most) some few p square s scale e wide top (deviation T x) (deviation T y) i j (λ t l. deviation-moved r d grain room t i l a) (λ t l. deviation-moved r d grain room t j l b)
 
@@ -94,20 +97,20 @@ module _ {k n T g l h : ℕ} {x y : Matrix} (r : Returns k n T g l h x y) (d : �
       go true = v .range
       go false = range-zero d (2 ^ lm) (2 ^ m)
 
-  shortfall-moved : (a a' : ℕ → Float) {lm : ℕ} → ((i : ℕ) → i < n → Moved k d lm (12 + h) (a i) (a' i)) → (t i : ℕ) → t < T → i < n → Moved k d d (suc (12 + h)) (shortfall a x t i) (shortfall a' y t i)
+  shortfall-moved : (a a' : ℕ → Float) {lm : ℕ} → ((i : ℕ) → i < n → Moved k d lm (periodBits + h) (a i) (a' i)) → (t i : ℕ) → t < T → i < n → Moved k d d (suc (periodBits + h)) (shortfall a x t i) (shortfall a' y t i)
   unfolding shortfall
   shortfall-moved a a' each t i u v = min0-moved (less-moved r d grain room (each i v) t i u v)
 
-  pub semicovariance-moved : (i j : ℕ) → i < n → j < n → Moved (k + k) s (s + 52) (12 + e) (semicovariance T x i j) (semicovariance T y i j)
+  pub semicovariance-moved : (i j : ℕ) → i < n → j < n → Moved (k + k) s (s + 52) (periodBits + e) (semicovariance T x i j) (semicovariance T y i j)
   unfolding semicovariance
   semicovariance-moved i j a b =
       let z = shortfall-moved (mean T x) (mean T y) (mean-moved r d grain room) in
       gram-moved (T - 1) (r .most) some few p square s scale e wide top (shortfall (mean T x) x) (shortfall (mean T y) y) i j (λ t l. z t i l a) (λ t l. z t j l b)
 
-  pub semicovarianceBelow-moved : {θ θ' : Float} → Moved k g l h θ θ' → (i j : ℕ) → i < n → j < n → Moved (k + k) s (s + 52) (12 + e) (semicovarianceBelow θ T x i j) (semicovarianceBelow θ' T y i j)
+  pub semicovarianceBelow-moved : {θ θ' : Float} → Moved k g l h θ θ' → (i j : ℕ) → i < n → j < n → Moved (k + k) s (s + 52) (periodBits + e) (semicovarianceBelow θ T x i j) (semicovarianceBelow θ' T y i j)
   unfolding semicovarianceBelow
   semicovarianceBelow-moved {θ} {θ'} u i j a b =
-      let z = shortfall-moved (λ i. θ) (λ i. θ') (λ i a. moved-weaken d 0 (12 + h) (omega arith) zero-le (omega arith) u) in
+      let z = shortfall-moved (λ i. θ) (λ i. θ') (λ i a. moved-weaken d 0 (periodBits + h) (omega arith) zero-le (omega arith) u) in
       gram-moved T (r .most) (omega (arith, r .periods)) (r .most) p square s scale e wide top (shortfall (λ a. θ) x) (shortfall (λ a. θ') y) i j (λ t l. z t i l a) (λ t l. z t j l b)
 
 -- ---- the tolerance of a constant asset
@@ -119,7 +122,7 @@ pub tenth-above : 0 < mag 1e-10
 unfolding ofBits mag U
 tenth-above = lit< tt
 
-module _ {k n T g l h : ℕ} {x y : Matrix} (r : Returns k n T g l h x y) (G : 86 ≤ g) (L : 34 ≤ l) (room : 13 + h + k ≤ 2097) where
+module _ {k n T g l h : ℕ} {x y : Matrix} (r : Returns k n T g l h x y) (G : 86 ≤ g) (L : 34 ≤ l) (room : h + k ≤ 2097) where
   pub tolerance-moved : (i : ℕ) → i < n → Moved k (g - 86) (l - 34) h (1e-10 ⊗ largest T x i) (1e-10 ⊗ largest T y i)
   tolerance-moved i a = rw (zero-add k) at (moved-mul tenth-moved (largest-moved r i a) (g - 86) (l - 34) h (omega arith) (omega arith) (omega arith) (omega arith))
 

@@ -3,25 +3,53 @@
 -- under a shift by k. What is computed from them is scaled back by 2 ^ b(A), and either way the second run's result is 2 ^ k times the first's (`scaled-back`). Assumes nothing.
 use mathlib.Core.Path.{_≡_, refl, sym, ap, ap₂, _∙_, subst}
 use mathlib.Core.Logic.{inl, inr}
-use Prim.Native.Nat.{ℕ, zero, suc, _+_, _-_, _*_, _^_, _≤_, _<_, zero-le}
-use native.Mathlib.Nat.{le-refl, le-trans, le-of-eq, le-of-lt, le-antisymm, lt-of-le-of-lt, lt-irrefl, eq-zero-or-pos, zero-mul, mul-assoc, mul-right-comm, mul-pos, mul-one, mul-le-mul-left, mul-le-mul-right, le-of-mul-le-mul-right, zero-lt-suc, sub-self, sub-zero, lt-suc-self}
+use Prim.Native.Nat.{ℕ, zero, suc, _+_, _-_, _*_, _^_, _≤_, _<_, zero-le, _/_, _%_}
+use native.Mathlib.Nat.{le-refl, le-trans, le-of-eq, le-of-lt, le-antisymm, lt-of-le-of-lt, lt-irrefl, eq-zero-or-pos, mul-assoc, mul-right-comm, mul-one, mul-le-mul-left, mul-le-mul-right, le-of-mul-le-mul-right, sub-self, sub-zero, lt-suc-self, sub-add-cancel}
 use native.Mathlib.Omega.{arith}
 use lib.Dec.{T}
-use lib.IntN.{ℤ, pos, negℤ, _+ℤ_}
+use lib.IntN.{ℤ, pos, negsuc, negℤ, _+ℤ_}
 use lib.Pow.{pow-add, pow-pos, pow-mono, pow-lt}
-use lib.Ieee.{Float, nan, inf, fin, binary64, size, down, fits}
+use lib.Ieee.{Float, nan, inf, fin, binary64, size, fits, mul}
 use lib.Ieee.Digits.{size-lt, size-reaches}
-use lib.Ieee.Fits.{up-pos}
-use Rattle.leaves.specs.Numbers.{isFinite}
-use Rattle.leaves.specs.Scaling.{binaryExponent, pow2Scaled}
+use Rattle.leaves.specs.Numbers.{isFinite, _⊗_}
+use Rattle.leaves.specs.Scaling.{binaryExponent, pow2Scaled, pow2, times}
+use mathlib.Core.Bool.{false}
+use lib.Ieee.Fits.{mul-fits}
+use Rattle.leaves.specs.Loops.{loop}
 use Rattle.leaves.specs.Shift.{shift}
 use Rattle.leaves.proofs.Whole.{over, under, plus, one-side, same, over-neg, under-neg, up-is, down-is}
 use Rattle.leaves.proofs.Laws.{size-pos, pow-back}
 use Rattle.leaves.proofs.Shift.{shift-zero, shift-shift, shift-forth}
-use Rattle.leaves.proofs.Units.{U, U-is, pow-under-Top, Val, sign, mag, zero-mag, fits-shift}
-use Rattle.leaves.proofs.Range.{Range, range-value, range-weaken, range-finer}
+use Rattle.leaves.proofs.Units.{U-is, pow-under-Top, Val, sign, mag, zero-mag, val-pos, fits-shift}
+use Rattle.leaves.proofs.Range.{Range, range-value, range-null, range-weaken, range-finer}
 use Rattle.leaves.proofs.Operations.{Moved}
+use Rattle.leaves.proofs.Signs.{sign-mul}
 use Rattle.leaves.proofs.PowersOfTwo.{fits-move, range-move, scaled-moves, shift-null, exponent-shift, exponent-range, same-scaled, scaled-copy}
+
+-- ---- pow2_scaled, product by product
+-- each product makes P into Q, from which the next one starts
+module _ (P Q : Float → Type 0) (step : (x : Float) (e : ℤ) → P x → Q (x ⊗ pow2 e)) (next : (x : Float) → Q x → P x) where
+  times-made : (n : ℕ) (e : ℤ) (x : Float) → P x → P (times n (pow2 e) x)
+  unfolding times loop
+  times-made zero e x p = p
+  times-made (suc n) e x p = next (times n (pow2 e) x ⊗ pow2 e) (step (times n (pow2 e) x) e (times-made n e x p))
+
+  scaled-made : (x : Float) (j : ℤ) → P x → Q (pow2Scaled x j)
+  unfolding pow2Scaled
+  scaled-made x (pos zero) p = step x (pos 0) p
+  scaled-made x (pos (suc k)) p = step (times (k / 1023) (pow2 (pos 1023)) x) (pos (suc (k % 1023))) (times-made (k / 1023) (pos 1023) x p)
+  scaled-made x (negsuc k) p = step (times (k / 1022) (pow2 (negsuc 1021)) x) (negsuc (k % 1022)) (times-made (k / 1022) (negsuc 1021) x p)
+
+pub scaled-fits : (x : Float) (j : ℤ) → T (fits binary64 (pow2Scaled x j))
+scaled-fits x j = scaled-made (λ z. Unit {0}) (λ z. T (fits binary64 z)) (λ z e p. mul-fits binary64 z (pow2 e)) (λ z q. tt) x j tt
+
+pub nan-scaled : (j : ℤ) → pow2Scaled nan j ≡ nan
+unfolding mul
+nan-scaled j = scaled-made (λ z. z ≡ nan) (λ z. z ≡ nan) (λ z e p. ap (λ (y : Float). y ⊗ pow2 e) p) (λ z q. q) nan j refl
+
+pub sign-scaled : (x : Float) (j : ℤ) → sign x ≡ false → sign (pow2Scaled x j) ≡ false
+unfolding sign
+sign-scaled x j p = scaled-made (λ z. sign z ≡ false) (λ z. sign z ≡ false) (λ z e p. sign-mul z (pow2 e) p) (λ z q. q) x j p
 
 -- ---- b(x), by the leading bit: x has 2 ^ (b + 1074) units at least and less than twice as many
 pub lead : (x : Float) → T (isFinite x) → Val x (sign x) (mag x) → 0 < mag x
@@ -73,10 +101,7 @@ unfolding binaryExponent
 exponent-null nan v z = absurd v
 exponent-null (inf s) v z = absurd v
 exponent-null (fin s zero e) v z = refl
-exponent-null (fin s (suc m) e) v z = absurd (lt-irrefl 0 (subst (λ (n : ℕ). 0 < n) (v .1 ∙ ap (λ (n : ℕ). n * down e) z ∙ zero-mul (down e)) (mul-pos (mul-pos (zero-lt-suc m) (up-pos e)) (unfold U in pow-pos 1074))))
-
-pub range-null : {g L B : ℕ} {x : Float} → Range g L B x → mag x ≡ 0 → (g' L' B' : ℕ) → Range g' L' B' x
-range-null r z g' L' B' = record { fit = r .fit; finite = r .finite; count = 0; grain = z ∙ sym (zero-mul (2 ^ g')); least = λ p. absurd (lt-irrefl 0 (rw z at p)); most = rw z zero-le }
+exponent-null (fin s (suc m) e) v z = absurd (lt-irrefl 0 (rw z at (val-pos s m e (sign (fin s (suc m) e)) (mag (fin s (suc m) e)) v)))
 
 -- ---- scaled by 2 ^ -b(A)
 pub record Scaling (k g l h : ℕ) (A A' : Float) : Type 0 where
@@ -115,7 +140,7 @@ module _ {k g l h : ℕ} {A A' : Float} (a : Moved k g l h A A') (fine : g ≤ l
       exponent = none' ∙ sym (ap₂ (λ (i : ℤ) (n : ℕ). i +ℤ pos n) none (sub-self k));
       small = rw none (zero-le, zero-le);
       same = λ {d} {d'} m l. ap₂ (λ (x : Float) (i : ℤ). pow2Scaled x (negℤ i)) (m .copy ∙ shift-null (pos k) d (m .range .fit) (m .range .finite) (null m l)) (none' ∙ sym none);
-      moved = λ {d} m l. rw (none, itself m) (record { range = range-null (m .range) (null m l) (g + 1074 - h) (2 ^ (g + 1074 - h)) (2 ^ 1075); copy = sym (shift-null (pos k) d (m .range .fit) (m .range .finite) (null m l)) });
+      moved = λ {d} m l. rw (none, itself m) (record { range = range-null d (m .range .fit) (m .range .finite) (null m l) (g + 1074 - h) (2 ^ (g + 1074 - h)) (2 ^ 1075); copy = sym (shift-null (pos k) d (m .range .fit) (m .range .finite) (null m l)) });
     }
 
   -- of others
@@ -136,11 +161,8 @@ module _ {k g l h : ℕ} {A A' : Float} (a : Moved k g l h A A') (fine : g ≤ l
     under-top m e =
         let q = lead A (a .range .finite) (range-value (a .range)) p .1 in
         range-weaken (2 ^ l) (2 ^ top) (le-refl (2 ^ l))
-        (le-trans e (le-of-mul-le-mul-right {k = 2 ^ under (binaryExponent A)} (le-trans q (le-of-eq (ap (λ (z : ℕ). 2 ^ z) (sym (back (1075 + over (binaryExponent A)) (under (binaryExponent A)) (omega (arith, bounds)))) ∙ pow-add 2 top (under (binaryExponent A))))) (pow-pos (under (binaryExponent A)))))
+        (le-trans e (le-of-mul-le-mul-right {k = 2 ^ under (binaryExponent A)} (le-trans q (le-of-eq (ap (λ (z : ℕ). 2 ^ z) (sym (sub-add-cancel {n = 1075 + over (binaryExponent A)} {m = under (binaryExponent A)} (omega (arith, bounds)))) ∙ pow-add 2 top (under (binaryExponent A))))) (pow-pos (under (binaryExponent A)))))
         (record { fit = m .range .fit; finite = m .range .finite; count = m .range .count; grain = m .range .grain; least = m .range .least; most = le-refl _ })
-      where
-        back : (n u : ℕ) → u ≤ n → n - u + u ≡ n
-        back n u h = omega arith
 
     module _ {d d' : Float} (m : Moved k g l h d d') (e : mag d ≤ mag A) where
       j : ℤ

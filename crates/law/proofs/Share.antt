@@ -1,24 +1,24 @@
 -- The Bayes-Stein intensity, (n + 2) / (n + 2 + d), is not below 0 and not above 1 for any d without a minus sign, an infinity and NaN included: n + 2 + d is not below n + 2. Assumes nothing.
 use mathlib.Core.Path.{_≡_, refl, sym, ap, _∙_, subst}
-use Prim.Native.Nat.{ℕ, _/_, _%_, zero, suc, _*_, _^_, _≤_, _<_}
+use Prim.Native.Nat.{ℕ, zero, _*_, _^_, _≤_, _<_}
 use native.Mathlib.Nat.{le-trans, le-of-eq, lt-of-lt-of-le, lt-of-le-of-lt, mul-comm, mul-le-mul-right, mul-pos}
 use mathlib.Core.Bool.{Bool, true, false, cond}
 use lib.Dec.{T, lit≤, lit<}
-use lib.IntN.{negsuc, ℤ, pos}
-use lib.Ieee.{Float, nan, inf, fin, binary64, fits, lt, div, unlike}
+use lib.IntN.{pos}
+use lib.Ieee.{Float, nan, inf, fin, binary64, fits, lt, div}
 use lib.Ieee.Fits.{add-fits, ofInt-fits}
 use Rattle.leaves.specs.Numbers.{_⊕_, _⊘_, zero⁺, one, two, count, isFinite, max0}
-use Rattle.leaves.specs.Loops.{loop}
-use Rattle.leaves.specs.Scaling.{times, pow2, pow2Scaled}
 use Rattle.leaves.proofs.Rounding.{near, near-most, held-pow}
 use Rattle.leaves.proofs.Units.{U, U-pos, U-is, Val, sign, mag, val-mag, mag-val, rounded-val, pow-under-Top, lt-val}
 use Rattle.leaves.proofs.Arithmetic.{div-rounded}
 use Rattle.leaves.proofs.Range.{Range}
 use Rattle.leaves.proofs.Operations.{Moved, moved-weaken, moved-add}
-use Rattle.leaves.proofs.Signs.{sign-mul, sign-div, sign-add, sign-count, sign-not-below}
+use Rattle.leaves.proofs.Signs.{sign-div, sign-add, sign-count, sign-not-below}
 use borrow.Author.Tests.{le-ltb}
 use Rattle.leaves.proofs.Zero.{no, not-above}
-use Rattle.law.proofs.Sizes.{plus-val, two-is, two-val}
+use Rattle.matrix.specs.Limits.{maxSide}
+use Rattle.law.proofs.Bits.{sideBits, side-bits}
+use Rattle.law.proofs.Sizes.{over-inf, plus-val, one-val, two-is, two-val}
 use Rattle.law.proofs.Sample.{count-moved}
 use Rattle.law.proofs.Weighted.{plus-least}
 
@@ -35,14 +35,9 @@ ratio-unit x y r sx px ty sy = go (x ⊕ y) refl
     over-nan (inf s) f = unfold isFinite in absurd f
     over-nan (fin s k e) f = unfold div in refl
 
-    over-inf : (x : Float) (s : Bool) → T (isFinite x) → lt one (x ⊘ inf s) ≡ false
-    over-inf nan s f = unfold isFinite in absurd f
-    over-inf (inf r) s f = unfold isFinite in absurd f
-    over-inf (fin r k e) s f = let q : fin r k e ⊘ inf s ≡ fin (unlike r s) zero (pos 0) = unfold div in refl in ap (lt one) q ∙ zero-case (unlike r s)
-
     go : (z : Float) → x ⊕ y ≡ z → lt one (x ⊘ (x ⊕ y)) ≡ false
     go nan e = let q : lt one nan ≡ false = unfold lt in refl in ap (λ (z : Float). lt one (x ⊘ z)) e ∙ ap (lt one) (over-nan x (r .finite)) ∙ q
-    go (inf s) e = ap (λ (z : Float). lt one (x ⊘ z)) e ∙ over-inf x s (r .finite)
+    go (inf s) e = let q = over-inf x s (r .finite) in ap (λ (z : Float). lt one (x ⊘ z)) e ∙ ap (lt one) (q .1) ∙ zero-case (q .0)
     go (fin s k d) e =
         let F : T (isFinite (x ⊕ y)) = subst (λ (z : Float). T (isFinite z)) (sym e) (unfold isFinite in tt) in
         let q = plus-least x y (r .fit) ty sx sy F .0 in
@@ -52,7 +47,7 @@ ratio-unit x y r sx px ty sy = go (x ⊕ y) refl
         let n = mag x * U in
         let most : near n (mag (x ⊕ y)) ≤ 2 ^ 1074 = near-most n (mag (x ⊕ y)) (2 ^ 1074) p (held-pow 1074) (le-trans (mul-le-mul-right U q) (le-of-eq (mul-comm (mag (x ⊕ y)) U ∙ ap (λ (u : ℕ). u * mag (x ⊕ y)) U-is))) in
         let z : Val (x ⊘ (x ⊕ y)) false (near n (mag (x ⊕ y))) = subst (λ (z : Float). Val z false (near n (mag (x ⊕ y)))) (sym (div-rounded x (x ⊕ y) false false (mag x) (mag (x ⊕ y)) v w p)) (rounded-val false n (mag (x ⊕ y)) p (lt-of-le-of-lt most (pow-under-Top 1074 (lit≤ tt)))) in
-        lt-val one (x ⊘ (x ⊕ y)) false false (2 ^ 1074) (near n (mag (x ⊕ y))) (unfold U in (refl, refl)) z ∙ le-ltb (2 ^ 1074) (near n (mag (x ⊕ y))) most
+        lt-val one (x ⊘ (x ⊕ y)) false false (2 ^ 1074) (near n (mag (x ⊕ y))) one-val z ∙ le-ltb (2 ^ 1074) (near n (mag (x ⊕ y))) most
 
 pub max0-plus : (z : Float) → sign (max0 z) ≡ false
 unfolding max0
@@ -69,27 +64,11 @@ max0-plus z = go (lt zero⁺ z) refl
     go true e = plus-of z e
     go false e = unfold sign in refl
 
--- ---- a sign that a power of two keeps
-times-plus : (n : ℕ) (y x : Float) → sign y ≡ false → sign x ≡ false → sign (times n y x) ≡ false
-unfolding times loop
-times-plus zero y x p q = q
-times-plus (suc n) y x p q = sign-mul (times n y x) y (times-plus n y x p q ∙ sym p)
-
-pow2-plus : (j : ℤ) → sign (pow2 j) ≡ false
-unfolding sign
-pow2-plus j = refl
-
-pub sign-scaled : (x : Float) (j : ℤ) → sign x ≡ false → sign (pow2Scaled x j) ≡ false
-unfolding pow2Scaled
-sign-scaled x (pos zero) p = sign-mul x (pow2 (pos 0)) (p ∙ sym (pow2-plus (pos 0)))
-sign-scaled x (pos (suc k)) p = let e = pos (suc (k % 1023)) in sign-mul (times (k / 1023) (pow2 (pos 1023)) x) (pow2 e) (times-plus (k / 1023) (pow2 (pos 1023)) x (pow2-plus (pos 1023)) p ∙ sym (pow2-plus e))
-sign-scaled x (negsuc k) p = let e = negsuc (k % 1022) in sign-mul (times (k / 1022) (pow2 (negsuc 1021)) x) (pow2 e) (times-plus (k / 1022) (pow2 (negsuc 1021)) x (pow2-plus (negsuc 1021)) p ∙ sym (pow2-plus e))
-
 -- ---- n + 2 over n + 2 + d
 abbrev pub intensityOf : ℕ → Float → Float
 intensityOf n z = (count n ⊕ two) ⊘ (count n ⊕ two ⊕ z)
 
-pub share-unit : (n : ℕ) (z : Float) → n ≤ 32 → T (fits binary64 z) → sign z ≡ false → (lt (intensityOf n z) zero⁺ ≡ false) × (lt one (intensityOf n z) ≡ false)
+pub share-unit : (n : ℕ) (z : Float) → n ≤ maxSide → T (fits binary64 z) → sign z ≡ false → (lt (intensityOf n z) zero⁺ ≡ false) × (lt one (intensityOf n z) ≡ false)
 share-unit n z few t p = (sign-not-below (intensityOf n z) (sign-div X (X ⊕ z) (X-plus ∙ sym (sign-add X z X-plus p))), ratio-unit X z (X-moved .range) X-plus X-above t p)
   where
     X : Float
@@ -101,7 +80,7 @@ share-unit n z few t p = (sign-not-below (intensityOf n z) (sign-div X (X ⊕ z)
     X-moved : Moved 0 1074 1074 1080 (count n ⊕ two) (count n ⊕ two)
     X-moved =
         let t : Moved 0 1074 1074 1079 two two = subst (λ (z : Float). Moved 0 1074 1074 1079 z z) two-is (moved-weaken 1074 1074 1079 (lit≤ tt) (lit≤ tt) (lit≤ tt) (count-moved 1 2 (lit≤ tt) (lit≤ tt))) in
-        moved-add (count-moved 5 n (lit≤ tt) few) t (lit≤ tt)
+        moved-add (count-moved sideBits n (lit≤ tt) (side-bits few)) t (lit≤ tt)
 
     X-above : 0 < mag (count n ⊕ two)
     X-above = lt-of-lt-of-le (subst (λ (a : ℕ). 0 < a) (sym (val-mag two false (2 * U) two-val .1)) (mul-pos (lit< {m = 0} {n = 2} tt) U-pos))

@@ -1,7 +1,7 @@
 -- An estimate b shrunk and regularized, and its copy b', each entry 2 ^ k times as large. A granted intensity or regularization is 0 or not so small that a product leaves the range in which
 -- it is exact. An intensity that is not a number makes every entry NaN, in both runs. Assumes nothing.
 use mathlib.Core.Path.{_≡_, refl, sym, ap, ap₂, _∙_}
-use Prim.Native.Nat.{ℕ, _^_, _≤_, _<_}
+use Prim.Native.Nat.{ℕ, _+_, _^_, _≤_, _<_}
 use native.Mathlib.Nat.{le-trans, zero-add, add-zero}
 use native.Mathlib.Omega.{arith}
 use mathlib.Core.Bool.{Bool, true, false, not, cond, _&&_, _||_}
@@ -14,6 +14,7 @@ use Rattle.leaves.proofs.Units.{U, mag}
 use Rattle.leaves.proofs.Range.{Range, sized, range-sized, count-pos}
 use Rattle.leaves.proofs.Operations.{Moved, still, moved-weaken, moved-zero, moved-add, moved-sub, moved-mul, moved-mul-normal, moved-over}
 use Rattle.matrix.specs.Matrix.{Matrix, identity}
+use Rattle.matrix.specs.Limits.{maxSide}
 use Rattle.estimators.specs.LedoitWolf.{averageVariance, constantCorrelation}
 use Rattle.estimators.specs.Adjusted.{pull, mixed, regularized, isAdjusted}
 use Rattle.estimators.specs.Refusals.{when}
@@ -24,6 +25,8 @@ use Rattle.estimators.specs.declared.Regularization.{Regularization}
 use Rattle.estimators.specs.declared.Regularization.the-variants.{Unregularized, Ridge}
 use Rattle.estimators.specs.declared.Field.the-variants.{RegularizationField}
 use Rattle.estimators.specs.declared.Refusal.the-variants.{BadSetting}
+use Rattle.law.specs.Law.{maxPower}
+use Rattle.law.proofs.Bits.{sideBits, side-bits}
 use Rattle.law.proofs.Sample.{count-moved}
 use Rattle.law.proofs.Matrices.{trace-moved}
 
@@ -53,7 +56,7 @@ Shrunken k x x' = Moved k 5 5 1645 x x'
 abbrev pub Adjusted : ℕ → Float → Float → Type 0
 Adjusted k x x' = Moved k 5 5 1646 x x'
 
-module _ (k : ℕ) (small : k ≤ 160) (δ : Float) (d : Intensity δ) (n : ℕ) (b b' : Matrix) (i j : ℕ) where
+module _ (k : ℕ) (small : k ≤ maxPower + maxPower) (δ : Float) (d : Intensity δ) (n : ℕ) (b b' : Matrix) (i j : ℕ) where
   -- with (1 - δ) b
   mixed-moved : {g l h g' l' h' : ℕ} (F : Target) → Moved k g l h (pull F δ n b i j) (pull F δ n b' i j) → Moved k g' l' h' (b i j) (b' i j) → 5 ≤ g → 5 ≤ l → h ≤ 1644 → 97 ≤ g' → 97 ≤ l' → h' ≤ 1643
       → Shrunken k (mixed F δ n b i j) (mixed F δ n b' i j)
@@ -67,10 +70,10 @@ module _ (k : ℕ) (small : k ≤ 160) (δ : Float) (d : Intensity δ) (n : ℕ)
   unfolding pull
   correlation-mixed t u = mixed-moved ConstantCorrelation (rw (zero-add k) at (moved-mul-normal (still 1034 1074 d) t 154 1644 (lit≤ tt) (lit≤ tt) (omega arith))) u (lit≤ tt) (lit≤ tt) (lit≤ tt) (lit≤ tt) (lit≤ tt) (lit≤ tt)
 
-  pub variance-mixed : 0 < n → n ≤ 32 → ((i j : ℕ) → i < n → j < n → Estimated k (b i j) (b' i j)) → i < n → j < n → Shrunken k (mixed ConstantVariance δ n b i j) (mixed ConstantVariance δ n b' i j)
+  pub variance-mixed : 0 < n → n ≤ maxSide → ((i j : ℕ) → i < n → j < n → Estimated k (b i j) (b' i j)) → i < n → j < n → Shrunken k (mixed ConstantVariance δ n b i j) (mixed ConstantVariance δ n b' i j)
   unfolding pull averageVariance
   variance-mixed assets few each a c =
-      let m = moved-over (trace-moved n b b' few (omega arith) (λ i l. each i i l l)) (count-moved 5 n (lit≤ tt) few) (count-pos n assets (le-trans few (lit≤ tt))) 97 1527 (lit≤ tt) (lit≤ tt) (omega arith) in
+      let m = moved-over (trace-moved n b b' few (omega arith) (λ i l. each i i l l)) (count-moved sideBits n (lit≤ tt) (side-bits few)) (count-pos n assets (le-trans few (lit≤ tt))) 97 1527 (lit≤ tt) (lit≤ tt) (omega arith) in
       let p = rw (zero-add k) at (moved-mul-normal (still 1034 1074 d) m 57 1527 (lit≤ tt) (lit≤ tt) (omega arith)) in
       mixed-moved ConstantVariance (rw (add-zero k) at (moved-mul p (identity-moved i j) 5 109 1527 (lit≤ tt) (lit≤ tt) (lit≤ tt) (omega arith))) (each i j a c) (lit≤ tt) (lit≤ tt) (lit≤ tt) (lit≤ tt) (lit≤ tt) (lit≤ tt)
 
@@ -90,7 +93,7 @@ pub unregularized : (k : ℕ) → Regularized k Unregularized Unregularized
 unfolding badRegularization isAdjusted regularized
 unregularized k = record { bad = refl; adjusts = λ δ. refl; entries = λ a a' i j u. moved-weaken 5 5 1646 (lit≤ tt) (lit≤ tt) (lit≤ tt) u; nans = λ a i j e. (e, e) }
 
-pub ridge : (k : ℕ) → k ≤ 160 → (ε ε' : Float) → Moved k 942 994 1154 ε ε' → Regularized k (Ridge ε) (Ridge ε')
+pub ridge : (k : ℕ) → k ≤ maxPower + maxPower → (ε ε' : Float) → Moved k 942 994 1154 ε ε' → Regularized k (Ridge ε) (Ridge ε')
 unfolding badRegularization isAdjusted regularized add
 ridge k small ε ε' e =
     let s = pos k in

@@ -10,11 +10,12 @@ use lib.Dec.{T, ltb, eqb, lit≤}
 use lib.IntN.{ℤ, pos, negℤ}
 use lib.ListN.{length, getD}
 use lib.Pow.{pow-add}
-use lib.Ieee.{Float, nan, inf, fin, binary64, fits, eq, lt, le, below, level, up, down, ofInt, round}
+use lib.Ieee.{Float, nan, inf, fin, binary64, fits, eq, lt, le, below, level, up, down, unlike, div, ofInt, round}
+use lib.Ieee.Bits.{is-true}
 use lib.Ieee.Fits.{and-l, and-r}
 use mir.Facts.{or-yes}
 use borrow.Author.Tests.{not-true, not-false, lt-ltb, le-ltb, ltb-true, ltb-false, eqb-true, eqb-false}
-use Rattle.leaves.specs.Numbers.{zero⁺, two, count, isFinite, abs}
+use Rattle.leaves.specs.Numbers.{_⊘_, zero⁺, one, two, count, isFinite, abs}
 use Rattle.leaves.specs.Scaling.{pow2}
 use Rattle.leaves.proofs.Whole.{over, under, over-neg, under-neg, up-is, down-is}
 use Rattle.leaves.proofs.Units.{U, Val, abs-val, sign, mag, zero-val, mag-val, lt-val, eq-zero}
@@ -30,6 +31,13 @@ all-at P (x ∷ xs) (suc i) h l = all-at P xs i (h .1) (le-of-suc-le-suc l)
 pub all-map : (P Q : Float → Type 0) → ((x : Float) → P x → Q x) → (l : List Float) → All P l → All Q l
 all-map P Q f [] h = tt
 all-map P Q f (x ∷ xs) h = (f x (h .0), all-map P Q f xs (h .1))
+
+-- ---- a finite number over an infinity is a zero
+pub over-inf : (x : Float) (s : Bool) → T (isFinite x) → (r : Bool) × (x ⊘ inf s ≡ fin r zero (pos 0))
+unfolding div isFinite
+over-inf nan s f = absurd f
+over-inf (inf r) s f = absurd f
+over-inf (fin r m e) s f = (unlike r s, refl)
 
 -- ---- comparisons
 -- what is not NaN
@@ -94,6 +102,9 @@ le-is (fin s m e) (fin t n d) p q = below-level s t (m * up e * down d) (n * up 
 pub le-or : (x y : Float) → T (number x) → T (number y) → le x y ≡ false → lt y x ≡ true
 le-or x y p q h = not-false (lt y x) (sym (le-is x y p q) ∙ h)
 
+pub not-lt : (x y : Float) → T (number x) → T (number y) → lt y x ≡ false → le x y ≡ true
+not-lt x y p q h = le-is x y p q ∙ ap not h
+
 -- x ≤ y excludes y < x, of any values
 pub le-not-lt : (x y : Float) → le x y ≡ true → lt y x ≡ false
 le-not-lt x y h = let q = numbers x y h in not-true (lt y x) (sym (le-is x y (q .0) (q .1)) ∙ h)
@@ -115,6 +126,10 @@ pub pow2-val : (j : ℤ) (n : ℕ) → n + under j ≡ 1074 + over j → Val (po
 unfolding U
 pow2-val j n e = (refl, rw (up-is j, down-is j) (ap (λ (z : ℕ). z * 2 ^ 1074) (one-mul (2 ^ over j)) ∙ sym (pow-add 2 (over j) 1074) ∙ ap (λ (z : ℕ). 2 ^ z) (omega arith) ∙ pow-add 2 n (under j)))
 
+pub one-val : Val one false (2 ^ 1074)
+unfolding U
+one-val = (refl, refl)
+
 pub two-is : count 2 ≡ two
 unfolding ofInt round
 two-is = refl
@@ -127,10 +142,6 @@ pub two-val : Val two false (2 * U)
 two-val = subst (λ (z : Float). Val z false (2 * U)) two-is (count-val 2 (lit≤ tt))
 
 -- ---- 0, or of size 2 ^ -l to 2 ^ l
-pub is-true : (b : Bool) → T b → b ≡ true
-is-true true t = refl
-is-true false t = absurd t
-
 pub sized-fits : (l : ℕ) (x : Float) → Sized l x → T (fits binary64 x)
 sized-fits l x t = and-l (fits binary64 x) (eq x zero⁺ || (le (pow2 (negℤ (pos l))) (abs x) && le (abs x) (pow2 (pos l)))) t
 

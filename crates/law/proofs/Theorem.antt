@@ -16,7 +16,7 @@ use Rattle.estimators.specs.declared.Shrinkage.{Shrinkage}
 use Rattle.estimators.specs.declared.Regularization.{Regularization}
 use Rattle.estimators.specs.declared.Settings.{Settings}
 use Rattle.law.specs.Law as Law
-use Rattle.law.specs.Law.{All, Question, Input, answer, Sized, QuestionInRange, RegularizationInRange, Copy, CopiedEstimate, sample, given, weighted, semi, semiBelow, CopiedRegularization, unregularized, CopiedQuestion, covariance, ledoitWolf, james, bayes, Scaled, Alike, PowerOfTwoLaw}
+use Rattle.law.specs.Law.{All, Question, Input, answer, Sized, QuestionInRange, RegularizationInRange, Copy, CopiedEstimate, sample, given, weighted, semi, semiBelow, CopiedRegularization, unregularized, CopiedQuestion, covariance, ledoitWolf, james, bayes, Scaled, Alike, PowerOfTwoLaw, maxPower, returnRange, covarianceRange}
 use Rattle.law.proofs.Numbers.{copy-shift, copies-shift, each-back, times-up, times-down, twice, alike-down}
 use Rattle.law.proofs.Sizes.{all-map, sized-fits}
 use Rattle.law.proofs.Opening.{sized-moved}
@@ -33,9 +33,9 @@ use Rattle.law.proofs.Adjusted.{covariance-law}
 fits-all : (l : ℕ) (xs : List Float) → All (Sized l) xs → All (λ x. T (fits binary64 x)) xs
 fits-all l xs h = all-map (Sized l) (λ x. T (fits binary64 x)) (sized-fits l) xs h
 
-regularized : (k : ℕ) → k ≤ 80 → (H H' : Regularization) → CopiedRegularization (pos k) H H' → RegularizationInRange H → RegularizationInRange H' → Regularized (k + k) H H'
+regularized : (k : ℕ) → k ≤ maxPower → (H H' : Regularization) → CopiedRegularization (pos k) H H' → RegularizationInRange H → RegularizationInRange H' → Regularized (k + k) H H'
 regularized k small H H' unregularized q q' = Shrinking.unregularized (k + k)
-regularized k small H H' (Law.ridge {x = x} {y = y} c) q q' = Shrinking.ridge (k + k) (omega arith) x y (sized-moved (k + k) 80 (lit≤ tt) x y q (copy-shift (k + k) x y (sized-fits 80 x q) (sized-fits 80 y q') c))
+regularized k small H H' (Law.ridge {x = x} {y = y} c) q q' = Shrinking.ridge (k + k) (omega arith) x y (sized-moved (k + k) covarianceRange (lit≤ tt) x y q (copy-shift (k + k) x y (sized-fits covarianceRange x q) (sized-fits covarianceRange y q') c))
 
 given-too : (k : ℤ) (E E' : Estimate) → CopiedEstimate k E E' → isGiven E ≡ true → isGiven E' ≡ true
 given-too k E E' sample e = e
@@ -45,7 +45,7 @@ given-too k E E' semi e = e
 given-too k E E' (semiBelow c) e = e
 
 -- one pair of inputs, by the first's parts and the second's returns and slice
-module _ (k : ℕ) (small : k ≤ 80) (n P : ℕ) (r : List Float) (sizes : All (Sized 40) r) (sizes' : All (Sized 40) (map (shift (pos k)) r)) (slice slice' : List Float) (long : length slice' ≡ length slice) where
+module _ (k : ℕ) (small : k ≤ maxPower) (n P : ℕ) (r : List Float) (sizes : All (Sized returnRange) r) (sizes' : All (Sized returnRange) (map (shift (pos k)) r)) (slice slice' : List Float) (long : length slice' ≡ length slice) where
   abbrev first : Question → Input
   first q = record { returns = r; assets = n; periods = P; question = q; slice = slice }
 
@@ -58,7 +58,7 @@ module _ (k : ℕ) (small : k ≤ 80) (n P : ℕ) (r : List Float) (sizes : All 
       subst (λ (t : Settings). Alike (pos k) (answer (first (Law.adjusted s g side))) (answer (second (Law.adjusted t g' side)))) (sym same)
       (covariance-law k small r sizes n P side (s .limit) (s .shrinkage) (s .regularization) (s' .regularization) (regularized k small (s .regularization) (s' .regularization) (c .regularization) (a .regularization) (b .regularization))
       (s .estimate) (s' .estimate) g g' (c .estimate) (a .estimate) (b .estimate)
-      (λ e. (a .given e, copies-shift (k + k) g g' (fits-all 80 g (a .given e)) (fits-all 80 g' (b .given (given-too (pos k) (s .estimate) (s' .estimate) (c .estimate) e))) (c .given e))) (a .shrinkage) slice slice' long)
+      (λ e. (a .given e, copies-shift (k + k) g g' (fits-all covarianceRange g (a .given e)) (fits-all covarianceRange g' (b .given (given-too (pos k) (s .estimate) (s' .estimate) (c .estimate) e))) (c .given e))) (a .shrinkage) slice slice' long)
   by-question q q' (ledoitWolf {F = F}) a b = intensity-law k small r sizes n P F slice slice'
   by-question q q' (Law.CopiedQuestion.weighted {halfLife = h}) a b = weighted-law k small r sizes n P h (a .0) slice slice' long
   by-question q q' (james {limit = limit}) a b = james-stein-law k small r sizes n P limit slice slice' long a
@@ -67,20 +67,20 @@ module _ (k : ℕ) (small : k ≤ 80) (n P : ℕ) (r : List Float) (sizes : All 
 up : (k : ℕ) (a b : Input) → Scaled (pos k) a b → Alike (pos k) (answer a) (answer b)
 up k a b s =
     let r = a .returns in
-    let e : b .returns ≡ map (shift (pos k)) r = copies-shift k r (b .returns) (fits-all 40 r (s .first .returns)) (fits-all 40 (b .returns) (s .second .returns)) (s .returns) in
-    let i : b ≡ second k (s .power) (a .assets) (a .periods) r (s .first .returns) (subst (All (Sized 40)) e (s .second .returns)) (a .slice) (b .slice) (sym (s .sliceLength)) (b .question) = renamed in
+    let e : b .returns ≡ map (shift (pos k)) r = copies-shift k r (b .returns) (fits-all returnRange r (s .first .returns)) (fits-all returnRange (b .returns) (s .second .returns)) (s .returns) in
+    let i : b ≡ second k (s .power) (a .assets) (a .periods) r (s .first .returns) (subst (All (Sized returnRange)) e (s .second .returns)) (a .slice) (b .slice) (sym (s .sliceLength)) (b .question) = renamed in
     subst (λ (z : Input). Alike (pos k) (answer a) (answer z)) (sym i)
-    (by-question k (s .power) (a .assets) (a .periods) r (s .first .returns) (subst (All (Sized 40)) e (s .second .returns)) (a .slice) (b .slice) (sym (s .sliceLength)) (a .question) (b .question) (s .question) (s .first .question) (subst (λ (z : Input). QuestionInRange z (z .question)) i (s .second .question)))
+    (by-question k (s .power) (a .assets) (a .periods) r (s .first .returns) (subst (All (Sized returnRange)) e (s .second .returns)) (a .slice) (b .slice) (sym (s .sliceLength)) (a .question) (b .question) (s .question) (s .first .question) (subst (λ (z : Input). QuestionInRange z (z .question)) i (s .second .question)))
   where
     named : ℕ → ℕ → List Float → Input
     named n P l = record { returns = l; assets = n; periods = P; question = b .question; slice = b .slice }
 
     renamed : named (b .assets) (b .periods) (b .returns) ≡ named (a .assets) (a .periods) (map (shift (pos k)) (a .returns))
     renamed = ap (λ (n : ℕ). named n (b .periods) (b .returns)) (sym (s .assets)) ∙ ap (λ (P : ℕ). named (a .assets) P (b .returns)) (sym (s .periods))
-        ∙ ap (named (a .assets) (a .periods)) (copies-shift k (a .returns) (b .returns) (fits-all 40 (a .returns) (s .first .returns)) (fits-all 40 (b .returns) (s .second .returns)) (s .returns))
+        ∙ ap (named (a .assets) (a .periods)) (copies-shift k (a .returns) (b .returns) (fits-all returnRange (a .returns) (s .first .returns)) (fits-all returnRange (b .returns) (s .second .returns)) (s .returns))
 
 -- ---- a power below 0: the two inputs change places
-module _ (j k : ℤ) (same-size : natAbs j ≤ 80 → natAbs k ≤ 80) (once : (x y : Float) → Copy j x y → Copy k y x) (both : (x y : Float) → Copy (j +ℤ j) x y → Copy (k +ℤ k) y x) where
+module _ (j k : ℤ) (same-size : natAbs j ≤ maxPower → natAbs k ≤ maxPower) (once : (x y : Float) → Copy j x y → Copy k y x) (both : (x y : Float) → Copy (j +ℤ j) x y → Copy (k +ℤ k) y x) where
   estimate-back : (E E' : Estimate) → CopiedEstimate j E E' → CopiedEstimate k E' E
   estimate-back E E' sample = sample
   estimate-back E E' given = given

@@ -11,6 +11,7 @@ use lib.Dec.{T, eqb, lit≤, lit<}
 use lib.IntN.{ℤ, pos, negℤ}
 use lib.ListN.{length}
 use lib.Ieee.{Float, nan, binary64, fits, le}
+use lib.Ieee.Bits.{is-true}
 use lib.Ieee.Fits.{add-fits, and-l, and-r}
 use borrow.Author.Tests.{ne-eqb}
 use Rattle.leaves.specs.Numbers.{_⊕_, _⊖_, _⊗_, _⊘_, count, isFinite}
@@ -31,16 +32,16 @@ use Rattle.leaves.proofs.Totals.{moved-sum}
 use Rattle.matrix.specs.Matrix.{Matrix, at}
 use Rattle.estimators.specs.Sample.{gram, largest}
 use Rattle.estimators.specs.Weighted.{logDecay, accepted, weights, weightedMean, denominator, weightedCovariance}
-use Rattle.estimators.specs.Order.{badHalfLife, weightedOrder}
+use Rattle.estimators.specs.Order.{badHalfLife, weightedOrder, maxPeriods}
 use Rattle.estimators.specs.Calls.{answered, exponentiallyWeightedMean}
 use Rattle.estimators.specs.declared.Field.the-variants.{HalfLifeField}
 use Rattle.estimators.specs.declared.Refusal.the-variants.{BadSetting}
 use Rattle.estimators.specs.declared.Answer.the-variants.{Mean}
-use Rattle.law.specs.Law.{All, Sized, LongHalfLife, Alike, ask}
+use Rattle.law.specs.Law.{All, Sized, LongHalfLife, Alike, ask, maxPower, returnRange, maxHalfLives}
 use Rattle.law.specs.Law as Law
+use Rattle.law.proofs.Bits.{periodBits, period-bits}
 use Rattle.law.proofs.Numbers.{means-alike}
 use Rattle.law.proofs.Chain.{Chain, ends, chain-must, chained, parts, settled}
-use Rattle.law.proofs.Sizes.{is-true}
 use Rattle.law.proofs.Sample.{Returns, largest-moved, largest-above}
 use Rattle.law.proofs.Scaled.{Scaling, scaling, scaled-back, scaled-range}
 use Rattle.law.proofs.Opening.{returns, opening-chain}
@@ -80,12 +81,12 @@ pub record Weighing (T : ℕ) (w : List Float) : Type 0 where
   pub plus : (t : ℕ) → t < T → sign (nth w t) ≡ false
   pub above : (t : ℕ) → t < T → 0 < mag (nth w t)
 
-module _ {k n T : ℕ} {x y : Matrix} (small : k ≤ 80) (r : Returns k n T 982 1034 1114 x y) (w : List Float) (W : Weighing T w) where
+module _ {k n T : ℕ} {x y : Matrix} (small : k ≤ maxPower) (r : Returns k n T 982 1034 1114 x y) (w : List Float) (W : Weighing T w) where
   weight-moved : (t : ℕ) → t < T → Moved 0 950 950 1075 (nth w t) (nth w t)
   weight-moved t l = moved-weaken 950 950 1075 (lit≤ tt) (lit≤ tt) (lit≤ tt) (still 1002 1075 (W .range t l))
 
   all-moved : Moved 0 950 950 1087 (sumTo T (nth w)) (sumTo T (nth w))
-  all-moved = moved-sum 0 950 1075 T 12 (r .most) (lit≤ tt) (lit≤ tt) 950 (nth w) (nth w) weight-moved
+  all-moved = moved-sum 0 950 1075 T periodBits (period-bits (r .most)) (lit≤ tt) (lit≤ tt) 950 (nth w) (nth w) weight-moved
 
   all-above : 0 < mag (sumTo T (nth w))
   all-above =
@@ -109,7 +110,7 @@ module _ {k n T : ℕ} {x y : Matrix} (small : k ≤ 80) (r : Returns k n T 982 
         let terms : (t : ℕ) → t < T → Moved j 818 818 1076 (nth w t ⊗ pow2Scaled (x t i) (negℤ e)) (nth w t ⊗ pow2Scaled (x t i) (negℤ e)) =
         λ t l. rw (zero-add j) at (moved-mul (weight-moved t l) (common .moved (r .entries t i l a) (largest-above r t i l a)) 818 818 1076 (lit≤ tt) (lit≤ tt) (lit≤ tt) (omega (arith, common .few))) in
         moved-weaken 753 753 1212 (lit≤ tt) (lit≤ tt) (lit≤ tt)
-        (moved-over (moved-sum j 818 1076 T 12 (r .most) (lit≤ tt) (omega (arith, common .few)) 818 (λ t. nth w t ⊗ pow2Scaled (x t i) (negℤ e)) (λ t. nth w t ⊗ pow2Scaled (x t i) (negℤ e)) terms)
+        (moved-over (moved-sum j 818 1076 T periodBits (period-bits (r .most)) (lit≤ tt) (omega (arith, common .few)) 818 (λ t. nth w t ⊗ pow2Scaled (x t i) (negℤ e)) (λ t. nth w t ⊗ pow2Scaled (x t i) (negℤ e)) terms)
         all-moved all-above 753 1212 (lit≤ tt) (lit≤ tt) (omega (arith, common .few)))
 
     pub mean-moved : Moved k 712 712 1252 (weightedMean T w x i) (weightedMean T w y i)
@@ -122,7 +123,7 @@ module _ {k n T : ℕ} {x y : Matrix} (small : k ≤ 80) (r : Returns k n T 982 
     }
 
 -- ---- an accepted half-life
-weighing : (P : ℕ) → 2 ≤ P → P ≤ 4096 → (h : Float) → T (fits binary64 h) → accepted (logDecay h) ≡ true → le (count (P - 1)) (count 64 ⊗ h) ≡ true → Weighing P (weights P (logDecay h))
+weighing : (P : ℕ) → 2 ≤ P → P ≤ maxPeriods → (h : Float) → T (fits binary64 h) → accepted (logDecay h) ≡ true → le (count (P - 1)) (count maxHalfLives ⊗ h) ≡ true → Weighing P (weights P (logDecay h))
 unfolding weights
 weighing P two most h fit ok long =
     let at-t : (t : ℕ) → t < P → exp (count (P - 1 - t) ⊗ logDecay h) ≡ nth (tab P (λ t. exp (count (P - 1 - t) ⊗ logDecay h))) t = λ t l. sym (nth-tab P (λ t. exp (count (P - 1 - t) ⊗ logDecay h)) t nan l) in
@@ -133,18 +134,18 @@ weighing P two most h fit ok long =
       above = λ t l. subst (λ (z : Float). 0 < mag z) (at-t t l) (q (P - 1 - t) (omega arith) .2);
     }
 
-long-enough : (P : ℕ) → 2 ≤ P → (h : Float) → LongHalfLife P h → T (fits binary64 h) × (le (count (P - 1)) (count 64 ⊗ h) ≡ true)
+long-enough : (P : ℕ) → 2 ≤ P → (h : Float) → LongHalfLife P h → T (fits binary64 h) × (le (count (P - 1)) (count maxHalfLives ⊗ h) ≡ true)
 long-enough P two h t =
     let a : Bool = fits binary64 h in
-    let b : Bool = eqb P 0 || le (count (P - 1)) (count 64 ⊗ h) in
-    (and-l a b t, go P two (le (count (P - 1)) (count 64 ⊗ h)) (and-r a b t))
+    let b : Bool = eqb P 0 || le (count (P - 1)) (count maxHalfLives ⊗ h) in
+    (and-l a b t, go P two (le (count (P - 1)) (count maxHalfLives ⊗ h)) (and-r a b t))
   where
     go : (P : ℕ) → 2 ≤ P → (b : Bool) → T (eqb P 0 || b) → b ≡ true
     go zero two b t = absurd (omega arith)
     go (suc P) two b t = is-true b (rw (ne-eqb (suc P) 0 (λ e. absurd (omega arith))) at t)
 
 -- ---- the weighted covariance
-pub covariance-moved : {k n T : ℕ} {x y : Matrix} → k ≤ 80 → Returns k n T 982 1034 1114 x y → (h : Float) → LongHalfLife T h → accepted (logDecay h) ≡ true
+pub covariance-moved : {k n T : ℕ} {x y : Matrix} → k ≤ maxPower → Returns k n T 982 1034 1114 x y → (h : Float) → LongHalfLife T h → accepted (logDecay h) ≡ true
     → (i j : ℕ) → i < n → j < n → Moved (k + k) 154 154 1522 (weightedCovariance T (logDecay h) x i j) (weightedCovariance T (logDecay h) y i j)
 unfolding weightedCovariance gram
 covariance-moved {k} {n} {T} {x} {y} small r h long ok i j a b =
@@ -157,12 +158,12 @@ covariance-moved {k} {n} {T} {x} {y} small r h long ok i j a b =
     λ t l. moved-sqrt {k = 0} (moved-over (still 1002 1075 (W .range t l)) (still 997 1094 (D .0)) (D .2) 930 1152 (lit≤ tt) (lit≤ tt) (lit≤ tt)) (sign-not-below (nth w t ⊘ d) (sign-div (nth w t) d (W .plus t l ∙ sym (D .1)))) 976 1113 (lit≤ tt) (lit≤ tt) in
     let term : (c : ℕ) → c < n → (t : ℕ) → t < T → Moved k 614 614 1292 ((x t c ⊖ weightedMean T w x c) ⊗ sqrt (nth w t ⊘ d)) ((y t c ⊖ weightedMean T w y c) ⊗ sqrt (nth w t ⊘ d)) =
     λ c l t m. rw (add-zero k) at (moved-mul (moved-sub (moved-weaken 712 712 1252 (lit≤ tt) (lit≤ tt) (lit≤ tt) (r .entries t c m l)) (mean-moved small r w W c l) (omega arith)) (root t m) 614 614 1292 (lit≤ tt) (lit≤ tt) (lit≤ tt) (omega arith)) in
-    moved-sum (k + k) 154 1510 T 12 (r .most) (lit≤ tt) (omega arith) 154 (λ t. (x t i ⊖ weightedMean T w x i) ⊗ sqrt (nth w t ⊘ d) ⊗ ((x t j ⊖ weightedMean T w x j) ⊗ sqrt (nth w t ⊘ d)))
+    moved-sum (k + k) 154 1510 T periodBits (period-bits (r .most)) (lit≤ tt) (omega arith) 154 (λ t. (x t i ⊖ weightedMean T w x i) ⊗ sqrt (nth w t ⊘ d) ⊗ ((x t j ⊖ weightedMean T w x j) ⊗ sqrt (nth w t ⊘ d)))
     (λ t. (y t i ⊖ weightedMean T w y i) ⊗ sqrt (nth w t ⊘ d) ⊗ ((y t j ⊖ weightedMean T w y j) ⊗ sqrt (nth w t ⊘ d)))
     (λ t l. moved-mul (term i a t l) (term j b t l) 154 154 1510 (lit≤ tt) (lit≤ tt) (lit≤ tt) (omega arith))
 
 -- ---- the call
-module _ (k : ℕ) (small : k ≤ 80) (r : List Float) (sizes : All (Sized 40) r) (n T : ℕ) (h : Float) (long : LongHalfLife T h) where
+module _ (k : ℕ) (small : k ≤ maxPower) (r : List Float) (sizes : All (Sized returnRange) r) (n T : ℕ) (h : Float) (long : LongHalfLife T h) where
   abbrev mean : List Float → ℕ → Float
   mean r = weightedMean T (weights T (logDecay h)) (at r n)
 

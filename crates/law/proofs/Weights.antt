@@ -4,37 +4,36 @@
 use mathlib.Core.Path.{_≡_, refl, sym, ap, _∙_, subst, subst₂}
 use mathlib.Core.Logic.{inl, inr}
 use Prim.Native.Nat.{ℕ, zero, suc, _+_, _-_, _*_, _^_, _≤_, _<_, zero-le}
-use native.Mathlib.Nat.{le-refl, le-trans, le-of-eq, lt-of-lt-of-le, lt-of-le-of-lt, lt-irrefl, mul-le-mul, mul-le-mul-left, mul-le-mul-right, mul-pos, mul-assoc, mul-comm, mul-right-comm, mul-one, one-mul, le-of-mul-le-mul-right, zero-lt-suc}
+use native.Mathlib.Nat.{le-refl, le-trans, le-of-eq, lt-of-lt-of-le, lt-of-le-of-lt, lt-irrefl, mul-le-mul, mul-le-mul-left, mul-le-mul-right, mul-pos, mul-assoc, mul-comm, mul-right-comm, mul-one, one-mul, le-of-mul-le-mul-right}
 use native.Mathlib.Omega.{arith}
-use mathlib.Core.Bool.{Bool, true, false, _&&_}
+use mathlib.Core.Bool.{Bool, true, false, _&&_, and-eq-true-iff}
 use lib.Dec.{T, lit≤, lit<}
 use lib.IntN.{pos}
 use lib.Pow.{pow-pos}
-use lib.Ieee.{Float, nan, inf, fin, binary64, fits, down, unlike, neg, lt, le, eq, div, ofBits}
-use lib.Ieee.Fits.{up-pos, div-fits}
+use lib.Ieee.{Float, nan, inf, fin, binary64, fits, unlike, neg, lt, le, eq, div, ofBits}
+use lib.Ieee.Fits.{div-fits}
 use lib.Ieee.Positive.{first-pos}
 use borrow.Author.Tests.{ltb-true}
 use Rattle.leaves.specs.Numbers.{_⊗_, _⊘_, zero⁺, two, count, isFinite}
 use Rattle.leaves.specs.Exp.{ln2, exp, expM1}
 use Rattle.leaves.proofs.Rounding.{near, Held, near-most, near-least, near-error, near-held, held-pow, held-up}
-use Rattle.leaves.proofs.Units.{U, U-pos, Top, pow-under-Top, Val, sign, mag, zero-mag, val-mag, val-finite, mag-val, mag-held, zero-val, neg-val, finite-mag, rounded-val, rounded-cases, lt-val}
+use Rattle.leaves.proofs.Units.{U, U-pos, Top, pow-under-Top, Val, sign, mag, zero-mag, val-mag, val-pos, val-finite, mag-val, mag-held, zero-val, neg-val, finite-mag, rounded-val, rounded-cases, lt-val}
 use Rattle.leaves.proofs.Arithmetic.{mul-rounded, div-rounded}
 use Rattle.leaves.proofs.Range.{Range, count-val, range-size}
 use Rattle.leaves.proofs.Whole.{le-or-lt}
 use Rattle.leaves.proofs.Signs.{sign-round}
 use Rattle.law.proofs.Sizes.{le-yes, two-val}
-use Rattle.law.proofs.Exponential.{W, U-W, W-pos, W-large, N, N-is, ln2-val, near-above, mul-most, Exp, exp-within, ExpM1, expM1-within}
+use Rattle.law.proofs.Exponential.{W, U-W, W-pos, W-large, N, N-is, ln2-val, near-above, mul-most, Exp, exp-within, product-least, product-most, ExpM1, expM1-within}
 use Rattle.estimators.specs.Weighted.{logDecay, accepted, denominator}
+use Rattle.estimators.specs.Order.{maxPeriods}
+use Rattle.law.specs.Law.{maxHalfLives}
+use Rattle.law.proofs.Bits.{periodBits, period-bits}
 
 -- ---- the logarithm of the decay: finite and below zero, so the half-life is finite and above
 module _ (h : Float) (fit : T (fits binary64 h)) (ok : accepted (logDecay h) ≡ true) where
   log-val : Val (logDecay h) true (mag (logDecay h)) × (0 < mag (logDecay h))
   log-val = go (logDecay h) (unfold logDecay in div-fits binary64 (neg ln2) h) (unfold accepted in ok)
     where
-      both : (a b : Bool) → (a && b) ≡ true → (a ≡ true) × (b ≡ true)
-      both true b e = (refl, e)
-      both false b e = (e, absurd (subst T (sym e) tt))
-
       signed : (l : Float) (s : Bool) (a : ℕ) → Val l s a → lt l zero⁺ ≡ true → (s ≡ true) × (0 < a)
       signed l false a v e = absurd (lt-irrefl 0 (lt-of-le-of-lt zero-le (ltb-true a 0 (sym (lt-val l zero⁺ false false a 0 v (zero-val false (pos 0))) ∙ e))))
       signed l true a v e = (refl, let p = ltb-true 0 (a + 0) (sym (lt-val l zero⁺ true false a 0 v (zero-val false (pos 0))) ∙ e) in omega arith)
@@ -45,7 +44,7 @@ module _ (h : Float) (fit : T (fits binary64 h)) (ok : accepted (logDecay h) ≡
       go (inf false) t e = unfold le lt eq in absurd (subst T (sym e) tt)
       go (fin s m x) t e =
           let v = mag-val (fin s m x) t (unfold isFinite in tt) in
-          let q = signed (fin s m x) (sign (fin s m x)) (mag (fin s m x)) v (both (le (fin true 177 (pos 2)) (fin s m x)) (lt (fin s m x) zero⁺) e .1) in
+          let q = signed (fin s m x) (sign (fin s m x)) (mag (fin s m x)) v (and-eq-true-iff (le (fin true 177 (pos 2)) (fin s m x)) (lt (fin s m x) zero⁺) .0 e .1) in
           (subst (λ (b : Bool). Val (fin s m x) b (mag (fin s m x))) (q .0) v, q .1)
 
   abbrev a : ℕ
@@ -71,7 +70,7 @@ module _ (h : Float) (fit : T (fits binary64 h)) (ok : accepted (logDecay h) ≡
           H = mag (fin s (suc m) e)
 
           above : 0 < H
-          above = first-pos H (down e) (subst (λ (n : ℕ). 0 < n) (mag-val (fin s (suc m) e) t (unfold isFinite in tt) .1) (mul-pos (mul-pos (zero-lt-suc m) (up-pos e)) U-pos))
+          above = val-pos s m e (sign (fin s (suc m) e)) H (mag-val (fin s (suc m) e) t (unfold isFinite in tt))
 
           signed : (b : Bool) → Val (fin s (suc m) e) (sign (fin s (suc m) e)) H → Held H → (H : ℕ) × Val (fin s (suc m) e) false H × (0 < H) × Held H × (mag (logDecay (fin s (suc m) e)) ≡ near (N * U) H)
           signed b w k =
@@ -87,17 +86,17 @@ module _ (h : Float) (fit : T (fits binary64 h)) (ok : accepted (logDecay h) ≡
               not-true false i = refl
 
 -- ---- T - 1 ≤ 64 h
-times-log : (j a H n u w : ℕ) → j * u ≤ 64 * H → 100000 * (a * H) ≤ 100001 * (n * u) + 50000 * H → 0 < H → 100000 * n ≤ 69315 * u → u ≡ 32 * w → j ≤ 4096 → 10000000 ≤ w → j * a ≤ 1536 * w
+times-log : (j a H n u w : ℕ) → j * u ≤ maxHalfLives * H → 100000 * (a * H) ≤ 100001 * (n * u) + 50000 * H → 0 < H → 100000 * n ≤ 69315 * u → u ≡ 32 * w → j ≤ maxPeriods → 10000000 ≤ w → j * a ≤ 1536 * w
 times-log j a H n u w l e p q i few large =
     let f : j * (100000 * (a * H)) ≤ j * (100001 * (n * u) + 50000 * H) = mul-le-mul-left j e in
-    let g : n * (j * u) ≤ n * (64 * H) = mul-le-mul-left n l in
+    let g : n * (j * u) ≤ n * (maxHalfLives * H) = mul-le-mul-left n l in
     let c : 100000 * (j * a) * H ≤ (6400064 * n + 50000 * j) * H = omega arith in
     finish (j * a) n u w j (le-of-mul-le-mul-right {k = H} c p) q i few large
   where
-    finish : (x n u w j : ℕ) → 100000 * x ≤ 6400064 * n + 50000 * j → 100000 * n ≤ 69315 * u → u ≡ 32 * w → j ≤ 4096 → 10000000 ≤ w → x ≤ 1536 * w
+    finish : (x n u w j : ℕ) → 100000 * x ≤ 6400064 * n + 50000 * j → 100000 * n ≤ 69315 * u → u ≡ 32 * w → j ≤ maxPeriods → 10000000 ≤ w → x ≤ 1536 * w
     finish x n u w j c q i few large = omega arith
 
-module _ (P : ℕ) (periods : 2 ≤ P) (most : P ≤ 4096) (h : Float) (fit : T (fits binary64 h)) (ok : accepted (logDecay h) ≡ true) (long : le (count (P - 1)) (count 64 ⊗ h) ≡ true) where
+module _ (P : ℕ) (periods : 2 ≤ P) (most : P ≤ maxPeriods) (h : Float) (fit : T (fits binary64 h)) (ok : accepted (logDecay h) ≡ true) (long : le (count (P - 1)) (count maxHalfLives ⊗ h) ≡ true) where
   abbrev l : Float
   l = logDecay h
 
@@ -105,16 +104,16 @@ module _ (P : ℕ) (periods : 2 ≤ P) (most : P ≤ 4096) (h : Float) (fit : T 
   m = mag (logDecay h)
 
   -- in units
-  granted : (P - 1) * U ≤ 64 * half-life h fit ok .0
+  granted : (P - 1) * U ≤ maxHalfLives * half-life h fit ok .0
   granted =
       let q = half-life h fit ok in
       let H = q .0 in
-      let e : near (64 * U * H) U ≡ 64 * H = ap (λ (n : ℕ). near n U) (mul-right-comm 64 U H) ∙ near-held (64 * H) U U-pos (subst Held (mul-comm H 64) (held-up H 6 (q .3))) in
-      let x = mul-rounded (count 64) h false false (64 * U) H (count-val 64 (lit≤ tt)) (q .1) in
-      elim (rounded-cases false (64 * U * H) U U-pos) [
+      let e : near (maxHalfLives * U * H) U ≡ maxHalfLives * H = ap (λ (n : ℕ). near n U) (mul-right-comm maxHalfLives U H) ∙ near-held (maxHalfLives * H) U U-pos (subst Held (mul-comm H maxHalfLives) (held-up H 6 (q .3))) in
+      let x = mul-rounded (count maxHalfLives) h false false (maxHalfLives * U) H (count-val maxHalfLives (lit≤ tt)) (q .1) in
+      elim (rounded-cases false (maxHalfLives * U * H) U U-pos) [
         | inl under ↦
-            let v : Val (count 64 ⊗ h) false (64 * H) = subst₂ (λ (z : Float) (n : ℕ). Val z false n) (sym x) e (rounded-val false (64 * U * H) U U-pos under) in
-            le-yes (count (P - 1)) (count 64 ⊗ h) (count-val (P - 1) (le-trans (omega arith) (le-trans most (lit≤ tt)))) v long
+            let v : Val (count maxHalfLives ⊗ h) false (maxHalfLives * H) = subst₂ (λ (z : Float) (n : ℕ). Val z false n) (sym x) e (rounded-val false (maxHalfLives * U * H) U U-pos under) in
+            le-yes (count (P - 1)) (count maxHalfLives ⊗ h) (count-val (P - 1) (le-trans (omega arith) (le-trans most (lit≤ tt)))) v long
         | inr over ↦ let top : 4096 * U ≤ Top = unfold U Top in lit≤ tt in le-trans (mul-le-mul-right U (le-trans (omega arith) most)) (le-trans top (le-trans (over .0) (le-of-eq e)))
       ]
 
@@ -148,17 +147,17 @@ module _ (P : ℕ) (periods : 2 ≤ P) (most : P ≤ 4096) (h : Float) (fit : T 
   log-exp : Exp (logDecay h) (mag (logDecay h))
   log-exp = exp-within (logDecay h) m (log-val h fit ok .0) (le-trans log-bound (omega arith))
 
-  -- (T - 1) l, from l to 4096 l
+  -- (T - 1) l, from l to 2 ^ periodBits l
   span : ℕ
   span = near ((P - 1) * U * mag (logDecay h)) U
 
-  span-within : (mag (logDecay h) ≤ span) × (span ≤ 4096 * mag (logDecay h))
+  span-within : (mag (logDecay h) ≤ span) × (span ≤ 2 ^ periodBits * mag (logDecay h))
   unfolding span
   span-within =
       let n = (P - 1) * U * m in
       let k = log-held h fit ok in (
         near-least n U m U-pos k (le-trans (le-of-eq (mul-comm m U)) (mul-le-mul-right m (le-trans (le-of-eq (sym (one-mul U))) (mul-le-mul-right U (omega arith))))),
-        near-most n U (4096 * m) U-pos (subst Held (mul-comm m 4096) (held-up m 12 k)) (le-trans (mul-le-mul-right m (mul-le-mul-right U (le-trans (omega arith) most))) (le-of-eq (mul-right-comm 4096 U m))),
+        near-most n U (2 ^ periodBits * m) U-pos (subst Held (mul-comm m (2 ^ periodBits)) (held-up m periodBits k)) (le-trans (mul-le-mul-right m (mul-le-mul-right U (period-bits (le-trans (omega arith) most)))) (le-of-eq (mul-right-comm (2 ^ periodBits) U m))),
       )
 
   above : ExpM1 (count (P - 1) ⊗ logDecay h) span
@@ -228,23 +227,13 @@ module _ (P : ℕ) (periods : 2 ≤ P) (most : P ≤ 4096) (h : Float) (fit : T 
         | inr q ↦ (let z = above .far q in (omega (arith, z, s), omega (arith, z, s)))
       ] in
       let p = log-val h fit ok .1 in
-      let q₁ = least (mag (exp (logDecay h))) (above .E) (near (2 * mag (exp (logDecay h)) * above .E) U) W U U-W W-pos (le-trans (x .least) (le-of-eq (sym k))) (omega (arith, e)) (n .halved) in
-      let q₂ = most' (mag (exp (logDecay h))) (above .E) (near (2 * mag (exp (logDecay h)) * above .E) U) W U U-W W-pos exp-most (n .doubled) in
+      let turn : above .E * (2 * mag (exp (logDecay h))) ≡ 2 * mag (exp (logDecay h)) * above .E = mul-comm (above .E) (2 * mag (exp (logDecay h))) in
+      let least : 20 * W ≤ 2 * mag (exp (logDecay h)) = (let l = le-trans (x .least) (le-of-eq (sym k)) in omega arith) in
+      let most : 2 * mag (exp (logDecay h)) ≤ 108 * W = (let l = exp-most in omega arith) in
+      let g = near (2 * mag (exp (logDecay h)) * above .E) U in
+      let q₁ = product-least (above .E) (2 * mag (exp (logDecay h))) g W U U-W W-pos (omega (arith, e)) least (le-trans (le-of-eq (ap (λ (z : ℕ). 2 * z) turn)) (n .halved)) in
+      let q₂ = product-most (above .E) (2 * mag (exp (logDecay h))) 108 g W U U-W W-pos most (le-trans (n .doubled) (le-of-eq (ap (λ (z : ℕ). 2 * z) (sym turn)))) in
       (omega (arith, b, p), omega (arith, b, e, q₁), omega (arith, b, e, q₂))
-    where
-      least : (b E q w u : ℕ) → u ≡ 32 * w → 0 < w → 10 * w ≤ b → 0 < E → 2 * (2 * b * E) ≤ 4 * (q * u) + u → E ≤ 16 * q
-      least b E q w u i p lo s f =
-          let g : 10 * w * E ≤ b * E = mul-le-mul-right E lo in
-          let c : 40 * E * w ≤ (128 * q + 32) * w = subst (λ (u : ℕ). 2 * (2 * b * E) ≤ 4 * (q * u) + u → 40 * E * w ≤ (128 * q + 32) * w) (sym i) (λ f. omega arith) f in
-          let d : 40 * E ≤ 128 * q + 32 = le-of-mul-le-mul-right {k = w} c p in
-          omega arith
-
-      most' : (b E q w u : ℕ) → u ≡ 32 * w → 0 < w → b ≤ 54 * w → q * u ≤ 2 * (2 * b * E) → q ≤ 7 * E
-      most' b E q w u i p hi f =
-          let g : b * E ≤ 54 * w * E = mul-le-mul-right E hi in
-          let c : 32 * q * w ≤ 216 * E * w = subst (λ (u : ℕ). q * u ≤ 2 * (2 * b * E) → 32 * q * w ≤ 216 * E * w) (sym i) (λ f. omega arith) f in
-          let d : 32 * q ≤ 216 * E = le-of-mul-le-mul-right {k = w} c p in
-          omega arith
 
   apart : 8 * W < mag (logDecay h) → (5 * W ≤ E₂) × (E₂ ≤ 32 * W) × (2 ^ 997 ≤ dividend)
   unfolding E₂ dividend E₁ factor

@@ -19,7 +19,7 @@ use Rattle.leaves.proofs.Rounding.{near, near-most, held-small}
 use Rattle.leaves.proofs.Units.{U, Top, sign, mag, Val, mag-val, zero-val, val-unique, rounded-val, pow-under-Top}
 use Rattle.leaves.proofs.Arithmetic.{div-rounded}
 use Rattle.leaves.proofs.Signs.{sign-add, sign-mul, sign-sqrt}
-use Rattle.law.proofs.Sizes.{number, le-or}
+use Rattle.law.proofs.Sizes.{number, not-lt}
 
 -- ---- zeros of either sign
 abbrev pub Zero : Float → Type 0
@@ -210,8 +210,4 @@ never-below true (fin false m e) q = refl
 never-below false (fin false m e) q = le-ltb _ _ (le-trans (le-of-eq (ap (λ (z : ℕ). z * down e) (zero-mul 1) ∙ zero-mul (down e))) zero-le)
 
 pub zero-below : (s : Bool) (y : Float) → Plus y → le (fin s zero (pos 0)) y ≡ true
-zero-below s y p = go (le (fin s zero (pos 0)) y) refl
-  where
-    go : (b : Bool) → le (fin s zero (pos 0)) y ≡ b → b ≡ true
-    go true e = refl
-    go false e = no (le-or (fin s zero (pos 0)) y tt (p .0) e) (never-below s y (p .1))
+zero-below s y p = not-lt (fin s zero (pos 0)) y tt (p .0) (never-below s y (p .1))

@@ -110,6 +110,28 @@ answer a = let w = ask (a .returns) (a .assets) (a .periods) (a .question) (a .s
 
 -- ---- the ranges of one input
 
+-- a return or threshold is 0 or of size 2^-40 to 2^40; a given entry or regularization, 2^-80 to 2^80
+abbrev pub returnRange : ℕ
+returnRange = 40
+
+abbrev pub covarianceRange : ℕ
+covarianceRange = 80
+
+-- an intensity of a covariance is 0 or at least 2^-40; a number of a mean answer is 0 or of size at least 2^-400
+abbrev pub intensityRange : ℕ
+intensityRange = 40
+
+abbrev pub meanRange : ℕ
+meanRange = 400
+
+-- the first weight's age is at most 64 half-lives
+abbrev pub maxHalfLives : ℕ
+maxHalfLives = 64
+
+-- k is from -80 to 80
+abbrev pub maxPower : ℕ
+maxPower = 80
+
 -- a number of f64 that is 0, or of size 2^-l to 2^l
 abbrev pub Sized : ℕ → Float → Type 0
 Sized l x = T (fits binary64 x && (eq x zero⁺ || (le (pow2 (negℤ (pos l))) (abs x) && le (abs x) (pow2 (pos l)))))
@@ -120,30 +142,30 @@ AtLeast l x = T (not (lt zero⁺ (abs x) && lt (abs x) (pow2 (negℤ (pos l)))))
 
 -- "For a weighted estimate or mean, T − 1 ≤ 64 × half-life"
 abbrev pub LongHalfLife : ℕ → Float → Type 0
-LongHalfLife periods h = T (fits binary64 h && (eqb periods 0 || le (count (periods - 1)) (count 64 ⊗ h)))
+LongHalfLife periods h = T (fits binary64 h && (eqb periods 0 || le (count (periods - 1)) (count maxHalfLives ⊗ h)))
 
 abbrev pub EstimateInRange : ℕ → Estimate → Type 0
 EstimateInRange periods Sample = Unit {0}
 EstimateInRange periods Given = Unit {0}
 EstimateInRange periods (Weighted halfLife) = LongHalfLife periods halfLife
 EstimateInRange periods Semi = Unit {0}
-EstimateInRange periods (SemiBelow threshold) = Sized 40 threshold
+EstimateInRange periods (SemiBelow threshold) = Sized returnRange threshold
 
 abbrev pub RegularizationInRange : Regularization → Type 0
 RegularizationInRange Unregularized = Unit {0}
-RegularizationInRange (Ridge x) = Sized 80 x
+RegularizationInRange (Ridge x) = Sized covarianceRange x
 
 -- a fixed intensity, or Ledoit-Wolf's where one is found: for the sample, if the call for it does not refuse
 abbrev pub ShrinkageInRange : Shrinkage → Bool → List Float → ℕ → ℕ → Type 0
 ShrinkageInRange Unshrunk sample r n T = Unit {0}
-ShrinkageInRange (Fixed δ) sample r n T = lib.Dec.T (fits binary64 δ) × AtLeast 40 δ
-ShrinkageInRange (LedoitWolf F) sample r n T = All (AtLeast 40) (cond sample (answerParts n (ledoitWolfIntensity r n T F) [] .intensity) [])
+ShrinkageInRange (Fixed δ) sample r n T = lib.Dec.T (fits binary64 δ) × AtLeast intensityRange δ
+ShrinkageInRange (LedoitWolf F) sample r n T = All (AtLeast intensityRange) (cond sample (answerParts n (ledoitWolfIntensity r n T F) [] .intensity) [])
 
 pub record SettingsInRange (a : Input) (s : Settings) (g : List Float) : Type 0 where
   -- "In both inputs every return and threshold is 0 or of size 2^−40 to 2^40"; the half-life
   pub estimate : EstimateInRange (a .periods) (s .estimate)
   -- "Given entries and regularization are 0 or of size 2^−80 to 2^80"
-  pub given : isGiven (s .estimate) ≡ true → All (Sized 80) g
+  pub given : isGiven (s .estimate) ≡ true → All (Sized covarianceRange) g
   pub regularization : RegularizationInRange (s .regularization)
   -- "A fixed or Ledoit-Wolf intensity is 0 or at least 2^−40"
   pub shrinkage : ShrinkageInRange (s .shrinkage) (isSample (s .estimate)) (a .returns) (a .assets) (a .periods)
@@ -152,12 +174,12 @@ pub record SettingsInRange (a : Input) (s : Settings) (g : List Float) : Type 0 
 abbrev pub QuestionInRange : Input → Question → Type 0
 QuestionInRange a (adjusted s given side) = SettingsInRange a s given
 QuestionInRange a (intensity F) = Unit {0}
-QuestionInRange a (weightedMean halfLife) = LongHalfLife (a .periods) halfLife × All (AtLeast 400) (answer a .meansAndTarget)
-QuestionInRange a (jamesStein limit) = All (AtLeast 400) (answer a .meansAndTarget ++ answer a .intensity)
-QuestionInRange a (bayesStein limit) = All (AtLeast 400) (answer a .meansAndTarget ++ answer a .intensity)
+QuestionInRange a (weightedMean halfLife) = LongHalfLife (a .periods) halfLife × All (AtLeast meanRange) (answer a .meansAndTarget)
+QuestionInRange a (jamesStein limit) = All (AtLeast meanRange) (answer a .meansAndTarget ++ answer a .intensity)
+QuestionInRange a (bayesStein limit) = All (AtLeast meanRange) (answer a .meansAndTarget ++ answer a .intensity)
 
 pub record InRange (a : Input) : Type 0 where
-  pub returns : All (Sized 40) (a .returns)
+  pub returns : All (Sized returnRange) (a .returns)
   pub question : QuestionInRange a (a .question)
 
 -- ---- the law
@@ -198,7 +220,7 @@ pub data CopiedQuestion (k : ℤ) : Question → Question → Type 0 where
 -- the second input is the first one, scaled
 pub record Scaled (k : ℤ) (a b : Input) : Type 0 where
   -- "k is a whole number from −80 to 80"
-  pub power : natAbs k ≤ 80
+  pub power : natAbs k ≤ maxPower
   -- "the second has the first's return matrix with each entry times 2^k"
   pub returns : Each (Copy k) (a .returns) (b .returns)
   pub question : CopiedQuestion k (a .question) (b .question)

@@ -1,13 +1,30 @@
--- The inputs of the pairs: two assets in three periods, returns 0 or of one size, and the same times 2^80.
+-- The inputs of the pairs: two assets in three periods, returns 0 or of one size, at the lower end of the range and at the upper, which is 2^maxPower times it.
 use mathlib.Core.Path.{refl}
 use mathlib.Core.Bool.{true, false}
 use mathlib.Core.List.{List, [], _∷_}
 use lib.Dec.{lit≤}
-use lib.IntN.{ℤ, pos}
+use lib.IntN.{ℤ, pos, negℤ}
 use lib.Ieee.{Float, fin}
 use Rattle.leaves.specs.Numbers.{zero⁺, one}
-use Rattle.law.specs.Law.{Question, Input, Each, Copy, CopiedQuestion, InRange, Scaled}
+use Rattle.examples.proofs.Evaluated.{evaluated}
+use Rattle.law.specs.Law.{Question, Input, All, Each, Copy, Sized, CopiedQuestion, QuestionInRange, Scaled, returnRange, covarianceRange, maxPower}
 
+-- ---- the ends of the ranges
+-- of returns and thresholds
+abbrev pub lowReturn : ℤ
+lowReturn = negℤ (pos returnRange)
+
+abbrev pub highReturn : ℤ
+highReturn = pos returnRange
+
+-- of given entries and regularization
+abbrev pub lowCovariance : ℤ
+lowCovariance = negℤ (pos covarianceRange)
+
+abbrev pub highCovariance : ℤ
+highCovariance = pos covarianceRange
+
+-- ---- the inputs
 -- rows (0, -2^e), (2^e, 0), (0, 0)
 abbrev returns : ℤ → List Float
 returns e = zero⁺ ∷ fin true 1 e ∷ fin false 1 e ∷ zero⁺ ∷ zero⁺ ∷ zero⁺ ∷ []
@@ -17,8 +34,36 @@ abbrev pub matrix : ℤ → List Float
 matrix e = fin false 1 e ∷ fin false 1 e ∷ fin false 1 e ∷ fin false 1 e ∷ []
 
 -- the answer slice is longer than any answer
-abbrev pub input : ℤ → Question → Input
+abbrev input : ℤ → Question → Input
 input e q = record { returns = returns e; assets = 2; periods = 3; question = q; slice = zero⁺ ∷ zero⁺ ∷ zero⁺ ∷ zero⁺ ∷ one ∷ [] }
 
-pub scaled-up : {e e' : ℤ} {q q' : Question} → InRange (input e q) → InRange (input e' q') → Each (Copy (pos 80)) (returns e) (returns e') → CopiedQuestion (pos 80) q q' → Scaled (pos 80) (input e q) (input e' q')
-scaled-up a b r q = record { power = lit≤ tt; returns = r; question = q; assets = refl; periods = refl; sliceLength = refl; first = a; second = b }
+abbrev pub low : Question → Input
+low q = input lowReturn q
+
+abbrev pub high : Question → Input
+high q = input highReturn q
+
+-- ---- a pair, by what is left to say of its questions
+low-returns : All (Sized returnRange) (returns lowReturn)
+unfolding evaluated
+low-returns = (tt, (tt, (tt, (tt, (tt, (tt, tt))))))
+
+high-returns : All (Sized returnRange) (returns highReturn)
+unfolding evaluated
+high-returns = (tt, (tt, (tt, (tt, (tt, (tt, tt))))))
+
+copies : Each (Copy (pos maxPower)) (returns lowReturn) (returns highReturn)
+unfolding evaluated
+copies = ((refl, refl), ((refl, refl), ((refl, refl), ((refl, refl), ((refl, refl), ((refl, refl), tt))))))
+
+pub scaled-up : {q q' : Question} → QuestionInRange (low q) q → QuestionInRange (high q') q' → CopiedQuestion (pos maxPower) q q' → Scaled (pos maxPower) (low q) (high q')
+scaled-up a b c = record {
+  power = lit≤ tt;
+  returns = copies;
+  question = c;
+  assets = refl;
+  periods = refl;
+  sliceLength = refl;
+  first = record { returns = low-returns; question = a };
+  second = record { returns = high-returns; question = b };
+}

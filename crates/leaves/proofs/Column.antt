@@ -8,14 +8,10 @@ use borrow.Author.Tests.{ltb-true}
 use Rattle.leaves.specs.Loops.{columnLength}
 use Rattle.leaves.proofs.Loops.{cell}
 
-pub column-cell : (size n j t : ℕ) → t < columnLength size n j → t * n + j < size
+pub column-in : (size n j t rows : ℕ) → rows ≡ columnLength size n j → t < rows → t * n + j < size
 unfolding columnLength
-column-cell size n j t h = go (ltb j n) refl h
+column-in size n j t rows e h = go (ltb j n) refl (subst (λ (r : ℕ). t < r) e h)
   where
     go : (b : Bool) → ltb j n ≡ b → t < cond b (size / n) 0 → t * n + j < size
     go false e l = absurd (not-suc-le-zero l)
     go true e l = lt-of-lt-of-le (cell t (size / n) j n l (ltb-true j n e)) (div-mul-le-self size n)
-
--- the same, of a count of rows that is known to be the column's
-pub column-in : (size n j t rows : ℕ) → rows ≡ columnLength size n j → t < rows → t * n + j < size
-column-in size n j t rows e h = column-cell size n j t (subst (λ (r : ℕ). t < r) e h)

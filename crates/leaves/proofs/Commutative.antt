@@ -1,7 +1,7 @@
 -- A product and a sum of two floats are the same whichever comes first. Assumes nothing.
 use mathlib.Core.Path.{_≡_, refl, ap, ap₂, _∙_}
 use mathlib.Core.Logic.{_⊎_, inl, inr}
-use mathlib.Core.Bool.{Bool, true, false, cond, _&&_}
+use mathlib.Core.Bool.{Bool, true, false, cond, _&&_, and-true, and-false}
 use Prim.Native.Nat.{ℕ, _-_, _*_, _≤_, _<_}
 use native.Mathlib.Nat.{add-comm, mul-comm, le-of-lt}
 use native.Mathlib.Omega.{arith}
@@ -33,14 +33,6 @@ product-comm (fin s m e) (fin t n d) =
     ∙ ap₂ (λ (a c : ℕ). round binary64 (unlike t s) a c) (mul-comm (m * up e) (n * up d)) (mul-comm (down e) (down d))
 
 -- ---- sums
-and-true : (b : Bool) → b && true ≡ b
-and-true true = refl
-and-true false = refl
-
-and-false : (b : Bool) → b && false ≡ false
-and-false true = refl
-and-false false = refl
-
 -- of unlike signs
 difference-comm : (s t : Bool) (x y d e : ℕ) → d ≡ e
     → cond (ltb x y) (round binary64 t (y - x) d) (round binary64 (s && ltb y x) (x - y) d) ≡ cond (ltb y x) (round binary64 s (x - y) e) (round binary64 (t && ltb x y) (y - x) e)

@@ -13,18 +13,18 @@ use Rattle.leaves.specs.Root.{sticky}
 use Rattle.leaves.proofs.Roots.{Whole, square-double, square-plus, odd-square, next-square, root-over, root-below}
 
 -- there is one root only
-pub root-unique : (n r q : ℕ) → Whole n r → Whole n q → r ≡ q
+root-unique : (n r q : ℕ) → Whole n r → Whole n q → r ≡ q
 root-unique n r q a b = le-antisymm (root-over n q r b (a .low)) (root-over n r q a (b .low))
 
 -- ---- the loop: i digits of the root are found, and the 2 i digits passed of n's 54 and the zeros after them are root * root + rem
 pub record Digits (n rest root rem i : ℕ) : Type 0 where
   pub few : i ≤ 55
-  pub top : rest < 18014398509481984
+  pub top : rest < 2 ^ 54
   pub rem-le : rem ≤ root * 2
   pub root-lt : root < 2 ^ i
-  pub passed : n * 4 ^ i ≡ (root * root + rem) * 18014398509481984 + rest
+  pub passed : n * 4 ^ i ≡ (root * root + rem) * 2 ^ 54 + rest
 
-pub bounded : (n rest root rem i : ℕ) → Digits n rest root rem i → root < 36028797018963968
+pub bounded : (n rest root rem i : ℕ) → Digits n rest root rem i → root < 2 ^ 55
 bounded n rest root rem i d = lt-of-lt-of-le (d .root-lt) (pow-mono (d .few))
 
 module _ (n rest root rem i : ℕ) (d : Digits n rest root rem i) (go : i < 55) where
@@ -34,7 +34,7 @@ module _ (n rest root rem i : ℕ) (d : Digits n rest root rem i) (go : i < 55) 
   two : 2 ^ (i + 1) ≡ 2 ^ i * 2
   two = rw (add-one, pow-suc)
 
-  pub turn-0 : rem * 4 + rest / 4503599627370496 < root * 4 + 1 → Digits n (rest % 4503599627370496 * 4) (root * 2) (rem * 4 + rest / 4503599627370496) (i + 1)
+  pub turn-0 : rem * 4 + rest / 2 ^ 52 < root * 4 + 1 → Digits n (rest % 2 ^ 52 * 4) (root * 2) (rem * 4 + rest / 2 ^ 52) (i + 1)
   turn-0 h = record {
     few = omega arith;
     top = omega arith;
@@ -43,7 +43,7 @@ module _ (n rest root rem i : ℕ) (d : Digits n rest root rem i) (go : i < 55) 
     passed = rw (four, square-double root) (omega (arith, d .passed));
   }
 
-  pub turn-1 : root * 4 + 1 ≤ rem * 4 + rest / 4503599627370496 → Digits n (rest % 4503599627370496 * 4) (root * 2 + 1) (rem * 4 + rest / 4503599627370496 - (root * 4 + 1)) (i + 1)
+  pub turn-1 : root * 4 + 1 ≤ rem * 4 + rest / 2 ^ 52 → Digits n (rest % 2 ^ 52 * 4) (root * 2 + 1) (rem * 4 + rest / 2 ^ 52 - (root * 4 + 1)) (i + 1)
   turn-1 h = record {
     few = omega arith;
     top = omega arith;
@@ -52,48 +52,48 @@ module _ (n rest root rem i : ℕ) (d : Digits n rest root rem i) (go : i < 55) 
     passed = rw (four, odd-square root) (omega (arith, d .passed));
   }
 
-pub all-passed : (n rest root rem i : ℕ) → Digits n rest root rem i → 55 ≤ i → rem + root * root ≡ n * 72057594037927936
+pub all-passed : (n rest root rem i : ℕ) → Digits n rest root rem i → 55 ≤ i → rem + root * root ≡ n * 2 ^ 56
 all-passed n rest root rem i d done =
     let e : i ≡ 55 = omega (arith, d .few) in
-    let p : n * 4 ^ 55 ≡ (root * root + rem) * 18014398509481984 + rest = rw e at (d .passed) in
+    let p : n * 4 ^ 55 ≡ (root * root + rem) * 2 ^ 54 + rest = rw e at (d .passed) in
     omega (arith, p, d .top)
 
 -- ---- a root is known by what is left over: n * 2 ^ 56 less its square, at most twice the root
-module _ (n root rest : ℕ) (small : n < 18014398509481984) (all : rest + root * root ≡ n * 72057594037927936) (few : rest ≤ root * 2) where
-  found : Roots.root 55 (n * 72057594037927936) ≡ root
-  found = root-unique (n * 72057594037927936) (Roots.root 55 (n * 72057594037927936)) root
-      (root-below 55 (n * 72057594037927936) (omega arith))
+module _ (n root rest : ℕ) (small : n < 2 ^ 54) (all : rest + root * root ≡ n * 2 ^ 56) (few : rest ≤ root * 2) where
+  found : Roots.root 55 (n * 2 ^ 56) ≡ root
+  found = root-unique (n * 2 ^ 56) (Roots.root 55 (n * 2 ^ 56)) root
+      (root-below 55 (n * 2 ^ 56) (omega arith))
       (record { low = omega (arith, all); high = rw (next-square root) (omega (arith, all, few)) })
 
-  pub exact : rest ≡ 0 → root * 2 ≡ sticky (n * 72057594037927936)
+  pub exact : rest ≡ 0 → root * 2 ≡ sticky (n * 2 ^ 56)
   unfolding sticky
-  exact h = rw (found, eq-eqb (root * root) (n * 72057594037927936) (omega (arith, all)))
+  exact h = rw (found, eq-eqb (root * root) (n * 2 ^ 56) (omega (arith, all)))
 
-  pub inexact : (rest ≡ 0 → ⊥) → root * 2 + 1 ≡ sticky (n * 72057594037927936)
+  pub inexact : (rest ≡ 0 → ⊥) → root * 2 + 1 ≡ sticky (n * 2 ^ 56)
   unfolding sticky
-  inexact h = rw (found, ne-eqb (root * root) (n * 72057594037927936) (λ (e : root * root ≡ n * 72057594037927936). h (omega (arith, all))))
+  inexact h = rw (found, ne-eqb (root * root) (n * 2 ^ 56) (λ (e : root * root ≡ n * 2 ^ 56). h (omega (arith, all))))
 
 -- ---- that rest, in two steps of 28 digits each
 -- what the machine's words hold
-pub product-fits : (a b : ℕ) → a < 536870912 → b < 536870912 → a * b < 288230376151711744
+pub product-fits : (a b : ℕ) → a < 2 ^ 29 → b < 2 ^ 29 → a * b < 2 ^ 58
 product-fits a b p q =
-    let l : a ≤ 536870911 = omega arith in
-    let r : b ≤ 536870911 = omega arith in
+    let l : a ≤ 2 ^ 29 - 1 = omega arith in
+    let r : b ≤ 2 ^ 29 - 1 = omega arith in
     lt-of-le-of-lt (mul-le-mul l r) (lit< tt)
 
-pub cross-fits : (a b : ℕ) → a < 536870912 → b < 536870912 → 2 * a * b ≤ 576460752303423488
+pub cross-fits : (a b : ℕ) → a < 2 ^ 29 → b < 2 ^ 29 → 2 * a * b ≤ 2 ^ 59
 cross-fits a b p q = le-trans (le-of-eq (mul-assoc 2 a b)) (omega (arith, product-fits a b p q))
 
-sum-is : (n h l first second rest : ℕ) → first + h * h ≡ n → second + 2 * h * l ≡ first * 268435456 → rest + l * l ≡ second * 268435456
-    → rest + (h * 268435456 + l) * (h * 268435456 + l) ≡ n * 72057594037927936
-sum-is n h l first second rest a b c = rw (square-plus (h * 268435456) l, square-of h, mul-right-comm h 268435456 l) (omega (arith, a, b, c))
+sum-is : (n h l first second rest : ℕ) → first + h * h ≡ n → second + 2 * h * l ≡ first * 2 ^ 28 → rest + l * l ≡ second * 2 ^ 28
+    → rest + (h * 2 ^ 28 + l) * (h * 2 ^ 28 + l) ≡ n * 2 ^ 56
+sum-is n h l first second rest a b c = rw (square-plus (h * 2 ^ 28) l, square-of h, mul-right-comm h (2 ^ 28) l) (omega (arith, a, b, c))
   where
-    square-of : (h : ℕ) → h * 268435456 * (h * 268435456) ≡ h * h * 72057594037927936
-    square-of h = rw (mul-assoc h 268435456 (h * 268435456), mul-left-comm 268435456 h 268435456, ← mul-assoc h h 72057594037927936)
+    square-of : (h : ℕ) → h * 2 ^ 28 * (h * 2 ^ 28) ≡ h * h * 2 ^ 56
+    square-of h = rw (mul-assoc h (2 ^ 28) (h * 2 ^ 28), mul-left-comm (2 ^ 28) h (2 ^ 28), ← mul-assoc h h (2 ^ 56))
 
-pub rest-is : (n h l : ℕ) → h * h ≤ n → 2 * h * l ≤ (n - h * h) * 268435456 → l * l ≤ ((n - h * h) * 268435456 - 2 * h * l) * 268435456
-    → ((n - h * h) * 268435456 - 2 * h * l) * 268435456 - l * l + (h * 268435456 + l) * (h * 268435456 + l) ≡ n * 72057594037927936
+pub rest-is : (n h l : ℕ) → h * h ≤ n → 2 * h * l ≤ (n - h * h) * 2 ^ 28 → l * l ≤ ((n - h * h) * 2 ^ 28 - 2 * h * l) * 2 ^ 28
+    → ((n - h * h) * 2 ^ 28 - 2 * h * l) * 2 ^ 28 - l * l + (h * 2 ^ 28 + l) * (h * 2 ^ 28 + l) ≡ n * 2 ^ 56
 rest-is n h l a b c =
     let first = n - h * h in
-    let second = first * 268435456 - 2 * h * l in
-    sum-is n h l first second (second * 268435456 - l * l) (sub-add-cancel a) (sub-add-cancel b) (sub-add-cancel c)
+    let second = first * 2 ^ 28 - 2 * h * l in
+    sum-is n h l first second (second * 2 ^ 28 - l * l) (sub-add-cancel a) (sub-add-cancel b) (sub-add-cancel c)

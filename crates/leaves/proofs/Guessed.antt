@@ -2,19 +2,16 @@
 -- that part p from its neighbours, in units of 4; so 8 p is twice that root, rounded to 53 digits (`nearest-is`). Assumes nothing.
 use mathlib.Core.Path.{_≡_, refl, sym, ap, _∙_}
 use mathlib.Core.Logic.{⊎-elim}
-use Prim.Native.Nat.{ℕ, _+_, _*_, _-_, _%_, _≤_, _<_}
+use Prim.Native.Nat.{ℕ, _+_, _*_, _-_, _^_, _≤_, _<_}
 use native.Mathlib.Nat.{le-antisymm}
 use native.Mathlib.Omega.{arith}
-use mathlib.Core.Bool.{Bool, true, false, not, cond}
-use lib.Dec.{T, eqb}
+use mathlib.Core.Bool.{Bool, true, false, cond}
+use lib.Dec.{eqb}
 use lib.IntN.{pos}
-use borrow.Author.Tests.{eqb-true, le-ltb}
-use lib.Ieee.{Float, nan, inf, fin, binary64, lt, round, ofInt, units, isNan, nanBits}
-use lib.Ieee.Bits.{nanBits-above}
-use Rattle.leaves.specs.Numbers.{zero⁺}
+use borrow.Author.Tests.{eqb-true}
+use lib.Ieee.{binary64, round, ofInt, units}
 use Rattle.leaves.specs.Root.{root, sticky}
 use Rattle.leaves.proofs.Whole.{le-or-lt}
-use Rattle.leaves.proofs.Zero.{no}
 use Rattle.leaves.proofs.Roots.{Whole, root-below, root-over, root-under, square-plus}
 use Rattle.leaves.proofs.Sqrts.{sticky-in}
 use Rattle.leaves.proofs.SqrtLaws.{eighth, eighth-error, round-56}
@@ -33,15 +30,15 @@ sticky-from n r g rest a b e h true q = (⊎-elim (λ (l : g + 1 ≤ r). omega a
     apart s = let i : g * g ≡ n = ap (λ (x : ℕ). x * x) (sym s) ∙ eqb-true (r * r) n q in omega (arith, e, h, i)
 
 -- 8 p keeps its digits
-pub eights : (p : ℕ) → (4503599627370496 ≤ p) × (p < 9007199254740992) → round binary64 false (8 * p) 1 ≡ units binary64 false p 1077
+pub eights : (p : ℕ) → (2 ^ 52 ≤ p) × (p < 2 ^ 53) → round binary64 false (8 * p) 1 ≡ units binary64 false p 1077
 eights p d =
     let e = eighth-error (8 * p) in
     round-56 (8 * p) (omega (arith, d)) (omega (arith, d)) ∙ ap (λ (q : ℕ). units binary64 false q 1077) (le-antisymm (omega (arith, e)) (omega (arith, e)))
 
-module _ (n p rest : ℕ) (small : n < 18014398509481984) (large : 4503599627370496 ≤ n) (digits : (4503599627370496 ≤ p) × (p < 9007199254740992))
-    (over : rest + (4 * p - 2) * (4 * p - 2) ≡ n * 72057594037927936) (some : 0 < rest) (few : rest < 32 * p) where
+module _ (n p rest : ℕ) (small : n < 2 ^ 54) (large : 2 ^ 52 ≤ n) (digits : (2 ^ 52 ≤ p) × (p < 2 ^ 53))
+    (over : rest + (4 * p - 2) * (4 * p - 2) ≡ n * 2 ^ 56) (some : 0 < rest) (few : rest < 32 * p) where
   abbrev N : ℕ
-  N = n * 72057594037927936
+  N = n * 2 ^ 56
 
   whole : Whole N (root 55 N)
   whole = root-below 55 N (omega arith)
@@ -62,14 +59,3 @@ module _ (n p rest : ℕ) (small : n < 18014398509481984) (large : 4503599627370
   nearest-is =
       let i = sticky-in N (omega (arith, large)) (omega (arith, small)) in
       eights p digits ∙ ap (λ (q : ℕ). units binary64 false q 1077) (sym (eighth-is (sticky N) (near .0) (near .1))) ∙ sym (round-56 (sticky N) (i .0) (i .1))
-
--- ---- a float above 0 is a number
-pub above-number : (x : Float) → lt zero⁺ x ≡ true → T (not (isNan x))
-unfolding lt isNan
-above-number nan h = no h refl
-above-number (inf s) h = tt
-above-number (fin s m e) h = tt
-
--- ---- a pattern whose exponent's field is not the largest is a number's
-pub pattern-number : (n : ℕ) → n < 9218868437227405312 → T (not (nanBits binary64 n))
-pattern-number n h = rw (nanBits-above binary64 n, le-ltb (2047 * 4503599627370496) (n % 9223372036854775808) (omega arith)) tt

@@ -42,12 +42,12 @@ unfolding over under
 is-pos (pos n) h = refl
 is-pos (negsuc n) h = absurd (omega arith)
 
-pub mag-lt : (z : ℤ) (n : ℕ) → over z < n → under z ≤ n → 0 < n → mag z < n
+mag-lt : (z : ℤ) (n : ℕ) → over z < n → under z ≤ n → 0 < n → mag z < n
 unfolding over under
 mag-lt (pos a) n h k p = h
 mag-lt (negsuc a) n h k p = k
 
-pub mag-over : (z : ℤ) (n : ℕ) → mag z < n → (over z < n) × (under z ≤ n)
+mag-over : (z : ℤ) (n : ℕ) → mag z < n → (over z < n) × (under z ≤ n)
 unfolding over under
 mag-over (pos a) n h = omega arith
 mag-over (negsuc a) n h = omega arith

@@ -1,21 +1,23 @@
--- Laws of `specs/Loops.antt`'s loop, tab and fill, and of a cell's index in a table stored row by row. Assumes nothing.
+-- Laws of `specs/Loops.antt`'s loops, sums and tables, and of a cell's index in a table stored row by row. Assumes nothing.
 use mathlib.Core.Path.{_≡_, refl, sym, ap, ap₂, _∙_}
 use mathlib.Core.Logic.{_⊎_, inl, inr}
 use mathlib.Core.List.{[], List, _∷_, _++_, append-nil}
 use mathlib.Core.Option.{Option, none, some}
 use Prim.Native.Nat.{ℕ, zero, suc, _+_, _*_, _/_, _%_, _≤_, _<_, zero-le, suc-le-suc}
-use native.Mathlib.Nat.{lt-suc-self, lt-trans, le-antisymm, suc-mul, mul-le-mul-right, not-suc-le-zero, le-of-suc-le-suc, mul-add-div-right, div-eq-of-lt, add-zero, mul-add-mod-self-right, mod-eq-of-lt, mul-zero, mod-lt, div-lt-iff-lt-mul, le-step, eq-or-lt-of-le}
+use native.Mathlib.Nat.{lt-suc-self, lt-trans, le-antisymm, suc-mul, mul-le-mul-right, not-suc-le-zero, le-of-suc-le-suc, mul-zero, mod-lt, div-lt-iff-lt-mul, le-step, eq-or-lt-of-le}
 use native.Mathlib.Numerals.{add-one}
 use native.Mathlib.Omega.{arith}
 use mathlib.Core.Bool.{Bool, true, false, cond}
-use lib.ListN.{length, getD, set, drop, length-append, length-drop, length-set}
+use lib.Arith.{digits-lt, digits-div, digits-mod}
+use lib.ListN.{length, getD, set, drop, length-append, length-drop, length-set, drop-of-length-le}
+use lib.Seq.{ext-getD}
 use lib.Ieee.{Float}
 use Rattle.leaves.specs.Numbers.{_⊕_, zero⁺, abs, larger}
 use Rattle.leaves.specs.Loops.{loop, sumTo, amaxTo, firstTo, tab, fill}
 
 -- a cell of row t and column j lies within the table
 pub cell : (t T j n : ℕ) → t < T → j < n → t * n + j < T * n
-cell t T j n ht hj = omega (arith, mul-le-mul-right n ht, suc-mul t n)
+cell t T j n ht hj = digits-lt ht hj
 
 -- row t lies within the table. With it in hand, or in an invariant, omega does the cells: j < n is linear
 pub row : (t T n : ℕ) → t < T → t * n + n ≤ T * n
@@ -23,15 +25,19 @@ row t T n h = omega (arith, mul-le-mul-right n h, suc-mul t n)
 
 -- the row and the column of cell i * n + j
 pub cell-row : (i n j : ℕ) → j < n → (i * n + j) / n ≡ i
-cell-row i n j h = mul-add-div-right (omega arith) i j ∙ ap (λ (k : ℕ). i + k) (div-eq-of-lt h) ∙ add-zero i
+cell-row i n j h = digits-div i h
 
 pub cell-col : (i n j : ℕ) → j < n → (i * n + j) % n ≡ j
-cell-col i n j h = mul-add-mod-self-right i n j ∙ mod-eq-of-lt h
+cell-col i n j h = digits-mod i h
+
+-- a table with a cell k has a column
+pub has-column : (k m n : ℕ) → k < m * n → 0 < n
+has-column k m zero h = absurd (not-suc-le-zero (rw mul-zero at h))
+has-column k m (suc n) h = suc-le-suc zero-le
 
 -- the row and the column of any cell of an n × n table are below n
 pub side : (k n : ℕ) → k < n * n → 0 < n
-side k zero h = absurd (not-suc-le-zero (rw mul-zero at h))
-side k (suc n) h = suc-le-suc zero-le
+side k n h = has-column k n n h
 
 pub row-below : (k n : ℕ) → k < n * n → k / n < n
 row-below k n h = div-lt-iff-lt-mul (side k n h) .1 h
@@ -77,12 +83,12 @@ module _ {A : Type 0} where
   fill-suc f (suc n) (x ∷ old) h = ap (λ (l : List A). f 0 ∷ l) (fill-suc (λ k. f (suc k)) n old (le-of-suc-le-suc h))
 
   -- none filled
-  pub fill-none : (f : ℕ → A) (old : List A) → old ≡ fill 0 f old
+  fill-none : (f : ℕ → A) (old : List A) → old ≡ fill 0 f old
   unfolding fill tab
   fill-none f old = refl
 
   -- a store of f n at n fills one more
-  pub fill-more : (f : ℕ → A) (n : ℕ) (old : List A) → n < length old → set (fill n f old) n (f n) ≡ fill (n + 1) f old
+  fill-more : (f : ℕ → A) (n : ℕ) (old : List A) → n < length old → set (fill n f old) n (f n) ≡ fill (n + 1) f old
   fill-more f n old h = fill-suc f n old h ∙ ap (λ (k : ℕ). fill k f old) (sym (add-one n))
 
   tab-at : (f : ℕ → A) (n : ℕ) (l : List A) (k : ℕ) (d : A) → k < n → getD (tab n f ++ l) k d ≡ f k
@@ -94,13 +100,17 @@ module _ {A : Type 0} where
   pub nth-tab : (n : ℕ) (f : ℕ → A) (k : ℕ) (d : A) → k < n → getD (tab n f) k d ≡ f k
   nth-tab n f k d h = rw append-nil at (tab-at f n [] k d h)
 
+  -- a list is f's where its numbers are
+  pub tab-is : (d : A) (l : List A) (n : ℕ) (f : ℕ → A) → length l ≡ n → ((k : ℕ) → k < n → getD l k d ≡ f k) → l ≡ tab n f
+  tab-is d l n f e h = ext-getD d l (tab n f) (e ∙ sym (length-tab f n)) (λ k b. let b′ : k < n = omega arith in h k b′ ∙ sym (nth-tab n f k d b′))
+
   -- the first n elements are f's
   pub fill-at : (f : ℕ → A) (n : ℕ) (old : List A) (k : ℕ) (d : A) → k < n → getD (fill n f old) k d ≡ f k
   unfolding fill
   fill-at f n old k d h = tab-at f n (drop n old) k d h
 
   -- the others are old's
-  pub fill-past : (f : ℕ → A) (n : ℕ) (old : List A) (k : ℕ) (d : A) → n ≤ length old → n ≤ k → getD (fill n f old) k d ≡ getD old k d
+  fill-past : (f : ℕ → A) (n : ℕ) (old : List A) (k : ℕ) (d : A) → n ≤ length old → n ≤ k → getD (fill n f old) k d ≡ getD old k d
   unfolding fill tab
   fill-past f zero old k d g h = refl
   fill-past f (suc n) old zero d g h = absurd (not-suc-le-zero h)
@@ -134,6 +144,11 @@ module _ {A : Type 0} {f : ℕ → A} {n : ℕ} {old out : List A} where
   -- at the end
   pub filled-all : {i : ℕ} → Filled f i n old out → n ≤ i → out ≡ fill n f old
   filled-all {i} F h = let e : i ≡ n = omega (arith, F .low) in F .is ∙ ap (λ (k : ℕ). fill k f old) e
+
+  -- at the end, where the slice is no longer than that
+  pub filled-whole : {i : ℕ} → Filled f i n old out → n ≤ i → length old ≡ n → out ≡ tab n f
+  unfolding fill
+  filled-whole F h l = let short : length old ≤ n = omega arith in filled-all F h ∙ ap (λ (r : List A). tab n f ++ r) (drop-of-length-le old short) ∙ append-nil (tab n f)
 
 -- at the start
 pub filled-none : {A : Type 0} (f : ℕ → A) (n : ℕ) (old : List A) → Filled f 0 n old old

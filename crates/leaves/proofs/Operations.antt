@@ -31,37 +31,31 @@ unfolding U
 U-le-pow a b c h = le-trans (le-of-eq (sym (pow-add 2 a 1074))) (le-trans (pow-mono h) (le-of-eq (pow-add 2 b c)))
 
 -- a fraction of 2 ^ h units at most, shifted by k, does not overflow
-under : (n d h k : ℕ) → 0 < d → n ≤ 2 ^ h * d → h + k ≤ 2097 → near (n * 2 ^ k) d < Top
-under n d h k D l o =
+no-overflow : (n d h k : ℕ) → 0 < d → n ≤ 2 ^ h * d → h + k ≤ 2097 → near (n * 2 ^ k) d < Top
+no-overflow n d h k D l o =
     lt-of-le-of-lt (near-most (n * 2 ^ k) d (2 ^ (h + k)) D (held-pow (h + k)) (le-trans (mul-le-mul-right (2 ^ k) l) (le-of-eq (mul-right-comm (2 ^ h) d (2 ^ k) ∙ ap (λ (z : ℕ). z * d) (sym (pow-add 2 h k)))))) (pow-under-Top (h + k) o)
 
 -- ---- exact scaling
 module _ (x y : Float) (s t : Bool) (a b : ℕ) (v : Val x s a) (w : Val y t b) where
-  pub add-shifted : (k : ℕ) → shift (pos k) x ⊕ shift (pos k) y ≡ rounded (sumSign s a t b) (total s a t b * 2 ^ k) 1
-  add-shifted k =
+  add-shift : (k : ℕ) → near (total s a t b * 2 ^ k) 1 < Top → shift (pos k) x ⊕ shift (pos k) y ≡ shift (pos k) (x ⊕ y)
+  add-shift k o =
+      let n = total s a t b in
       add-rounded (shift (pos k) x) (shift (pos k) y) s t (a * 2 ^ k) (b * 2 ^ k) (val-shift k x s a v) (val-shift k y t b w)
       ∙ ap₂ (λ (r : Bool) (n : ℕ). rounded r n 1) (sumSign-times s t a b (2 ^ k) (pow-pos k)) (total-times s t a b (2 ^ k) (pow-pos k))
+      ∙ rounded-shift (sumSign s a t b) n 1 k (zero-lt-suc 0) (whole n (sym (mul-one (n * 1) ∙ mul-one n))) o ∙ ap (shift (pos k)) (sym (add-rounded x y s t a b v w))
 
-  pub add-shift-under : (k : ℕ) → near (total s a t b * 2 ^ k) 1 < Top → shift (pos k) x ⊕ shift (pos k) y ≡ shift (pos k) (x ⊕ y)
-  add-shift-under k o =
-      let n = total s a t b in
-      add-shifted k ∙ rounded-shift (sumSign s a t b) n 1 k (zero-lt-suc 0) (whole n (sym (mul-one (n * 1) ∙ mul-one n))) o ∙ ap (shift (pos k)) (sym (add-rounded x y s t a b v w))
-
-  pub mul-shifted : (i j : ℕ) → shift (pos i) x ⊗ shift (pos j) y ≡ rounded (unlike s t) (a * b * 2 ^ (i + j)) U
-  mul-shifted i j =
+  mul-shift : (i j : ℕ) → Grained 0 (a * b) U → near (a * b * 2 ^ (i + j)) U < Top → shift (pos i) x ⊗ shift (pos j) y ≡ shift (pos (i + j)) (x ⊗ y)
+  mul-shift i j G o =
       mul-rounded (shift (pos i) x) (shift (pos j) y) s t (a * 2 ^ i) (b * 2 ^ j) (val-shift i x s a v) (val-shift j y t b w)
       ∙ ap (λ (n : ℕ). rounded (unlike s t) n U) (mul-mul-mul-comm a (2 ^ i) b (2 ^ j) ∙ ap (λ (n : ℕ). a * b * n) (sym (pow-add 2 i j)))
+      ∙ rounded-shift (unlike s t) (a * b) U (i + j) U-pos G o ∙ ap (shift (pos (i + j))) (sym (mul-rounded x y s t a b v w))
 
-  pub mul-shift-under : (i j : ℕ) → Grained 0 (a * b) U → near (a * b * 2 ^ (i + j)) U < Top → shift (pos i) x ⊗ shift (pos j) y ≡ shift (pos (i + j)) (x ⊗ y)
-  mul-shift-under i j G o = mul-shifted i j ∙ rounded-shift (unlike s t) (a * b) U (i + j) U-pos G o ∙ ap (shift (pos (i + j))) (sym (mul-rounded x y s t a b v w))
+  div-shift : (k : ℕ) → 0 < b → Grained 0 (a * U) b → near (a * U * 2 ^ k) b < Top → shift (pos k) x ⊘ y ≡ shift (pos k) (x ⊘ y)
+  div-shift k B G o =
+      div-rounded (shift (pos k) x) y s t (a * 2 ^ k) b (val-shift k x s a v) w B ∙ ap (λ (n : ℕ). rounded (unlike s t) n b) (mul-right-comm a (2 ^ k) U)
+      ∙ rounded-shift (unlike s t) (a * U) b k B G o ∙ ap (shift (pos k)) (sym (div-rounded x y s t a b v w B))
 
-  pub div-shifted : (k : ℕ) → 0 < b → shift (pos k) x ⊘ y ≡ rounded (unlike s t) (a * U * 2 ^ k) b
-  div-shifted k B = div-rounded (shift (pos k) x) y s t (a * 2 ^ k) b (val-shift k x s a v) w B ∙ ap (λ (n : ℕ). rounded (unlike s t) n b) (mul-right-comm a (2 ^ k) U)
-
-  pub div-shift-under : (k : ℕ) → 0 < b → Grained 0 (a * U) b → near (a * U * 2 ^ k) b < Top → shift (pos k) x ⊘ y ≡ shift (pos k) (x ⊘ y)
-  div-shift-under k B G o = div-shifted k B ∙ rounded-shift (unlike s t) (a * U) b k B G o ∙ ap (shift (pos k)) (sym (div-rounded x y s t a b v w B))
-
-pub sub-is : (x y : Float) → x ⊖ y ≡ x ⊕ neg y
+sub-is : (x y : Float) → x ⊖ y ≡ x ⊕ neg y
 unfolding sub
 sub-is x y = refl
 
@@ -82,7 +76,7 @@ module _ {g L₁ B₁ L₂ B₂ : ℕ} {x y : Float} (r : Range g L₁ B₁ x) (
   pub add-copy : (k B : ℕ) → (B₁ + B₂) * 2 ^ k ≤ B → Held B → B < Top → shift (pos k) x ⊕ shift (pos k) y ≡ shift (pos k) (x ⊕ y)
   add-copy k B h H o =
       let n = total (sign x) (mag x) (sign y) (mag y) in
-      add-shift-under x y (sign x) (sign y) (mag x) (mag y) (range-value r) (range-value p) k
+      add-shift x y (sign x) (sign y) (mag x) (mag y) (range-value r) (range-value p) k
       (lt-of-le-of-lt (near-most (n * 2 ^ k) 1 B (zero-lt-suc 0) H (le-trans (mul-le-mul-right (2 ^ k) sum-at-most) (le-trans h (le-of-eq (sym (mul-one B)))))) o)
 
 -- a fraction that is zero or large
@@ -97,7 +91,7 @@ module _ {g₁ L₁ B₁ g₂ L₂ B₂ : ℕ} {x y : Float} (r : Range g₁ L�
   product-most = mul-le-mul (r .most) (p .most)
 
   -- the exact product's grain: by the factors' grains, and by their sizes
-  pub by-grains : (g : ℕ) → g + 1074 ≤ g₁ + g₂ → Grained g (mag x * mag y) U
+  by-grains : (g : ℕ) → g + 1074 ≤ g₁ + g₂ → Grained g (mag x * mag y) U
   unfolding U
   by-grains g h =
       let j = g₁ + g₂ - 1074 in
@@ -106,10 +100,10 @@ module _ {g₁ L₁ B₁ g₂ L₂ B₂ : ℕ} {x y : Float} (r : Range g₁ L�
       grained-finer g j (mag x * mag y) (2 ^ 1074) (omega arith)
       (whole q (ap₂ (λ (a b : ℕ). a * b) (r .grain) (p .grain) ∙ mul-mul-mul-comm (r .count) (2 ^ g₁) (p .count) (2 ^ g₂) ∙ ap (λ (z : ℕ). q * z) e ∙ sym (mul-assoc q (2 ^ j) (2 ^ 1074))))
 
-  pub by-sizes : (g : ℕ) → 2 ^ (g + 52) * U ≤ L₁ * L₂ → Grained g (mag x * mag y) U
+  by-sizes : (g : ℕ) → 2 ^ (g + 52) * U ≤ L₁ * L₂ → Grained g (mag x * mag y) U
   by-sizes g h = zero-or-large g (mag x * mag y) U (λ q. le-trans h (product-least q))
 
-  pub range-mul : (g L B : ℕ) → Grained g (mag x * mag y) U → Held L → L * U ≤ L₁ * L₂ → Held B → B₁ * B₂ ≤ B * U → B < Top → Range g L B (x ⊗ y)
+  range-mul : (g L B : ℕ) → Grained g (mag x * mag y) U → Held L → L * U ≤ L₁ * L₂ → Held B → B₁ * B₂ ≤ B * U → B < Top → Range g L B (x ⊗ y)
   range-mul g L B G HL l HB h o =
       subst (Range g L B) (sym (mul-rounded x y (sign x) (sign y) (mag x) (mag y) (range-value r) (range-value p)))
       (range-rounded (unlike (sign x) (sign y)) (mag x * mag y) U g L B U-pos G HL (λ q. le-trans l (product-least q)) HB (le-trans product-most h) o)
@@ -124,7 +118,7 @@ module _ {g₁ L₁ B₁ g₂ L₂ B₂ : ℕ} {x y : Float} (r : Range g₁ L�
   quotient-grain : (g : ℕ) → 2 ^ (g + 52) * B₂ ≤ L₁ * U → Grained g (mag x * U) (mag y)
   quotient-grain g h = zero-or-large g (mag x * U) (mag y) (quotient-least (2 ^ (g + 52)) h)
 
-  pub range-div : (g B : ℕ) → 0 < mag y → 2 ^ (g + 52) * B₂ ≤ L₁ * U → Held B → B₁ * U ≤ B * L₂ → B < Top → Range g (2 ^ (g + 52)) B (x ⊘ y)
+  range-div : (g B : ℕ) → 0 < mag y → 2 ^ (g + 52) * B₂ ≤ L₁ * U → Held B → B₁ * U ≤ B * L₂ → B < Top → Range g (2 ^ (g + 52)) B (x ⊘ y)
   range-div g B N l HB h o =
       subst (Range g (2 ^ (g + 52)) B) (sym (div-rounded x y (sign x) (sign y) (mag x) (mag y) (range-value r) (range-value p) N))
       (range-rounded (unlike (sign x) (sign y)) (mag x * U) (mag y) g (2 ^ (g + 52)) B N (quotient-grain g l) (held-pow (g + 52)) (quotient-least (2 ^ (g + 52)) l) HB (quotient-most B N h) o)
@@ -144,7 +138,7 @@ still {x = x} l h r = record { range = r; copy = sym (shift-zero x) }
 pub moved-zero : (k g l h : ℕ) → Moved k g l h zero⁺ zero⁺
 moved-zero k g l h = record { range = range-zero g (2 ^ l) (2 ^ h); copy = sym (shift-zero⁺ (pos k)) }
 
-pub moved-neg : {k g l h : ℕ} {x x' : Float} → Moved k g l h x x' → Moved k g l h (neg x) (neg x')
+moved-neg : {k g l h : ℕ} {x x' : Float} → Moved k g l h x x' → Moved k g l h (neg x) (neg x')
 moved-neg {k} {x = x} r = record { range = range-neg (r .range); copy = ap neg (r .copy) ∙ neg-shift (pos k) x }
 
 pub moved-abs : {k g l h : ℕ} {x x' : Float} → Moved k g l h x x' → Moved k g l h (abs x) (abs x')
@@ -168,8 +162,8 @@ module _ {i j g₁ l₁ h₁ g₂ l₂ h₂ : ℕ} {x x' y y' : Float} (r : Move
       let most = pow-le-U h₁ h₂ h eh in
       record {
         range = range-mul (r .range) (p .range) g (2 ^ l) (2 ^ h) G (held-pow l) (U-le-pow l l₁ l₂ el) (held-pow h) most (pow-under-Top h (omega arith));
-        copy = ap₂ _⊗_ (r .copy) (p .copy) ∙ mul-shift-under x y (sign x) (sign y) (mag x) (mag y) (range-value (r .range)) (range-value (p .range)) i j (grained-finer 0 g (mag x * mag y) U zero-le G)
-            (under (mag x * mag y) U h (i + j) U-pos (le-trans (product-most (r .range) (p .range)) most) o);
+        copy = ap₂ _⊗_ (r .copy) (p .copy) ∙ mul-shift x y (sign x) (sign y) (mag x) (mag y) (range-value (r .range)) (range-value (p .range)) i j (grained-finer 0 g (mag x * mag y) U zero-le G)
+            (no-overflow (mag x * mag y) U h (i + j) U-pos (le-trans (product-most (r .range) (p .range)) most) o);
       }
 
   -- by the grains, which give the product's; and by the sizes, where the product is in the normal range
@@ -188,8 +182,8 @@ moved-div {i} {j} {g₁} {l₁} {h₁} {g₂} {l₂} {h₂} {x} {x'} {y} {y'} r 
     record {
       range = range-div (r .range) (p .range) g (2 ^ h) N least (held-pow h) most (pow-under-Top h (omega arith));
       copy = ap₂ _⊘_ (r .copy ∙ sym (shift-shift (pos i) (pos j) x)) (p .copy) ∙ div-alike (pos j) (shift (pos i) x) y
-          ∙ div-shift-under x y (sign x) (sign y) (mag x) (mag y) (range-value (r .range)) (range-value (p .range)) i N (grained-finer 0 g (mag x * U) (mag y) zero-le (quotient-grain (r .range) (p .range) g least))
-          (under (mag x * U) (mag y) h i N (quotient-most (r .range) (p .range) (2 ^ h) N most) o);
+          ∙ div-shift x y (sign x) (sign y) (mag x) (mag y) (range-value (r .range)) (range-value (p .range)) i N (grained-finer 0 g (mag x * U) (mag y) zero-le (quotient-grain (r .range) (p .range) g least))
+          (no-overflow (mag x * U) (mag y) h i N (quotient-most (r .range) (p .range) (2 ^ h) N most) o);
     }
 
 pub moved-over : {k g₁ l₁ h₁ g₂ l₂ h₂ : ℕ} {x x' y : Float} → Moved k g₁ l₁ h₁ x x' → Moved 0 g₂ l₂ h₂ y y → 0 < mag y

@@ -4,7 +4,7 @@
 use mathlib.Core.Path.{_≡_, refl, sym, ap, _∙_, subst}
 use mathlib.Core.Logic.{inl, inr}
 use Prim.Native.Nat.{ℕ, zero, suc, _+_, _-_, _*_, _%_, _^_, _≤_, _<_}
-use native.Mathlib.Nat.{le-trans, le-of-eq, lt-of-le-of-lt, lt-irrefl, lt-suc-self, zero-lt-suc, zero-mul, mul-assoc, mul-pos, mul-le-mul-right, le-of-mul-le-mul-right, eq-of-mul-eq-mul-right, pow-succ'}
+use native.Mathlib.Nat.{le-trans, le-of-eq, lt-of-le-of-lt, lt-irrefl, lt-suc-self, mul-assoc, mul-pos, mul-le-mul-right, le-of-mul-le-mul-right, eq-of-mul-eq-mul-right, pow-succ'}
 use native.Mathlib.Omega.{arith}
 use mathlib.Core.Bool.{Bool}
 use lib.Dec.{T}
@@ -12,7 +12,7 @@ use lib.IntN.{ℤ, pos, negℤ, _+ℤ_}
 use lib.Pow.{pow-add, pow-pos, pow-lt}
 use lib.Ieee.{Float, nan, inf, fin, binary64, up, down, size, fits}
 use lib.Ieee.Exact.{HasValue}
-use lib.Ieee.Fits.{up-pos, down-pos}
+use lib.Ieee.Fits.{down-pos}
 use lib.Ieee.Positive.{first-pos}
 use Rattle.leaves.specs.Numbers.{isFinite}
 use Rattle.leaves.specs.Scaling.{binaryExponent, pow2Scaled}
@@ -22,7 +22,7 @@ use Rattle.leaves.proofs.Laws.{fits→room, room→fits, digits-in, siz
 use Rattle.leaves.proofs.Scale.{scaled-exact}
 use Rattle.leaves.proofs.Shift.{shift-shift, shift-value, isFinite-shift}
 use Rattle.leaves.proofs.Rounding.{in-place}
-use Rattle.leaves.proofs.Units.{U, U-pos, Val, sign, mag, zero-mag, mag-val}
+use Rattle.leaves.proofs.Units.{U, Val, sign, mag, zero-mag, val-pos, mag-val}
 use Rattle.leaves.proofs.Range.{Range, range-value}
 
 -- ---- the last and the leading bit of a value in range
@@ -102,7 +102,7 @@ unfolding shift isFinite
 shift-null k nan t f z = absurd f
 shift-null k (inf s) t f z = absurd f
 shift-null k (fin s zero e) t f z = refl
-shift-null k (fin s (suc m) e) t f z = absurd (lt-irrefl 0 (subst (λ (n : ℕ). 0 < n) (mag-val (fin s (suc m) e) t f .1 ∙ ap (λ (n : ℕ). n * down e) z ∙ zero-mul (down e)) (mul-pos (mul-pos (zero-lt-suc m) (up-pos e)) U-pos)))
+shift-null k (fin s (suc m) e) t f z = absurd (lt-irrefl 0 (rw z at (val-pos s m e (sign (fin s (suc m) e)) (mag (fin s (suc m) e)) (mag-val (fin s (suc m) e) t f))))
 
 -- ---- b(x)
 pub exponent-shift : (k : ℤ) (x : Float) → T (isFinite x) → 0 < mag x → binaryExponent (shift k x) ≡ binaryExponent x +ℤ k

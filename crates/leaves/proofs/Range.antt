@@ -55,7 +55,7 @@ range-grain {g} {x = x} r = record {
     go (inr q) p = le-trans (le-of-eq (sym (one-mul (2 ^ g)))) (le-trans (mul-le-mul-right (2 ^ g) q) (le-of-eq (sym (r .grain))))
 
 -- ---- the sign
-pub finite-neg : (x : Float) → T (isFinite x) → T (isFinite (neg x))
+finite-neg : (x : Float) → T (isFinite x) → T (isFinite (neg x))
 unfolding isFinite neg
 finite-neg nan t = t
 finite-neg (inf s) t = t
@@ -80,14 +80,17 @@ range-abs {g} {L} {B} {x} r = go x r
     go (fin true m e) r = unfold abs neg in range-neg r
     go (fin false m e) r = unfold abs in r
 
--- ---- zero
+-- ---- zeros, which are in every range
+pub range-null : (x : Float) → T (fits binary64 x) → T (isFinite x) → mag x ≡ 0 → (g L B : ℕ) → Range g L B x
+range-null x t f z g L B = record { fit = t; finite = f; count = 0; grain = z ∙ sym (zero-mul (2 ^ g)); least = λ p. absurd (lt-irrefl 0 (rw z at p)); most = rw z zero-le }
+
 pub range-zero : (g L B : ℕ) → Range g L B zero⁺
 unfolding fits isFinite
-range-zero g L B = let z = zero-mag false (pos 0) in record { fit = tt; finite = tt; count = 0; grain = z ∙ sym (zero-mul (2 ^ g)); least = λ p. absurd (lt-irrefl 0 (rw z at p)); most = rw z zero-le }
+range-zero g L B = range-null zero⁺ tt tt (zero-mag false (pos 0)) g L B
 
 -- ---- by the size: 2 ^ (g + 52) units and more are a multiple of 2 ^ g
 pub range-size : (g B : ℕ) (x : Float) → T (fits binary64 x) → T (isFinite x) → (mag x ≡ 0) ⊎ (2 ^ (g + 52) ≤ mag x) → mag x ≤ B → Range g (2 ^ (g + 52)) B x
-range-size g B x t f (inl z) h = record { fit = t; finite = f; count = 0; grain = z ∙ sym (zero-mul (2 ^ g)); least = λ p. absurd (lt-irrefl 0 (rw z at p)); most = h }
+range-size g B x t f (inl z) h = range-null x t f z g (2 ^ (g + 52)) B
 range-size g B x t f (inr l) h = let c = held-grain g (mag x) (mag-held x t f .0) l in record { fit = t; finite = f; count = c .0; grain = c .1; least = λ p. l; most = h }
 
 pub range-sized : (g h : ℕ) (x : Float) → T (sized (g + 52) h x) → Range g (2 ^ (g + 52)) (2 ^ h) x

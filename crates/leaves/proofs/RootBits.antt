@@ -5,22 +5,21 @@ use Prim.Native.Nat.{ℕ, zero, suc, _+_, _-_, _*_, _/_, _%_, _^_, _≤_, _<_}
 use native.Mathlib.Nat.{mul-assoc, mul-le-mul-right, mul-div-cancel, div-le-self, le-trans, le-of-eq, le-of-lt, lt-of-le-of-lt, lt-of-not-le}
 use native.Mathlib.Omega.{arith}
 use mathlib.Core.Bool.{true, false}
-use lib.Dec.{T, lit<}
+use lib.Dec.{T}
 use lib.Pow.{pow-add, pow-pos}
 use lib.IntN.{ℤ, pos, _+ℤ_, _-ℤ_}
-use lib.Ieee.{Float, nan, inf, fin, binary64, fits, lt, size, up, down, toBits, ofBits, ofInt, round, units}
+use lib.Ieee.{Float, nan, inf, fin, binary64, fits, lt, size, up, down, toBits, ofBits, ofInt, round}
 use lib.Ieee.Bits.{ofBits-toBits}
-use lib.Ieee.Digits.{size-reaches}
-use lib.Ieee.Exact.{HasValue, units-val}
+use lib.Ieee.Exact.{HasValue}
 use Rattle.leaves.specs.Numbers.{zero⁺}
 use Rattle.leaves.specs.Shift.{shift}
 use Rattle.leaves.specs.Root.{sticky, halfExponent, radicand, sqrt}
 use Rattle.leaves.proofs.Whole.{over, under, one-side, plus, minus, up-is, down-is}
-use Rattle.leaves.proofs.Laws.{Room, fits→room, room→fits, place, digits-in, digits-out, size-pos}
+use Rattle.leaves.proofs.Laws.{Room, fits→room, room→fits, place, digits-in, digits-out, size-pos, leading}
 use Rattle.leaves.proofs.Zero.{no, zero-not-above}
 use Rattle.leaves.proofs.Exponent.{units-are, bits-at, size-shift}
 use Rattle.leaves.proofs.Sqrts.{halved, whole, g, M, radicand-is, Rounded, digits-of, result-room}
-use Rattle.leaves.proofs.SqrtLaws.{smaller}
+use Rattle.leaves.proofs.SqrtLaws.{eights-value}
 use Rattle.leaves.proofs.Guessed.{eights}
 
 -- ---- the values above 0 that are finite
@@ -42,28 +41,27 @@ module _ (m : ℕ) (e : ℤ) (r : Room (suc m) e) where
   abbrev Q : ℕ
   Q = suc m * 2 ^ (53 - size (suc m))
 
-  Q-in : (4503599627370496 ≤ Q) × (Q < 9007199254740992)
+  Q-in : (2 ^ 52 ≤ Q) × (Q < 2 ^ 53)
   Q-in =
       let s = size-pos m in
-      let a : 2 ^ (size (suc m) - 1) ≤ suc m = size-reaches (suc m) (size (suc m) - 1) (omega arith) in
-      let b : 2 ^ (size (suc m) - 1) * 2 ^ (53 - size (suc m)) ≤ Q = mul-le-mul-right (2 ^ (53 - size (suc m))) a in
+      let b : 2 ^ (size (suc m) - 1) * 2 ^ (53 - size (suc m)) ≤ Q = mul-le-mul-right (2 ^ (53 - size (suc m))) (leading m) in
       let i : size (suc m) - 1 + (53 - size (suc m)) ≡ 52 = omega (arith, r .digits, s) in
       let c : 2 ^ (size (suc m) - 1) * 2 ^ (53 - size (suc m)) ≡ 2 ^ 52 = sym (pow-add 2 (size (suc m) - 1) (53 - size (suc m))) ∙ ap (λ (j : ℕ). 2 ^ j) i in
       (le-trans (le-of-eq (sym c)) b, digits-out (suc m) (53 - size (suc m)) 53 (omega (arith, r .digits)))
 
-  bits-are : toBits binary64 (fin false (suc m) e) ≡ 0 + (size (suc m) + place e - 53) * 4503599627370496 + suc m * 2 ^ place e / 2 ^ (size (suc m) + place e - 53)
+  bits-are : toBits binary64 (fin false (suc m) e) ≡ 0 + (size (suc m) + place e - 53) * 2 ^ 52 + suc m * 2 ^ place e / 2 ^ (size (suc m) + place e - 53)
   bits-are =
       bits-at false (suc m) e (suc m * 2 ^ place e) (units-are (suc m) e (r .low))
-      ∙ ap (λ (z : ℕ). 0 + (z - 53) * 4503599627370496 + suc m * 2 ^ place e / 2 ^ (z - 53)) (size-shift m (place e))
+      ∙ ap (λ (z : ℕ). 0 + (z - 53) * 2 ^ 52 + suc m * 2 ^ place e / 2 ^ (z - 53)) (size-shift m (place e))
 
-  bits-small : size (suc m) + place e ≤ 52 → toBits binary64 (fin false (suc m) e) < 4503599627370496
+  bits-small : size (suc m) + place e ≤ 52 → toBits binary64 (fin false (suc m) e) < 2 ^ 52
   bits-small h =
       let k = size (suc m) + place e - 53 in
-      let a : suc m * 2 ^ place e / 2 ^ k < 4503599627370496 = lt-of-le-of-lt (div-le-self (suc m * 2 ^ place e) (2 ^ k)) (digits-out (suc m) (place e) 52 h) in
+      let a : suc m * 2 ^ place e / 2 ^ k < 2 ^ 52 = lt-of-le-of-lt (div-le-self (suc m * 2 ^ place e) (2 ^ k)) (digits-out (suc m) (place e) 52 h) in
       let z : k ≡ 0 = omega (arith, h) in
       omega (arith, bits-are, a, z)
 
-  bits-normal : 53 ≤ size (suc m) + place e → toBits binary64 (fin false (suc m) e) ≡ (size (suc m) + place e - 53) * 4503599627370496 + Q
+  bits-normal : 53 ≤ size (suc m) + place e → toBits binary64 (fin false (suc m) e) ≡ (size (suc m) + place e - 53) * 2 ^ 52 + Q
   bits-normal h =
       let k = size (suc m) + place e - 53 in
       let i : place e ≡ 53 - size (suc m) + k = omega (arith, h, r .digits) in
@@ -78,20 +76,20 @@ two-less (suc zero) h = refl
 two-less (suc (suc t)) h = absurd (omega (arith, h))
 
 -- the digits and the field
-parted : (b z q : ℕ) → 53 ≤ z → 4503599627370496 ≤ q → q < 9007199254740992 → b ≡ (z - 53) * 4503599627370496 + q → (b / 4503599627370496 ≡ z - 52) × (b % 4503599627370496 + 4503599627370496 ≡ q)
+parted : (b z q : ℕ) → 53 ≤ z → 2 ^ 52 ≤ q → q < 2 ^ 53 → b ≡ (z - 53) * 2 ^ 52 + q → (b / 2 ^ 52 ≡ z - 52) × (b % 2 ^ 52 + 2 ^ 52 ≡ q)
 parted b z q h lo hi e = (omega arith, omega arith)
 
-module _ (m : ℕ) (e : ℤ) (r : Room (suc m) e) (b : ℕ) (is-b : b ≡ toBits binary64 (fin false (suc m) e)) (normal : 0 < b / 4503599627370496) where
+module _ (m : ℕ) (e : ℤ) (r : Room (suc m) e) (b : ℕ) (is-b : b ≡ toBits binary64 (fin false (suc m) e)) (normal : 0 < b / 2 ^ 52) where
   abbrev h : ℤ
   h = halfExponent (suc m) e
 
   abbrev F : ℕ
-  F = b / 4503599627370496
+  F = b / 2 ^ 52
 
   tall : 53 ≤ size (suc m) + place e
   tall = lt-of-not-le (λ (i : size (suc m) + place e ≤ 52). let s = bits-small m e r i in omega (arith, is-b, s, normal))
 
-  halves : (F ≡ size (suc m) + place e - 52) × (b % 4503599627370496 + 4503599627370496 ≡ Q m e r)
+  halves : (F ≡ size (suc m) + place e - 52) × (b % 2 ^ 52 + 2 ^ 52 ≡ Q m e r)
   halves = let q = Q-in m e r in parted b (size (suc m) + place e) (Q m e r) tall (q .0) (q .1) (is-b ∙ bits-normal m e r tall)
 
   shift-is : over (g m e r) ≡ 53 - size (suc m) + (1 - F % 2)
@@ -99,8 +97,8 @@ module _ (m : ℕ) (e : ℤ) (r : Room (suc m) e) (b : ℕ) (is-b : b ≡ toBits
   shift-is =
       omega (arith, halves .0, tall, whole m e r, halved m e r, minus (pos 52) h, minus (pos 52 -ℤ h) h, plus e (pos 52 -ℤ h -ℤ h), one-side (g m e r), one-side h, r .low, r .digits)
 
-  abbrev pub N : ℕ
-  N = (b % 4503599627370496 + 4503599627370496) * (2 - F % 2)
+  abbrev N : ℕ
+  N = (b % 2 ^ 52 + 2 ^ 52) * (2 - F % 2)
 
   pub radicand-bits : N ≡ M m e r
   radicand-bits =
@@ -110,7 +108,7 @@ module _ (m : ℕ) (e : ℤ) (r : Room (suc m) e) (b : ℕ) (is-b : b ≡ toBits
       ∙ mul-assoc (suc m) (2 ^ j) (2 ^ t) ∙ ap (λ (x : ℕ). suc m * x) (sym (pow-add 2 j t)) ∙ ap (λ (i : ℕ). suc m * 2 ^ i) (sym shift-is)
 
   -- ---- the root of x, by a p of 53 digits that is its rounded digits
-  module _ (p : ℕ) (digits : (4503599627370496 ≤ p) × (p < 9007199254740992)) (same : ofInt binary64 (pos (8 * p)) ≡ ofInt binary64 (pos (sticky (N * 72057594037927936)))) where
+  module _ (p : ℕ) (digits : (2 ^ 52 ≤ p) × (p < 2 ^ 53)) (same : ofInt binary64 (pos (8 * p)) ≡ ofInt binary64 (pos (sticky (N * 2 ^ 56)))) where
     d : Rounded (round binary64 false (sticky (radicand (suc m) e)) 1)
     d = digits-of m e r
 
@@ -119,10 +117,10 @@ module _ (m : ℕ) (e : ℤ) (r : Room (suc m) e) (b : ℕ) (is-b : b ≡ toBits
 
     eight-is : round binary64 false (8 * p) 1 ≡ fin false (suc (d .m)) (d .e)
     unfolding ofInt
-    eight-is = same ∙ ap (λ (k : ℕ). round binary64 false (sticky k) 1) (ap (λ (k : ℕ). k * 72057594037927936) radicand-bits ∙ sym (radicand-is m e r)) ∙ d .is
+    eight-is = same ∙ ap (λ (k : ℕ). round binary64 false (sticky k) 1) (ap (λ (k : ℕ). k * 2 ^ 56) radicand-bits ∙ sym (radicand-is m e r)) ∙ d .is
 
     value : HasValue (round binary64 false (8 * p) 1) false (p * 8) 1
-    value = rw (eights p digits) (smaller (units binary64 false p 1077) p (units-val binary64 false p 1077 (lt-of-le-of-lt (mul-le-mul-right (2 ^ 1077) (le-of-lt (digits .1))) (lit< tt))))
+    value = rw (eights p digits) (eights-value p (le-of-lt (digits .1)))
 
     under-0 : under (d .e) ≡ 0
     under-0 = omega (arith, d .low, d .room .digits, one-side (d .e))
@@ -155,13 +153,13 @@ module _ (m : ℕ) (e : ℤ) (r : Room (suc m) e) (b : ℕ) (is-b : b ≡ toBits
     unfolding over under
     field-of-root = omega (arith, halves .0, tall, halved m e r, size-is, under-0, plus (d .e) (h -ℤ pos 55), minus h (pos 55), one-side E, one-side h, room .low, r .low)
 
-    root-bits : toBits binary64 (fin false (suc (d .m)) E) ≡ ((F + 1023) / 2 - 1) * 4503599627370496 + p
+    root-bits : toBits binary64 (fin false (suc (d .m)) E) ≡ ((F + 1023) / 2 - 1) * 2 ^ 52 + p
     root-bits =
         let f = field-of-root in
         let b = bits-normal (d .m) E room (omega (arith, f)) in
         omega (arith, b, f, Q-is)
 
-    pub root-is : (y : Float) → T (fits binary64 y) → (c : ℕ) → c ≡ toBits binary64 y → c / 4503599627370496 ≡ (F + 1023) / 2 → p ≡ c % 4503599627370496 + 4503599627370496 → y ≡ sqrt (fin false (suc m) e)
+    pub root-is : (y : Float) → T (fits binary64 y) → (c : ℕ) → c ≡ toBits binary64 y → c / 2 ^ 52 ≡ (F + 1023) / 2 → p ≡ c % 2 ^ 52 + 2 ^ 52 → y ≡ sqrt (fin false (suc m) e)
     root-is y t c is-c f q =
         let w = fin false (suc (d .m)) E in
         let s : toBits binary64 y ≡ toBits binary64 w = omega (arith, is-c, f, q, root-bits) in

@@ -12,14 +12,14 @@ use mathlib.Core.Bool.{Bool}
 use lib.Dec.{isLe, isEq, lit<, lit≤}
 use lib.Pow.{pow-add, pow-pos, pow-mono}
 use lib.Ieee.{binary64, size, nearest, round, units}
-use lib.Ieee.Digits.{size-lt, size-reaches, back}
+use lib.Ieee.Digits.{size-reaches, back}
 use lib.Ieee.Fits.{round-is}
 use lib.Ieee.Nearest.{closest, closest-same, div-same}
 use lib.Ieee.Order.{drop, kept}
 use lib.Ieee.Scale.{grid, grid-scale, normal-of-fraction}
 use borrow.Author.Tests.{leb-true, leb-false, eqb-true}
 use Rattle.leaves.proofs.Whole.{le-or-lt}
-use Rattle.leaves.proofs.Laws.{pow-back}
+use Rattle.leaves.proofs.Laws.{pow-back, size-under}
 
 -- ---- definitions
 abbrev pub near : ℕ → ℕ → ℕ
@@ -34,8 +34,8 @@ pub record Held (n : ℕ) : Type 0 where
 
 -- g is n / d with one rounding's error. The first two say it in full; the others are what is left of it where a factor of two does not matter
 pub record Near (g n d : ℕ) : Type 0 where
-  pub above : g * d * 9007199254740992 ≤ n * 9007199254740992 + n + d * 4503599627370496
-  pub below : n * 9007199254740992 ≤ g * d * 9007199254740992 + n + d * 4503599627370496
+  pub above : g * d * 2 ^ 53 ≤ n * 2 ^ 53 + n + d * 2 ^ 52
+  pub below : n * 2 ^ 53 ≤ g * d * 2 ^ 53 + n + d * 2 ^ 52
   pub doubled : g * d ≤ 2 * n
   pub halved : 2 * n ≤ 4 * (g * d) + d
 
@@ -74,7 +74,7 @@ module _ (n d : ℕ) (D : 0 < d) where
   dropped h = le-div-iff-mul-le D .0 (size-reaches (n / d) (52 + drop 53 n d) (omega arith))
 
   few-dropped : n < 2 ^ (53 + drop 53 n d) * d
-  few-dropped = div-lt-iff-lt-mul D .0 (lt-of-lt-of-le (size-lt (n / d)) (pow-mono {i = size (n / d)} {j = 53 + drop 53 n d} (omega arith)))
+  few-dropped = div-lt-iff-lt-mul D .0 (size-under (n / d) (53 + drop 53 n d) (omega arith))
 
 -- q * 2 ^ j as a multiple of 2 ^ k, and then in steps of d * 2 ^ k
 pub in-place : (q j k : ℕ) → k ≤ j → q * 2 ^ (j - k) * 2 ^ k ≡ q * 2 ^ j
@@ -147,10 +147,10 @@ near-at c n d zero s a b =
     let e : c * 1 * d ≡ c * (d * 1) = omega arith in
     record { above = omega arith; below = omega arith; doubled = doubled-fine (c * 1) n d (omega arith); halved = omega arith }
 near-at c n d (suc k) s a b =
-    let z : 4503599627370496 * 2 ^ suc k * d ≤ n = subst (λ (x : ℕ). x * d ≤ n) (pow-add 2 52 (suc k)) (s (zero-lt-suc k)) in
+    let z : 2 ^ 52 * 2 ^ suc k * d ≤ n = subst (λ (x : ℕ). x * d ≤ n) (pow-add 2 52 (suc k)) (s (zero-lt-suc k)) in
     large c n d (2 ^ suc k) a b z
   where
-    large : (c n d p : ℕ) → 2 * (c * (d * p)) ≤ 2 * n + d * p → 2 * n ≤ 2 * (c * (d * p)) + d * p → 4503599627370496 * p * d ≤ n → Near (c * p) n d
+    large : (c n d p : ℕ) → 2 * (c * (d * p)) ≤ 2 * n + d * p → 2 * n ≤ 2 * (c * (d * p)) + d * p → 2 ^ 52 * p * d ≤ n → Near (c * p) n d
     large c n d p a b z = record { above = omega arith; below = omega arith; doubled = omega arith; halved = omega arith }
 
 pub near-error : (n d : ℕ) → 0 < d → Near (near n d) n d

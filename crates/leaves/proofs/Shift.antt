@@ -188,7 +188,7 @@ pub larger-shift : (k : ℤ) (m x : Float) → larger (shift k m) (shift k x) �
 unfolding larger
 larger-shift k m x = ap (λ (b : Bool). cond b (shift k x) (shift k m)) (lt-shift k m x) ∙ cond-shift k (lt m x) x m
 
-pub smaller-shift : (k : ℤ) (m x : Float) → smaller (shift k m) (shift k x) ≡ shift k (smaller m x)
+smaller-shift : (k : ℤ) (m x : Float) → smaller (shift k m) (shift k x) ≡ shift k (smaller m x)
 unfolding smaller
 smaller-shift k m x = ap (λ (b : Bool). cond b (shift k x) (shift k m)) (lt-shift k x m) ∙ cond-shift k (lt x m) x m
 

@@ -7,27 +7,25 @@
 use mathlib.Core.Path.{_≡_, refl, sym, ap, ap₂, _∙_, subst}
 use mathlib.Core.Logic.{_⊎_, inl, inr}
 use Prim.Native.Nat.{ℕ, zero, suc, _+_, _-_, _*_, _%_, _^_, _≤_, _<_, zero-le}
-use native.Mathlib.Nat.{le-refl, le-trans, le-of-eq, le-of-lt, lt-of-lt-of-le, lt-of-le-of-lt, eq-or-lt-of-le, zero-lt-suc, one-mul, mul-comm, mul-assoc, mul-pos, mul-le-mul, mul-le-mul-right, mul-lt-mul-of-pos-right, lt-of-mul-lt-mul-right, eq-of-mul-eq-mul-right, pow-suc}
+use native.Mathlib.Nat.{le-refl, le-trans, le-of-eq, le-of-lt, lt-of-lt-of-le, lt-of-le-of-lt, eq-or-lt-of-le, one-mul, mul-comm, mul-assoc, mul-pos, mul-le-mul, mul-le-mul-right, mul-lt-mul-of-pos-right, lt-of-mul-lt-mul-right, eq-of-mul-eq-mul-right, pow-suc}
 use native.Mathlib.Omega.{arith}
-use mathlib.Core.Bool.{Bool, true, false}
+use mathlib.Core.Bool.{true, false}
 use lib.Dec.{T, lit<}
 use lib.IntN.{ℤ, pos, _+ℤ_, _-ℤ_}
-use lib.Pow.{pow-add, pow-pos, pow-mono}
+use lib.Pow.{pow-add, pow-pos}
 use lib.Ieee.{Float, nan, inf, fin, binary64, up, down, round, lt, fits}
-use lib.Ieee.Digits.{size-lt}
-use lib.Ieee.Fits.{down-pos, up-pos}
-use lib.Ieee.Positive.{first-pos}
+use lib.Ieee.Fits.{down-pos}
 use Rattle.leaves.specs.Numbers.{zero⁺, isFinite}
 use Rattle.leaves.specs.Shift.{shift}
 use Rattle.leaves.specs.Root.{sticky, halfExponent, radicand, sqrt}
 use Rattle.leaves.proofs.Whole.{le-or-lt, over, under, plus, minus, one-side, up-is, down-is}
-use Rattle.leaves.proofs.Laws.{fits→room, room→fits, Room}
+use Rattle.leaves.proofs.Laws.{fits→room, room→fits, Room, size-under}
 use Rattle.leaves.proofs.Zero.{no, is-below, not-above, zero-not-above}
 use Rattle.leaves.proofs.Shift.{shift-value}
 use Rattle.leaves.proofs.Sqrts.{halved, whole, g, radicand-is, radicand-in, digits-of, result-room}
 use Rattle.leaves.proofs.SqrtLaws.{eighth, sqrt-near, sqrt-shift}
 use Rattle.leaves.proofs.Rounding.{Held, held-pow, held-grain}
-use Rattle.leaves.proofs.Units.{U, U-pos, zero-mag, Val, sign, mag, val-mag, val-finite, mag-val, mag-held, val-of}
+use Rattle.leaves.proofs.Units.{U, zero-mag, Val, sign, mag, val-mag, val-pos, val-finite, mag-val, mag-held, val-of}
 use Rattle.leaves.proofs.Range.{Range, range-size, range-value}
 use Rattle.leaves.proofs.Operations.{Moved, pow-le-U, U-le-pow}
 
@@ -36,13 +34,13 @@ even-power : (E : ℕ) → (E ≡ 0) ⊎ ((a : ℕ) × (2 ^ E ≡ 2 * a))
 even-power zero = inl refl
 even-power (suc E) = inr (2 ^ E, omega arith)
 
-no-tie : (m E r : ℕ) → m % 2 ≡ 1 → m < 9007199254740992 → 4503599627370495 ≤ r → m * 2 ^ E ≡ 4 * ((2 * r + 1) * (2 * r + 1)) → ⊥
+no-tie : (m E r : ℕ) → m % 2 ≡ 1 → m < 2 ^ 53 → 2 ^ 52 - 1 ≤ r → m * 2 ^ E ≡ 4 * ((2 * r + 1) * (2 * r + 1)) → ⊥
 no-tie m zero r o h l e = omega arith
 no-tie m (suc zero) r o h l e = omega arith
 no-tie m (suc (suc E)) r o h l e = go (even-power E)
   where
-    square : 9007199254740991 * 9007199254740991 ≤ (2 * r + 1) * (2 * r + 1)
-    square = let a : 9007199254740991 ≤ 2 * r + 1 = omega arith in mul-le-mul a a
+    square : (2 ^ 53 - 1) * (2 ^ 53 - 1) ≤ (2 * r + 1) * (2 * r + 1)
+    square = let a : 2 ^ 53 - 1 ≤ 2 * r + 1 = omega arith in mul-le-mul a a
 
     same : m * 2 ^ E ≡ (2 * r + 1) * (2 * r + 1)
     same = let f : m * 2 ^ suc (suc E) ≡ m * (2 ^ E * 2 * 2) = ap (λ (z : ℕ). m * z) (pow-suc 2 (suc E) ∙ ap (λ (z : ℕ). z * 2) (pow-suc 2 E)) in omega arith
@@ -52,7 +50,7 @@ no-tie m (suc (suc E)) r o h l e = go (even-power E)
     go (inr (a, f)) = let k : m * (2 * a) ≡ (2 * r + 1) * (2 * r + 1) = subst (λ (j : ℕ). m * j ≡ (2 * r + 1) * (2 * r + 1)) f same in omega arith
 
 -- ---- in whole numbers: n is the radicand, q its root to the nearest in units of 4, t = 2 ^ p
-module _ (n q p w : ℕ) (least : 4503599627370496 ≤ q) (large : 324518553658426726783156020576256 ≤ n)
+module _ (n q p w : ℕ) (least : 2 ^ 52 ≤ q) (large : 2 ^ 108 ≤ n)
     (lo : 4 * ((2 * q - 1) * (2 * q - 1)) < n) (hi : n < 4 * ((2 * q + 1) * (2 * q + 1))) (e : n * (2 ^ p * 2 ^ p) ≡ 16 * w) where
   scale : (a : ℕ) → 4 * (a * a) * (2 ^ p * 2 ^ p) ≡ 4 * (a * 2 ^ p * (a * 2 ^ p))
   scale a = omega arith
@@ -78,49 +76,49 @@ module _ (n q p w : ℕ) (least : 4503599627370496 ≤ q) (large : 3245185536584
   under-nearest : (u : ℕ) → Held u → u < q * 2 ^ p → (u + q * 2 ^ p) * (u + q * 2 ^ p) < 4 * w
   under-nearest u H h = go (le-or-lt (2 ^ (p + 52)) u) (eq-or-lt-of-le least)
     where
-      go : (2 ^ (p + 52) ≤ u) ⊎ (u < 2 ^ (p + 52)) → (4503599627370496 ≡ q) ⊎ (4503599627370496 < q) → (u + q * 2 ^ p) * (u + q * 2 ^ p) < 4 * w
+      go : (2 ^ (p + 52) ≤ u) ⊎ (u < 2 ^ (p + 52)) → (2 ^ 52 ≡ q) ⊎ (2 ^ 52 < q) → (u + q * 2 ^ p) * (u + q * 2 ^ p) < 4 * w
       go (inl l) z =
           let c = held-grain p u H l in
           let m : c .0 < q = lt-of-mul-lt-mul-right (2 ^ p) (lt-of-le-of-lt (le-of-eq (sym (c .1))) h) in
           squared (u + q * 2 ^ p) ((c .0 + q) * 2 ^ p) (le-of-eq (let f = c .1 in omega arith)) (below-root (c .0 + q) (omega arith))
       go (inr l) (inr z) =
-          let k : u < 4503599627370496 * 2 ^ p = lt-of-lt-of-le l (le-of-eq (pow-add 2 p 52 ∙ mul-comm (2 ^ p) 4503599627370496)) in
-          squared (u + q * 2 ^ p) ((4503599627370496 + q) * 2 ^ p) (omega arith) (below-root (4503599627370496 + q) (omega arith))
+          let k : u < 2 ^ 52 * 2 ^ p = lt-of-lt-of-le l (le-of-eq (pow-add 2 p 52 ∙ mul-comm (2 ^ p) (2 ^ 52))) in
+          squared (u + q * 2 ^ p) ((2 ^ 52 + q) * 2 ^ p) (omega arith) (below-root (2 ^ 52 + q) (omega arith))
       go (inr l) (inl z) =
-          let k : u + q * 2 ^ p + 1 ≤ 9007199254740992 * 2 ^ p = let f = ap (λ (j : ℕ). j * 2 ^ p) z in omega arith in
+          let k : u + q * 2 ^ p + 1 ≤ 2 ^ 53 * 2 ^ p = let f = ap (λ (j : ℕ). j * 2 ^ p) z in omega arith in
           let f = mul-le-mul k k in
           let d = mul-le-mul-right (2 ^ p * 2 ^ p) large in
-          lt-of-lt-of-le (let j = u + q * 2 ^ p in strict j (9007199254740992 * 2 ^ p) k) (omega (arith, e, d))
+          lt-of-lt-of-le (let j = u + q * 2 ^ p in strict j (2 ^ 53 * 2 ^ p) k) (omega (arith, e, d))
         where
           strict : (a b : ℕ) → a + 1 ≤ b → a * a < b * b
           strict a b h = let f = mul-le-mul h h in omega arith
 
   over-nearest : (u : ℕ) → Held u → q * 2 ^ p < u → 4 * w < (u + q * 2 ^ p) * (u + q * 2 ^ p)
   over-nearest u H h =
-      let l : 2 ^ (p + 52) ≤ u = le-trans (le-of-eq (pow-add 2 p 52 ∙ mul-comm (2 ^ p) 4503599627370496)) (le-trans (mul-le-mul-right (2 ^ p) least) (le-of-lt h)) in
+      let l : 2 ^ (p + 52) ≤ u = le-trans (le-of-eq (pow-add 2 p 52 ∙ mul-comm (2 ^ p) (2 ^ 52))) (le-trans (mul-le-mul-right (2 ^ p) least) (le-of-lt h)) in
       let c = held-grain p u H l in
       let m : q < c .0 = lt-of-mul-lt-mul-right (2 ^ p) (lt-of-lt-of-le h (le-of-eq (c .1))) in
       lt-of-lt-of-le (above-root (c .0 + q) (omega arith)) (le-of-eq (let f = c .1 in ap (λ (a : ℕ). a * a) (omega arith)))
 
   -- so V is within 2 ^ -53 of R, relatively
-  error-below : q * 2 ^ p * 9007199254740991 * (q * 2 ^ p * 9007199254740991) ≤ w * 81129638414606681695789005144064
-  error-below = squares-up (q * 2 ^ p * 9007199254740991) ((2 * q - 1) * 2 ^ p) w (below-step q (2 ^ p) least) (le-of-lt (below-root (2 * q - 1) (le-refl (2 * q - 1))))
+  error-below : q * 2 ^ p * (2 ^ 53 - 1) * (q * 2 ^ p * (2 ^ 53 - 1)) ≤ w * 2 ^ 106
+  error-below = squares-up (q * 2 ^ p * (2 ^ 53 - 1)) ((2 * q - 1) * 2 ^ p) w (below-step q (2 ^ p) least) (le-of-lt (below-root (2 * q - 1) (le-refl (2 * q - 1))))
     where
-      below-step : (q t : ℕ) → 4503599627370496 ≤ q → q * t * 9007199254740991 ≤ (2 * q - 1) * t * 4503599627370496
+      below-step : (q t : ℕ) → 2 ^ 52 ≤ q → q * t * (2 ^ 53 - 1) ≤ (2 * q - 1) * t * 2 ^ 52
       below-step (suc q) t h = let l = mul-le-mul-right t h in let e : 2 * suc q - 1 ≡ 2 * q + 1 = omega arith in rw e (omega arith)
       below-step zero t h = absurd (omega arith)
 
-      squares-up : (a b w : ℕ) → a ≤ b * 4503599627370496 → b * b ≤ 4 * w → a * a ≤ w * 81129638414606681695789005144064
+      squares-up : (a b w : ℕ) → a ≤ b * 2 ^ 52 → b * b ≤ 4 * w → a * a ≤ w * 2 ^ 106
       squares-up a b w h k = let f = mul-le-mul h h in omega arith
 
-  error-above : w * 81129638414606681695789005144064 ≤ q * 2 ^ p * 9007199254740993 * (q * 2 ^ p * 9007199254740993)
-  error-above = squares-down (q * 2 ^ p * 9007199254740993) ((2 * q + 1) * 2 ^ p) w (let l = mul-le-mul-right (2 ^ p) least in omega arith) (le-of-lt (above-root (2 * q + 1) (le-refl (2 * q + 1))))
+  error-above : w * 2 ^ 106 ≤ q * 2 ^ p * (2 ^ 53 + 1) * (q * 2 ^ p * (2 ^ 53 + 1))
+  error-above = squares-down (q * 2 ^ p * (2 ^ 53 + 1)) ((2 * q + 1) * 2 ^ p) w (let l = mul-le-mul-right (2 ^ p) least in omega arith) (le-of-lt (above-root (2 * q + 1) (le-refl (2 * q + 1))))
     where
-      squares-down : (a b w : ℕ) → b * 4503599627370496 ≤ a → 4 * w ≤ b * b → w * 81129638414606681695789005144064 ≤ a * a
+      squares-down : (a b w : ℕ) → b * 2 ^ 52 ≤ a → 4 * w ≤ b * b → w * 2 ^ 106 ≤ a * a
       squares-down a b w h k = let f = mul-le-mul h h in omega arith
 
 -- ---- the root of x = (suc m) * 2 ^ e: n, q and p of the definition
-twos : (a u p : ℕ) → 2 ^ (a + 56 + u + (p + p)) ≡ 2 ^ a * 72057594037927936 * 2 ^ u * (2 ^ p * 2 ^ p)
+twos : (a u p : ℕ) → 2 ^ (a + 56 + u + (p + p)) ≡ 2 ^ a * 2 ^ 56 * 2 ^ u * (2 ^ p * 2 ^ p)
 twos a u p = pow-add 2 (a + 56 + u) (p + p) ∙ ap₂ _*_ (pow-add 2 (a + 56) u ∙ ap (λ (z : ℕ). z * 2 ^ u) (pow-add 2 a 56)) (pow-add 2 p p)
 
 tops : (o : ℕ) → 2 ^ (4 + (o + 1074 + 1074)) ≡ 16 * (2 ^ o * U * U)
@@ -181,14 +179,14 @@ module _ (m : ℕ) (e : ℤ) (t : T (fits binary64 (fin false (suc m) e))) where
   -- and R is the root of n, in units of 2 ^ p / 4
   root-of : (w : ℕ) → Val (fin false (suc m) e) false w → n * (2 ^ p * 2 ^ p) ≡ 16 * (w * U)
   root-of w v =
-      gathered n (suc m) (2 ^ over (g m e room)) 72057594037927936 (2 ^ under e) (2 ^ p * 2 ^ p) (2 ^ over e) w U (pow-pos (under e)) (radicand-is m e room) (rw (up-is e, down-is e) at (v .1))
+      gathered n (suc m) (2 ^ over (g m e room)) (2 ^ 56) (2 ^ under e) (2 ^ p * 2 ^ p) (2 ^ over e) w U (pow-pos (under e)) (radicand-is m e room) (rw (up-is e, down-is e) at (v .1))
       (sym (twos (over (g m e room)) (under e) p) ∙ ap (λ (z : ℕ). 2 ^ z) places ∙ tops (over e))
 
-  few : suc m < 9007199254740992
-  few = lt-of-lt-of-le (size-lt (suc m)) (pow-mono (room .digits))
+  few : suc m < 2 ^ 53
+  few = size-under (suc m) 53 (room .digits)
 
   odd-times : n ≡ suc m * 2 ^ (over (g m e room) + 56)
-  odd-times = radicand-is m e room ∙ mul-assoc (suc m) (2 ^ over (g m e room)) 72057594037927936 ∙ ap (λ (z : ℕ). suc m * z) (sym (pow-add 2 (over (g m e room)) 56))
+  odd-times = radicand-is m e room ∙ mul-assoc (suc m) (2 ^ over (g m e room)) (2 ^ 56) ∙ ap (λ (z : ℕ). suc m * z) (sym (pow-add 2 (over (g m e room)) 56))
 
   low-side : 4 * ((2 * q - 1) * (2 * q - 1)) < n
   low-side =
@@ -215,17 +213,17 @@ pub record Nearest (x : Float) : Type 0 where
   pub plus : sign (sqrt x) ≡ false
   pub above : (u : ℕ) → Held u → u < mag (sqrt x) → (u + mag (sqrt x)) * (u + mag (sqrt x)) < 4 * (mag x * U)
   pub below : (u : ℕ) → Held u → mag (sqrt x) < u → 4 * (mag x * U) < (u + mag (sqrt x)) * (u + mag (sqrt x))
-  pub at-most : mag (sqrt x) * 9007199254740991 * (mag (sqrt x) * 9007199254740991) ≤ mag x * U * 81129638414606681695789005144064
-  pub at-least : mag x * U * 81129638414606681695789005144064 ≤ mag (sqrt x) * 9007199254740993 * (mag (sqrt x) * 9007199254740993)
+  pub at-most : mag (sqrt x) * (2 ^ 53 - 1) * (mag (sqrt x) * (2 ^ 53 - 1)) ≤ mag x * U * 2 ^ 106
+  pub at-least : mag x * U * 2 ^ 106 ≤ mag (sqrt x) * (2 ^ 53 + 1) * (mag (sqrt x) * (2 ^ 53 + 1))
 
-pub root-nearest : (m : ℕ) (e : ℤ) → T (fits binary64 (fin false (suc m) e)) → Nearest (fin false (suc m) e)
+root-nearest : (m : ℕ) (e : ℤ) → T (fits binary64 (fin false (suc m) e)) → Nearest (fin false (suc m) e)
 root-nearest m e t =
     let x = fin false (suc m) e in
     let v = root-val m e t in
     let s = val-mag (sqrt x) false (q m e t * 2 ^ p m e t) v in
     let c = sqrt-near m e t in
-    let w = mag-val x t (finite-fin false (suc m) e) in
-    let at = root-of m e t (mag x) (w .0 ∙ sign-fin false (suc m) e, w .1) in
+    let w : Val x false (mag x) = unfold sign isFinite in mag-val x t tt in
+    let at = root-of m e t (mag x) w in
     record {
       fit = fits-root m e (fits→room false m e t);
       finite = val-finite (sqrt x) false (q m e t * 2 ^ p m e t) v;
@@ -236,12 +234,6 @@ root-nearest m e t =
       at-least = rw (s .1) (error-above (n m e t) (q m e t) (p m e t) (mag x * U) (c .digits .0) (radicand-in m e (fits→room false m e t) .0) (low-side m e t) (high-side m e t) at);
     }
   where
-    finite-fin : (s : Bool) (m : ℕ) (e : ℤ) → T (isFinite (fin s m e))
-    finite-fin s m e = unfold isFinite in tt
-
-    sign-fin : (s : Bool) (m : ℕ) (e : ℤ) → sign (fin s m e) ≡ s
-    sign-fin s m e = unfold sign in refl
-
     fits-root : (m : ℕ) (e : ℤ) (r : Room (suc m) e) → T (fits binary64 (sqrt (fin false (suc m) e)))
     fits-root m e r = unfold sqrt shift in let d = digits-of m e r in subst (λ (z : Float). T (fits binary64 (shift (halfExponent (suc m) e -ℤ pos 55) z))) (sym (d .is)) (room→fits false (d .m) (d .e +ℤ (halfExponent (suc m) e -ℤ pos 55)) (result-room m e r d))
 
@@ -271,7 +263,7 @@ module _ {x : Float} (r : Nearest x) (u : ℕ) (H : Held u) where
   root-most h = elim (le-or-lt (mag (sqrt x)) u) [ inl l ↦ l | inr l ↦ absurd (let a = r .above u H l in let v = mag (sqrt x) in let k : 2 * u ≤ u + v = (omega arith) in let f = mul-le-mul k k in omega arith) ]
 
 -- ---- its range, and its copy
-pub range-sqrt : {g₁ L₁ B₁ : ℕ} (x : Float) → Range g₁ L₁ B₁ x → lt x zero⁺ ≡ false → (g h : ℕ) → 2 ^ (g + 52) * 2 ^ (g + 52) ≤ L₁ * U → B₁ * U ≤ 2 ^ h * 2 ^ h → Range g (2 ^ (g + 52)) (2 ^ h) (sqrt x)
+range-sqrt : {g₁ L₁ B₁ : ℕ} (x : Float) → Range g₁ L₁ B₁ x → lt x zero⁺ ≡ false → (g h : ℕ) → 2 ^ (g + 52) * 2 ^ (g + 52) ≤ L₁ * U → B₁ * U ≤ 2 ^ h * 2 ^ h → Range g (2 ^ (g + 52)) (2 ^ h) (sqrt x)
 unfolding isFinite
 range-sqrt nan r n g h a b = absurd (r .finite)
 range-sqrt (inf s) r n g h a b = absurd (r .finite)
@@ -281,7 +273,7 @@ range-sqrt (fin true (suc m) e) r n g h a b = no (is-below m e) n
 range-sqrt (fin false (suc m) e) r n g h a b =
     let x = fin false (suc m) e in
     let q = root-nearest m e (r .fit) in
-    let p : 0 < mag x = first-pos (mag x) (down e) (subst (λ (z : ℕ). 0 < z) (range-value r .1) (mul-pos (mul-pos (zero-lt-suc m) (up-pos e)) U-pos)) in
+    let p : 0 < mag x = val-pos false m e (sign x) (mag x) (range-value r) in
     range-size g (2 ^ h) (sqrt x) (q .fit) (q .finite) (inr (root-least q (2 ^ (g + 52)) (held-pow (g + 52)) (le-trans a (mul-le-mul-right U (r .least p)))))
     (root-most q (2 ^ h) (held-pow h) (le-trans (mul-le-mul-right U (r .most)) b))
 

@@ -36,7 +36,7 @@ module _ (m : ℕ) (e : ℤ) (r : Room (suc m) e) where
 
   pub below64 : T (lt (fin false (suc m) (g m e r)) (fin false 1 (pos 64)))
   unfolding lt
-  below64 = rw (down-g, up-is) (lt→ltb (suc m * 2 ^ over (g m e r) * 1) (1 * 18446744073709551616 * 1) (omega (arith, M-lt m e r)))
+  below64 = rw (down-g, up-is) (lt→ltb (suc m * 2 ^ over (g m e r) * 1) (1 * 2 ^ 64 * 1) (omega (arith, M-lt m e r)))
 
   pub last : pow2Scaled (round binary64 false (sticky (radicand (suc m) e)) 1) (halfExponent (suc m) e -ℤ pos 55) ≡ sqrt (fin false (suc m) e)
   unfolding sqrt shift

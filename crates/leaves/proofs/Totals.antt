@@ -76,7 +76,7 @@ module _ (k g h M c : ℕ) (S : M ≤ 2 ^ c) (C : c ≤ 52) (O : c + h + k ≤ 2
   moved-sum l u u' each = part-moved (le-refl M) (part-sum l M u u' (le-refl M) each)
 
 -- ---- the largest size
-pub amax-shift : (k : ℤ) (n : ℕ) (f : ℕ → Float) → amaxTo n (λ t. shift k (f t)) ≡ shift k (amaxTo n f)
+amax-shift : (k : ℤ) (n : ℕ) (f : ℕ → Float) → amaxTo n (λ t. shift k (f t)) ≡ shift k (amaxTo n f)
 unfolding amaxTo loop
 amax-shift k zero f = sym (shift-zero⁺ k)
 amax-shift k (suc n) f = ap₂ larger (amax-shift k n f) (abs-shift k (f n)) ∙ larger-shift k (amaxTo n f) (abs (f n))

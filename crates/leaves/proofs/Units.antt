@@ -1,27 +1,27 @@
 -- Values of binary64 as whole numbers of units, a unit being the format's smallest value, 2 ^ -1074. `Val x s u` says that x is finite, of u units and with the sign s; `mag x` is that u.
 -- Comparisons are those of the numbers, and a shift multiplies them. `rounded s n d` is the value of the format nearest to n / d units: it is `near n d` units, or an infinity from 2 ^ 1024 on,
 -- and 2 ^ t times a fraction rounds to the rounded fraction, shifted, where nothing overflows (`rounded-shift`). Assumes nothing.
-use mathlib.Core.Path.{_≡_, refl, sym, ap, _∙_}
+use mathlib.Core.Path.{_≡_, refl, sym, ap, _∙_, subst}
 use mathlib.Core.Logic.{_⊎_, inl, inr}
 use Prim.Native.Nat.{ℕ, zero, suc, _+_, _*_, _/_, _^_, _≤_, _<_}
-use native.Mathlib.Nat.{le-trans, le-of-eq, lt-of-lt-of-le, lt-of-le-of-lt, zero-mul, mul-one, mul-assoc, mul-right-comm, mul-pos, mul-le-mul-left, mul-lt-mul-of-pos-right, eq-of-mul-eq-mul-right, mul-div-cancel}
+use native.Mathlib.Nat.{le-trans, le-of-eq, lt-of-le-of-lt, zero-lt-suc, zero-mul, mul-one, mul-assoc, mul-right-comm, mul-pos, mul-le-mul-left, mul-lt-mul-of-pos-right, eq-of-mul-eq-mul-right, mul-div-cancel}
 use native.Mathlib.Omega.{arith}
 use mathlib.Core.Bool.{Bool, true, false, not, _&&_, _||_, Bool·beq, cond}
 use lib.Dec.{T, ltb, eqb, lit<}
 use lib.IntN.{ℤ, pos, _+ℤ_}
 use lib.Pow.{pow-add, pow-pos, pow-mono}
 use lib.Ieee.{Float, nan, inf, fin, binary64, up, down, odd, units, round, neg, below, level, lt, eq, fits}
-use lib.Ieee.Digits.{size-lt}
-use lib.Ieee.Fits.{down-pos, round-fits}
+use lib.Ieee.Fits.{up-pos, down-pos, round-fits}
 use lib.Ieee.Exact.{HasValue, units-val}
 use lib.Ieee.Order.{drop, kept}
+use lib.Ieee.Positive.{first-pos}
 use borrow.Author.Tests.{ltb-true, ltb-false}
 use Rattle.leaves.specs.Numbers.{zero⁺, isFinite, abs}
 use Rattle.leaves.specs.Shift.{shift}
 use Rattle.leaves.proofs.Whole.{over, under, plus, one-side, up-is, down-is}
-use Rattle.leaves.proofs.Laws.{fits→room, room→fits, place, up-place, digits-in, digits-out, value-unique}
+use Rattle.leaves.proofs.Laws.{fits→room, room→fits, place, in-units, size-under, digits-in, digits-out, value-unique}
 use Rattle.leaves.proofs.Shift.{shift-value, below-scaled, level-scaled}
-use Rattle.leaves.proofs.Rounding.{near, Held, Grained, near-scale, round-near}
+use Rattle.leaves.proofs.Rounding.{near, Held, Grained, held-small, held-times, near-scale, round-near}
 
 -- ---- definitions
 -- 1 is U units, and from Top units on a result is an infinity. Both stay shut: they are too large to compute with
@@ -74,6 +74,9 @@ zero-val s e = (refl, simp zero-mul)
 pub zero-mag : (s : Bool) (e : ℤ) → mag (fin s zero e) ≡ 0
 zero-mag s e = val-mag (fin s zero e) s 0 (zero-val s e) .1
 
+pub val-pos : (s : Bool) (m : ℕ) (e : ℤ) (t : Bool) (u : ℕ) → Val (fin s (suc m) e) t u → 0 < u
+val-pos s m e t u v = first-pos u (down e) (subst (λ (n : ℕ). 0 < n) (v .1) (mul-pos (mul-pos (zero-lt-suc m) (up-pos e)) U-pos))
+
 pub val-finite : (x : Float) (s : Bool) (u : ℕ) → Val x s u → T (isFinite x)
 unfolding isFinite
 val-finite nan s u v = v
@@ -92,29 +95,25 @@ val-of (fin t m e) s a c u C v h = (v .0, eq-of-mul-eq-mul-right c C (m * up e *
 pub val-unique : (x y : Float) (s : Bool) (u : ℕ) → T (fits binary64 x) → T (fits binary64 y) → Val x s u → Val y s u → x ≡ y
 val-unique x y s u p q v w = value-unique binary64 x y s u U U-pos p q v w
 
--- a finite value of the format: m digits and the zeros after them
-places : (m : ℕ) (e : ℤ) → under e ≤ 1074 → m * up e * U ≡ m * 2 ^ place e * down e
-unfolding U
-places m e h = mul-assoc m (up e) (2 ^ 1074) ∙ ap (λ (z : ℕ). m * z) (up-place e h) ∙ sym (mul-assoc m (2 ^ place e) (down e))
-
+-- a finite value of the format: its digits and the zeros after them
 pub record Units (x : Float) : Type 0 where
   pub count : ℕ
   pub val : Val x (sign x) count
   pub held : Held count
   pub below : count < Top
 
-pub units-of : (x : Float) → T (fits binary64 x) → T (isFinite x) → Units x
-unfolding sign isFinite Top
+units-of : (x : Float) → T (fits binary64 x) → T (isFinite x) → Units x
+unfolding sign isFinite Top U
 units-of nan t f = absurd f
 units-of (inf s) t f = absurd f
-units-of (fin s zero e) t f = record { count = 0; val = zero-val s e; held = record { digits = 0; zeros = 0; few = lit< tt; is = refl }; below = lit< tt }
+units-of (fin s zero e) t f = record { count = 0; val = zero-val s e; held = held-small 0 (lit< tt); below = lit< tt }
 units-of (fin s (suc m) e) t f =
     let r = fits→room s m e t in
     let j = place e in
     record {
       count = suc m * 2 ^ j;
-      val = (refl, places (suc m) e (r .low));
-      held = record { digits = suc m; zeros = j; few = lt-of-lt-of-le (size-lt (suc m)) (pow-mono (r .digits)); is = refl };
+      val = (refl, in-units (suc m) e (r .low));
+      held = held-times (suc m) j (size-under (suc m) 53 (r .digits));
       below = digits-out (suc m) j 2098 (omega (arith, r .low, r .high));
     }
 
@@ -227,7 +226,7 @@ rounded-cases s n d D = go (ltb (near n d) (2 ^ 2098)) refl (round-near s n d D)
     go false e f = inr (ltb-false (near n d) (2 ^ 2098) e, f)
 
 -- a finite result has not overflowed
-pub rounded-under : (s : Bool) (n d : ℕ) → 0 < d → T (isFinite (rounded s n d)) → near n d < Top
+rounded-under : (s : Bool) (n d : ℕ) → 0 < d → T (isFinite (rounded s n d)) → near n d < Top
 unfolding isFinite
 rounded-under s n d D t = elim (rounded-cases s n d D) [ inl h ↦ h | inr (h, e) ↦ absurd (rw e at t) ]
 

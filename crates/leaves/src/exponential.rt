@@ -6,7 +6,8 @@ ghost use Rattle.leaves.specs.Exp as Exp;
 ghost use Rattle.leaves.specs.Inner as Inner;
 use crate::scaling::pow2_scaled;
 
-const LN_2: f64 = 0.693147180559945309417232121458;
+// ln 2; and in two parts, of which H has so few digits that its products with whole numbers are exact.
+pub const LN_2: f64 = 0.693147180559945309417232121458;
 
 const H: f64 = 6.93147180369123816490e-01;
 

@@ -2,6 +2,9 @@
 ghost use mathlib.Core.Path.{_≡_};
 ghost use Rattle.leaves.specs.Numbers as Numbers;
 
+// 2^-52.
+pub const EPSILON: f64 = 2.220446049250313e-16;
+
 // The float with these bits; those of any NaN give a NaN.
 pub fn float(bits: u64) -> f64
     ensures { λ r. ⌜ r ≡ Numbers.float bits ⌝ }

@@ -12,7 +12,7 @@ use crate::scaling::pow2_scaled;
 // About sqrt(x), for a normal x above 0: nearly always the nearest float. Nothing is promised.
 // With x = z * 4^k and the root r of a near square, z = r^2 + d, the root of x is 2^k times
 // r + d / (2 r) * (1 - v + 2 v^2 - 5 v^3 ..), where v = d / (2 r)^2 and the numbers are Catalan's.
-// Near 1 every other root lies next to the middle of two floats: there r is 1, and d and d / 2 are exact.
+// Near 1 every other root lies next to the middle of two floats: there r is a power of two, and d and d / (2 r) are exact.
 fn near_root(x: f64) -> f64 {
     if x > 0.0 {
         let bits = f64::to_bits(x);

@@ -24,7 +24,7 @@ unfolding allFinite
 finite-same m n f g h = ap (λ (o : Option (ℕ × ℕ)). elim o as (λ z. Bool) [ none ↦ true | some k ↦ false ]) (first-entry-alike m n (λ i j. not (isFinite (f i j))) (λ i j. not (isFinite (g i j))) (λ i j a b. ap not (h i j a b)))
 
 module _ (m n : ℕ) (f g : Matrix) (h : (i j : ℕ) → i < m → j < n → f i j ≡ g i j) where
-  pub amax-alike : amax m n f ≡ amax m n g
+  amax-alike : amax m n f ≡ amax m n g
   unfolding amax
   amax-alike = amax-ext (m * n) (λ k. f (k / n) (k % n)) (λ k. g (k / n) (k % n)) (cell-ext m n f g h)
 
@@ -50,7 +50,7 @@ module _ (n : ℕ) (f g : Matrix) (h : (i j : ℕ) → i < n → j < n → f i j
   unfolding trace
   trace-alike = sum-ext n (λ i. f i i) (λ i. g i i) (λ i l. h i i l l)
 
-  pub start-alike : (scale : Float) → start n scale f ≡ start n scale g
+  start-alike : (scale : Float) → start n scale f ≡ start n scale g
   unfolding start
   start-alike scale =
       ap (λ (b : List Float). rows n n (λ i j. (at b n i j ⊕ at b n j i) ⊗ half))
@@ -67,6 +67,16 @@ decomposedBy limit n finite empty scale b = elim finite [ false ↦ unturned n f
 pub decompose-is : (limit n : ℕ) (a : Matrix) → decompose limit n a ≡ decomposedBy limit n (allFinite n n a) (eq (amax n n a) zero⁺) (amax n n a) (start n (amax n n a) a)
 unfolding decompose
 decompose-is limit n a = refl
+
+-- so what nothing turned has, and what the sweeps leave, every decomposition has
+pub decompose-cases : (P : Decomposition → Type 0) (limit n : ℕ) (a : Matrix) → ((found : Bool) → P (unturned n found)) → P (scaledBack n (amax n n a) (swept limit n (start n (amax n n a) a))) → P (decompose limit n a)
+unfolding decompose
+decompose-cases P limit n a still turned = go (allFinite n n a) (eq (amax n n a) zero⁺)
+  where
+    go : (finite empty : Bool) → P (decomposedBy limit n finite empty (amax n n a) (start n (amax n n a) a))
+    go false empty = still false
+    go true true = still true
+    go true false = turned
 
 pub decompose-alike : (limit n : ℕ) (f g : Matrix) → ((i j : ℕ) → i < n → j < n → f i j ≡ g i j) → decompose limit n f ≡ decompose limit n g
 unfolding decompose

@@ -1,19 +1,18 @@
--- What stands in each row and column of a stored matrix whose columns p and q are replaced (`rows-all`) or turned (`columns-at`), or whose rows are turned (`turned-rows-at`).
--- Assumes nothing.
+-- What stands in each row and column of a stored matrix in which two numbers of every row, or of every column, are replaced (`lines-all`) or turned (`columns-at`,
+-- `turned-rows-at`). Assumes nothing.
 use mathlib.Core.Path.{_≡_, refl, sym, ap, _∙_}
 use mathlib.Core.Logic.{_⊎_, inl, inr, _≢_}
 use mathlib.Core.Bool.{Bool, true, false, cond}
 use mathlib.Core.List.{List}
 use Prim.Native.Nat.{ℕ, zero, suc, _+_, _*_, _/_, _%_, _≤_, _<_}
 use native.Mathlib.Nat.{le-refl, le-trans, le-suc, le-of-suc-le-suc, lt-trans, ne-of-lt, eq-or-lt-of-le, not-suc-le-zero}
-use native.Mathlib.Omega.{arith}
 use lib.Dec.{eqb}
 use lib.ListN.{length, getD, set, length-set}
 use lib.Seq.{getD-set-same, getD-set-other}
 use borrow.Author.Tests.{eqb-true, eqb-false, eq-eqb, ne-eqb}
 use lib.Ieee.{Float, nan}
 use Rattle.leaves.specs.Numbers.{_⊕_, _⊖_, _⊗_}
-use Rattle.leaves.specs.Loops.{loop}
+use Rattle.leaves.specs.Loops.{loop, nth}
 use Rattle.leaves.proofs.Loops.{cell, cell-row, cell-col}
 use Rattle.matrix.specs.Matrix.{at}
 use Rattle.matrix.specs.Rotation.{turn, turnColumns, turnRows}
@@ -38,161 +37,110 @@ same-row n i k j m hj hm e = sym (cell-row k n j hj) ∙ ap (λ (a : ℕ). a / n
 pub same-column : (n i k j m : ℕ) → j < n → m < n → k * n + j ≡ i * n + m → j ≡ m
 same-column n i k j m hj hm e = sym (cell-col k n j hj) ∙ ap (λ (a : ℕ). a % n) e ∙ cell-col i n m hm
 
--- ---- the numbers in columns p and q replaced, row by row: what stands in row k and column j
-module _ (n p q : ℕ) (pq : p < q) (qn : q < n) where
-  in-row : (i j m : ℕ) → eqb (i * n + j) (i * n + m) ≡ eqb j m
-  in-row i j m = go (eqb j m) (eqb-true j m) (eqb-false j m)
-    where
-      go : (b : Bool) → (b ≡ true → j ≡ m) → (b ≡ false → j ≢ m) → eqb (i * n + j) (i * n + m) ≡ b
-      go true t f = eq-eqb (i * n + j) (i * n + m) (ap (λ (j : ℕ). i * n + j) (t refl))
-      go false t f = ne-eqb (i * n + j) (i * n + m) (λ e. f refl (omega arith))
+-- ---- the lines of an n × n matrix, which are its rows or its columns: number j of line k stands at `index k j`
+pub record Lines (n : ℕ) (index : ℕ → ℕ → ℕ) : Type 0 where
+  pub inside : (k j : ℕ) → k < n → j < n → index k j < n * n
+  pub apart : (k j i m : ℕ) → k < n → j < n → i < n → m < n → index k j ≡ index i m → (k ≡ i) × (j ≡ m)
 
-  -- x and y in row i
-  module _ (i : ℕ) (v : List Float) (l : length v ≡ n * n) (hi : i < n) (x y : Float) where
-    abbrev put-row : List Float
-    put-row = set (set v (i * n + p) x) (i * n + q) y
+abbrev pub inRows : ℕ → ℕ → ℕ → ℕ
+inRows n k j = k * n + j
 
-    in-list : (j : ℕ) → j < n → i * n + j < length v
-    in-list j h = rw l (cell i n j n hi h)
+abbrev pub inColumns : ℕ → ℕ → ℕ → ℕ
+inColumns n k j = j * n + k
 
-    looked : (k : ℕ) → getD put-row k nan ≡ cond (eqb k (i * n + p)) x (cond (eqb k (i * n + q)) y (getD v k nan))
-    looked k = two-set v (i * n + p) (i * n + q) k x y (in-list p (lt-trans pq qn)) (in-list q qn) (λ e. ne-of-lt pq (omega arith))
+pub row-lines : (n : ℕ) → Lines n (inRows n)
+row-lines n = record { inside = λ k j hk hj. cell k n j n hk hj; apart = λ k j i m hk hj hi hm e. (same-row n i k j m hj hm e, same-column n i k j m hj hm e) }
 
-    this-put : (j : ℕ) → at put-row n i j ≡ cond (eqb j p) x (cond (eqb j q) y (at v n i j))
-    this-put j = looked (i * n + j) ∙ rw (in-row i j p, in-row i j q)
+column-lines : (n : ℕ) → Lines n (inColumns n)
+column-lines n = record { inside = λ k j hk hj. cell j n k n hj hk; apart = λ k j i m hk hj hi hm e. (same-column n m j k i hk hi e, same-row n m j k i hk hi e) }
 
-    other-put : (k j : ℕ) → j < n → k ≢ i → at put-row n k j ≡ at v n k j
-    other-put k j hj d = looked (k * n + j) ∙ rw (ne-eqb (k * n + j) (i * n + p) (λ e. d (same-row n i k j p hj (lt-trans pq qn) e)), ne-eqb (k * n + j) (i * n + q) (λ e. d (same-row n i k j q hj qn e)))
-
-  -- X and Y put into the rows below m of v₀, each computed from the list as it then stands
-  module _ (v₀ : List Float) (X Y : List Float → ℕ → Float) where
-    pub record Rows (m : ℕ) (v : List Float) : Type 0 where
-      pub len : length v ≡ n * n
-      pub done : (k j : ℕ) → k < n → j < n → k < m → at v n k j ≡ cond (eqb j p) (X v₀ k) (cond (eqb j q) (Y v₀ k) (at v₀ n k j))
-      pub left : (k j : ℕ) → k < n → j < n → m ≤ k → at v n k j ≡ at v₀ n k j
-
-    -- what a row gets does not depend on the rows before it
-    module _ (kept : (m : ℕ) (v : List Float) → m < n → Rows m v → (X v m ≡ X v₀ m) × (Y v m ≡ Y v₀ m)) where
-      abbrev put : ℕ → List Float → List Float
-      put k v = set (set v (k * n + p) (X v k)) (k * n + q) (Y v k)
-
-      rows-more : (m : ℕ) (v : List Float) → m < n → Rows m v → Rows (suc m) (put m v)
-      rows-more m v hm H = record {
-        len = simp length-set (H .len);
-        done = λ k j hk hj l. go k j hk hj (eq-or-lt-of-le (le-of-suc-le-suc l));
-        left = λ k j hk hj l. other-put m v (H .len) hm (X v m) (Y v m) k j hj (λ e. ne-of-lt l (sym e)) ∙ H .left k j hk hj (le-trans (le-suc m) l);
-      }
-        where
-          go : (k j : ℕ) → k < n → j < n → (k ≡ m) ⊎ (k < m) → at (put m v) n k j ≡ cond (eqb j p) (X v₀ k) (cond (eqb j q) (Y v₀ k) (at v₀ n k j))
-          go k j hk hj (inr l) = other-put m v (H .len) hm (X v m) (Y v m) k j hj (ne-of-lt l) ∙ H .done k j hk hj l
-          go k j hk hj (inl e) =
-              let old = kept m v hm H in
-              ap (λ (k : ℕ). at (put m v) n k j) e ∙ this-put m v (H .len) hm (X v m) (Y v m) j ∙ (λ t. cond (eqb j p) (old .0 t) (cond (eqb j q) (old .1 t) (H .left m j hm hj (le-refl m) t)))
-              ∙ ap (λ (k : ℕ). cond (eqb j p) (X v₀ k) (cond (eqb j q) (Y v₀ k) (at v₀ n k j))) (sym e)
-
-      pub rows-all : (m : ℕ) → m ≤ n → length v₀ ≡ n * n → Rows m (loop m put v₀)
-      unfolding loop
-      rows-all zero l e = record { len = e; done = λ k j hk hj h. absurd (not-suc-le-zero h); left = λ k j hk hj h. refl }
-      rows-all (suc m) l e = rows-more m (loop m put v₀) l (rows-all m (le-trans (le-suc m) l) e)
-
--- ---- columns p and q turned
-module _ (c s : Float) (n p q : ℕ) (pq : p < q) (qn : q < n) where
+-- ---- numbers p and q of every line replaced, line by line
+module _ (n : ℕ) (index : ℕ → ℕ → ℕ) (lines : Lines n index) (p q : ℕ) (pq : p < q) (qn : q < n) where
   pn : p < n
   pn = lt-trans pq qn
 
-  abbrev at-p : List Float → ℕ → Float
-  at-p v k = c ⊗ at v n k p ⊖ s ⊗ at v n k q
+  -- by x and y in line i
+  module _ (i : ℕ) (v : List Float) (l : length v ≡ n * n) (hi : i < n) (x y : Float) where
+    abbrev put-line : List Float
+    put-line = set (set v (index i p) x) (index i q) y
 
-  abbrev at-q : List Float → ℕ → Float
-  at-q v k = s ⊗ at v n k p ⊕ c ⊗ at v n k q
-
-  -- row i turned
-  module _ (i : ℕ) (v : List Float) (l : length v ≡ n * n) (hi : i < n) where
-    abbrev pub one-row : List Float
-    one-row = turn c s (i * n + p) (i * n + q) v
-
-    pub length-one : length one-row ≡ n * n
-    unfolding turn
-    length-one = simp length-set l
-
-    pub this-row : (j : ℕ) → at one-row n i j ≡ turnedRow c s p q (at v n i) j
-    unfolding turn
-    this-row j = this-put n p q pq qn i v l hi (at-p v i) (at-q v i) j
-
-    pub other-row : (k j : ℕ) → j < n → k ≢ i → at one-row n k j ≡ at v n k j
-    unfolding turn
-    other-row k j hj d = other-put n p q pq qn i v l hi (at-p v i) (at-q v i) k j hj d
-
-  module _ (v₀ : List Float) where
-    kept : (m : ℕ) (v : List Float) → m < n → Rows n p q pq qn v₀ at-p at-q m v → (at-p v m ≡ at-p v₀ m) × (at-q v m ≡ at-q v₀ m)
-    kept m v hm H = let x = H .left m p hm pn (le-refl m) in let y = H .left m q hm qn (le-refl m) in ((λ t. c ⊗ x t ⊖ s ⊗ y t), (λ t. s ⊗ x t ⊕ c ⊗ y t))
-
-    pub length-columns : length v₀ ≡ n * n → length (turnColumns n p q c s v₀) ≡ n * n
-    unfolding turnColumns turn
-    length-columns e = rows-all n p q pq qn v₀ at-p at-q kept n (le-refl n) e .len
-
-    pub columns-at : length v₀ ≡ n * n → (i j : ℕ) → i < n → j < n → at (turnColumns n p q c s v₀) n i j ≡ turnedRow c s p q (at v₀ n i) j
-    unfolding turnColumns turn
-    columns-at e i j hi hj = rows-all n p q pq qn v₀ at-p at-q kept n (le-refl n) e .done i j hi hj hi
-
-  -- ---- rows p and q turned: column k
-  in-column : (i m k : ℕ) → k < n → eqb (i * n + k) (m * n + k) ≡ eqb i m
-  in-column i m k hk = go (eqb i m) (eqb-true i m) (eqb-false i m)
-    where
-      go : (b : Bool) → (b ≡ true → i ≡ m) → (b ≡ false → i ≢ m) → eqb (i * n + k) (m * n + k) ≡ b
-      go true t f = eq-eqb (i * n + k) (m * n + k) (ap (λ (i : ℕ). i * n + k) (t refl))
-      go false t f = ne-eqb (i * n + k) (m * n + k) (λ e. f refl (same-row n m i k k hk hk e))
-
-  module _ (k : ℕ) (v : List Float) (l : length v ≡ n * n) (hk : k < n) where
-    abbrev one-column : List Float
-    one-column = turn c s (p * n + k) (q * n + k) v
-
-    length-column : length one-column ≡ n * n
-    unfolding turn
-    length-column = simp length-set l
-
-    seen : (m : ℕ) → getD one-column m nan ≡ cond (eqb m (p * n + k)) (c ⊗ at v n p k ⊖ s ⊗ at v n q k) (cond (eqb m (q * n + k)) (s ⊗ at v n p k ⊕ c ⊗ at v n q k) (getD v m nan))
-    unfolding turn
-    seen m = two-set v (p * n + k) (q * n + k) m (c ⊗ at v n p k ⊖ s ⊗ at v n q k) (s ⊗ at v n p k ⊕ c ⊗ at v n q k) (rw l (cell p n k n pn hk)) (rw l (cell q n k n qn hk)) (λ e. ne-of-lt pq (same-row n q p k k hk hk e))
-
-    this-column : (i : ℕ) → at one-column n i k ≡ turnedRow c s p q (λ r. at v n r k) i
-    this-column i = seen (i * n + k) ∙ rw (in-column i p k hk, in-column i q k hk)
-
-    other-column : (i j : ℕ) → j < n → j ≢ k → at one-column n i j ≡ at v n i j
-    other-column i j hj d = seen (i * n + j) ∙ rw (ne-eqb (i * n + j) (p * n + k) (λ e. d (same-column n p i j k hj hk e)), ne-eqb (i * n + j) (q * n + k) (λ e. d (same-column n q i j k hj hk e)))
-
-  -- the columns below m of v₀ turned
-  module _ (v₀ : List Float) where
-    record Columns (m : ℕ) (v : List Float) : Type 0 where
-      len : length v ≡ n * n
-      done : (i k : ℕ) → i < n → k < n → k < m → at v n i k ≡ turnedRow c s p q (λ r. at v₀ n r k) i
-      left : (i k : ℕ) → i < n → k < n → m ≤ k → at v n i k ≡ at v₀ n i k
-
-    columns-more : (m : ℕ) (v : List Float) → m < n → Columns m v → Columns (suc m) (turn c s (p * n + m) (q * n + m) v)
-    columns-more m v hm H = record {
-      len = length-column m v (H .len) hm;
-      done = λ i k hi hk l. go i k hi hk (eq-or-lt-of-le (le-of-suc-le-suc l));
-      left = λ i k hi hk l. other-column m v (H .len) hm i k hk (λ e. ne-of-lt l (sym e)) ∙ H .left i k hi hk (le-trans (le-suc m) l);
-    }
+    in-line : (j m : ℕ) → j < n → m < n → eqb (index i j) (index i m) ≡ eqb j m
+    in-line j m hj hm = go (eqb j m) (eqb-true j m) (eqb-false j m)
       where
-        old : (i : ℕ) → i < n → at v n i m ≡ at v₀ n i m
-        old i hi = H .left i m hi hm (le-refl m)
+        go : (b : Bool) → (b ≡ true → j ≡ m) → (b ≡ false → j ≢ m) → eqb (index i j) (index i m) ≡ b
+        go true t f = eq-eqb (index i j) (index i m) (ap (index i) (t refl))
+        go false t f = ne-eqb (index i j) (index i m) (λ e. f refl (lines .apart i j i m hi hj hi hm e .1))
 
-        go : (i k : ℕ) → i < n → k < n → (k ≡ m) ⊎ (k < m) → at (turn c s (p * n + m) (q * n + m) v) n i k ≡ turnedRow c s p q (λ r. at v₀ n r k) i
-        go i k hi hk (inr l) = other-column m v (H .len) hm i k hk (ne-of-lt l) ∙ H .done i k hi hk l
-        go i k hi hk (inl e) =
-            ap (λ (k : ℕ). at (turn c s (p * n + m) (q * n + m) v) n i k) e ∙ this-column m v (H .len) hm i ∙ turned-same c s p q i (λ r. at v n r m) (λ r. at v₀ n r m) (old p pn) (old q qn) (old i hi)
-            ∙ ap (λ (k : ℕ). turnedRow c s p q (λ r. at v₀ n r k) i) (sym e)
+    looked : (k : ℕ) → nth put-line k ≡ cond (eqb k (index i p)) x (cond (eqb k (index i q)) y (nth v k))
+    looked k = two-set v (index i p) (index i q) k x y (rw l (lines .inside i p hi pn)) (rw l (lines .inside i q hi qn)) (λ e. ne-of-lt pq (lines .apart i p i q hi pn hi qn e .1))
 
-    columns-all : (m : ℕ) → m ≤ n → length v₀ ≡ n * n → Columns m (loop m (λ k. turn c s (p * n + k) (q * n + k)) v₀)
-    unfolding loop
-    columns-all zero l e = record { len = e; done = λ i k hi hk h. absurd (not-suc-le-zero h); left = λ i k hi hk h. refl }
-    columns-all (suc m) l e = columns-more m (loop m (λ k. turn c s (p * n + k) (q * n + k)) v₀) l (columns-all m (le-trans (le-suc m) l) e)
+    this-line : (j : ℕ) → j < n → nth put-line (index i j) ≡ cond (eqb j p) x (cond (eqb j q) y (nth v (index i j)))
+    this-line j hj = looked (index i j) ∙ rw (in-line j p hj pn, in-line j q hj qn)
 
-    pub length-turned-rows : length v₀ ≡ n * n → length (turnRows n p q c s v₀) ≡ n * n
-    unfolding turnRows
-    length-turned-rows e = columns-all n (le-refl n) e .len
+    other-line : (k j : ℕ) → k < n → j < n → k ≢ i → nth put-line (index k j) ≡ nth v (index k j)
+    other-line k j hk hj d =
+        looked (index k j) ∙ rw (ne-eqb (index k j) (index i p) (λ e. d (lines .apart k j i p hk hj hi pn e .0)), ne-eqb (index k j) (index i q) (λ e. d (lines .apart k j i q hk hj hi qn e .0)))
 
-    pub turned-rows-at : length v₀ ≡ n * n → (i j : ℕ) → i < n → j < n → at (turnRows n p q c s v₀) n i j ≡ turnedRow c s p q (λ r. at v₀ n r j) i
-    unfolding turnRows
-    turned-rows-at e i j hi hj = columns-all n (le-refl n) e .done i j hi hj hj
+  -- by X and Y in the lines below m of v₀, each computed from the list as it then stands
+  module _ (v₀ : List Float) (X Y : List Float → ℕ → Float) where
+    pub record Replaced (m : ℕ) (v : List Float) : Type 0 where
+      pub len : length v ≡ n * n
+      pub done : (k j : ℕ) → k < n → j < n → k < m → nth v (index k j) ≡ cond (eqb j p) (X v₀ k) (cond (eqb j q) (Y v₀ k) (nth v₀ (index k j)))
+      pub left : (k j : ℕ) → k < n → j < n → m ≤ k → nth v (index k j) ≡ nth v₀ (index k j)
+
+    -- what a line gets does not depend on the lines before it
+    module _ (kept : (m : ℕ) (v : List Float) → m < n → Replaced m v → (X v m ≡ X v₀ m) × (Y v m ≡ Y v₀ m)) where
+      abbrev put : ℕ → List Float → List Float
+      put k v = set (set v (index k p) (X v k)) (index k q) (Y v k)
+
+      lines-more : (m : ℕ) (v : List Float) → m < n → Replaced m v → Replaced (suc m) (put m v)
+      lines-more m v hm H = record {
+        len = simp length-set (H .len);
+        done = λ k j hk hj l. go k j hk hj (eq-or-lt-of-le (le-of-suc-le-suc l));
+        left = λ k j hk hj l. other-line m v (H .len) hm (X v m) (Y v m) k j hk hj (λ e. ne-of-lt l (sym e)) ∙ H .left k j hk hj (le-trans (le-suc m) l);
+      }
+        where
+          go : (k j : ℕ) → k < n → j < n → (k ≡ m) ⊎ (k < m) → nth (put m v) (index k j) ≡ cond (eqb j p) (X v₀ k) (cond (eqb j q) (Y v₀ k) (nth v₀ (index k j)))
+          go k j hk hj (inr l) = other-line m v (H .len) hm (X v m) (Y v m) k j hk hj (ne-of-lt l) ∙ H .done k j hk hj l
+          go k j hk hj (inl e) =
+              let old = kept m v hm H in
+              ap (λ (k : ℕ). nth (put m v) (index k j)) e ∙ this-line m v (H .len) hm (X v m) (Y v m) j hj ∙ (λ t. cond (eqb j p) (old .0 t) (cond (eqb j q) (old .1 t) (H .left m j hm hj (le-refl m) t)))
+              ∙ ap (λ (k : ℕ). cond (eqb j p) (X v₀ k) (cond (eqb j q) (Y v₀ k) (nth v₀ (index k j)))) (sym e)
+
+      pub lines-all : (m : ℕ) → m ≤ n → length v₀ ≡ n * n → Replaced m (loop m put v₀)
+      unfolding loop
+      lines-all zero l e = record { len = e; done = λ k j hk hj h. absurd (not-suc-le-zero h); left = λ k j hk hj h. refl }
+      lines-all (suc m) l e = lines-more m (loop m put v₀) l (lines-all m (le-trans (le-suc m) l) e)
+
+  -- ---- turned
+  module _ (c s : Float) (v₀ : List Float) (len₀ : length v₀ ≡ n * n) where
+    abbrev at-p : List Float → ℕ → Float
+    at-p v k = c ⊗ nth v (index k p) ⊖ s ⊗ nth v (index k q)
+
+    abbrev at-q : List Float → ℕ → Float
+    at-q v k = s ⊗ nth v (index k p) ⊕ c ⊗ nth v (index k q)
+
+    lines-turned : Replaced v₀ at-p at-q n (loop n (λ k. turn c s (index k p) (index k q)) v₀)
+    unfolding turn
+    lines-turned = lines-all v₀ at-p at-q kept n (le-refl n) len₀
+      where
+        kept : (m : ℕ) (v : List Float) → m < n → Replaced v₀ at-p at-q m v → (at-p v m ≡ at-p v₀ m) × (at-q v m ≡ at-q v₀ m)
+        kept m v hm H = let x = H .left m p hm pn (le-refl m) in let y = H .left m q hm qn (le-refl m) in ((λ t. c ⊗ x t ⊖ s ⊗ y t), (λ t. s ⊗ x t ⊕ c ⊗ y t))
+
+-- ---- columns p and q turned: two numbers of every row. Rows p and q turned: two numbers of every column.
+module _ (c s : Float) (n p q : ℕ) (pq : p < q) (qn : q < n) (v : List Float) (len : length v ≡ n * n) where
+  pub length-columns : length (turnColumns n p q c s v) ≡ n * n
+  unfolding turnColumns
+  length-columns = lines-turned n (inRows n) (row-lines n) p q pq qn c s v len .len
+
+  pub columns-at : (i j : ℕ) → i < n → j < n → at (turnColumns n p q c s v) n i j ≡ turnedRow c s p q (at v n i) j
+  unfolding turnColumns
+  columns-at i j hi hj = lines-turned n (inRows n) (row-lines n) p q pq qn c s v len .done i j hi hj hi
+
+  pub length-turned-rows : length (turnRows n p q c s v) ≡ n * n
+  unfolding turnRows
+  length-turned-rows = lines-turned n (inColumns n) (column-lines n) p q pq qn c s v len .len
+
+  pub turned-rows-at : (i j : ℕ) → i < n → j < n → at (turnRows n p q c s v) n i j ≡ turnedRow c s p q (λ r. at v n r j) i
+  unfolding turnRows
+  turned-rows-at i j hi hj = lines-turned n (inColumns n) (column-lines n) p q pq qn c s v len .done j i hj hi hj

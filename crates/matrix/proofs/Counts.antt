@@ -1,18 +1,16 @@
 -- Rotations, one after another: what each keeps, the sweeps keep. Then how many a sweep makes at most. Assumes nothing.
 use mathlib.Core.Path.{_≡_, refl, sym, ap, _∙_, subst}
-use mathlib.Core.Bool.{Bool, true, false}
 use mathlib.Core.List.{List}
 use Prim.Native.Nat.{ℕ, zero, suc, _+_, _-_, _*_, _/_, _≤_, _<_, zero-le, suc-le-suc}
 use native.Mathlib.Nat.{le-refl, le-trans, le-suc, le-step, add-zero, add-suc, add-assoc, zero-add, zero-mul, suc-mul, mul-le-mul}
 use native.Mathlib.Omega.{arith}
-use lib.Ieee.{Float, eq}
-use Rattle.leaves.specs.Numbers.{zero⁺}
+use lib.Ieee.{Float}
 use Rattle.leaves.specs.Loops.{loop}
 use Rattle.matrix.specs.Limits.{maxSide}
-use Rattle.matrix.specs.Matrix.{at}
-use Rattle.matrix.specs.Rotation.{State, tangent, cotangent, rotated, rotateBy, rotate}
+use Rattle.matrix.specs.Rotation.{State, rotated, rotateBy, rotate}
 use Rattle.matrix.specs.Jacobi.{sweep, afterSweeps}
 use Rattle.matrix.specs.Inner.{state}
+use Rattle.matrix.proofs.Rotated.{rotate-cases}
 
 -- the pairs p < q of the first m rows, and of all
 unfoldable pub places : ℕ → ℕ → ℕ
@@ -54,7 +52,7 @@ module _ (n : ℕ) (P : ℕ → State → Type 0) (step : (r p q : ℕ) (st : St
   rows-keep zero r st i = rw add-zero i
   rows-keep (suc m) r st i = rw (← add-assoc r (places n m) (n - suc m)) (row-keeps m (n - suc m) (r + places n m) (loop m (λ p. loop (n - suc p) (λ k. rotate n p (suc p + k))) st) (le-refl (n - suc m)) (rows-keep m r st i))
 
-  pub sweep-keeps : (r : ℕ) (st : State) → P r st → P (r + pairs n) (sweep n st)
+  sweep-keeps : (r : ℕ) (st : State) → P r st → P (r + pairs n) (sweep n st)
   unfolding sweep
   sweep-keeps r st i = rw (← places-all n) (rows-keep n r st i)
 
@@ -69,15 +67,8 @@ abbrev pub AtMost : ℕ → State → Type 0
 AtMost r st = st .rotations ≤ r
 
 pub rotate-count : (n r p q : ℕ) (st : State) → p < q → q < n → AtMost r st → AtMost (suc r) (rotate n p q st)
-unfolding rotate rotateBy rotated
-rotate-count n r p q st a b h = go (eq (at (st .matrix) n p q) zero⁺)
-  where
-    t : Float
-    t = tangent (cotangent (at (st .matrix) n p p) (at (st .matrix) n p q) (at (st .matrix) n q q))
-
-    go : (x : Bool) → (elim x as (λ z. State) [ true ↦ st | false ↦ rotateBy n p q t st ]) .rotations ≤ suc r
-    go true = le-step h
-    go false = suc-le-suc h
+unfolding rotateBy rotated
+rotate-count n r p q st a b h = rotate-cases (AtMost (suc r)) n p q st (le-step h) (λ τ. suc-le-suc h)
 
 -- the rotations of a row of a sweep, of its first rows, of a sweep and of k sweeps, as the code has them, with nothing counted before
 module _ (n : ℕ) (a₀ v₀ : List Float) {a v : List Float} {r : ℕ} where

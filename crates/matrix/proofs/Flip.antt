@@ -6,28 +6,19 @@ use Prim.Native.Nat.{ℕ, _*_, _<_}
 use native.Mathlib.Nat.{lt-trans}
 use lib.Dec.{eqb}
 use lib.ListN.{length}
-use lib.Seq.{ext-getD}
 use borrow.Author.Tests.{eqb-true, eqb-false, eq-eqb, ne-eqb}
-use lib.Ieee.{Float, nan}
+use lib.Ieee.{Float}
 use Rattle.leaves.specs.Numbers.{zero⁺, one}
-use Rattle.leaves.proofs.Loops.{row-below, col-below}
 use Rattle.matrix.specs.Matrix.{at, rows, identity, transpose}
 use Rattle.matrix.specs.Rotation.{turnColumns, turnRows}
 use Rattle.matrix.specs.Inner.{byColumns}
-use Rattle.matrix.proofs.Stored.{entry-at, length-rows, rows-at, rows-ext}
+use Rattle.matrix.proofs.Stored.{length-rows, rows-at, rows-ext, rows-is}
 use Rattle.matrix.proofs.Cells.{turned-same, length-columns, columns-at, turned-rows-at}
-
--- a stored matrix is its entries, row by row
-pub whole : (n : ℕ) (l : List Float) → length l ≡ n * n → l ≡ rows n n (at l n)
-whole n l e =
-    ext-getD nan l (rows n n (at l n)) (e ∙ sym (length-rows (at l n) n n))
-    (λ k h. let b : k < n * n = rw (← e) h in sym (entry-at l n k) ∙ sym (rows-at (at l n) n n _ _ (row-below k n b) (col-below k n b)) ∙ entry-at (rows n n (at l n)) n k)
 
 pub flip-rows : (c s : Float) (n p q : ℕ) (w : List Float) → p < q → q < n → length w ≡ n * n → byColumns n (turnRows n p q c s w) ≡ turnColumns n p q c s (byColumns n w)
 flip-rows c s n p q w pq qn e =
-    rows-ext n n (transpose (at (turnRows n p q c s w) n)) (at (turnColumns n p q c s (byColumns n w)) n)
-    (λ i j hi hj. turned-rows-at c s n p q pq qn w e j i hj hi ∙ sym (columns-at c s n p q pq qn (byColumns n w) flat i j hi hj ∙ turned-same c s p q j (at (byColumns n w) n i) (λ r. at w n r i) (old i p hi (lt-trans pq qn)) (old i q hi qn) (old i j hi hj)))
-    ∙ sym (whole n (turnColumns n p q c s (byColumns n w)) (length-columns c s n p q pq qn (byColumns n w) flat))
+    sym (rows-is (turnColumns n p q c s (byColumns n w)) n (transpose (at (turnRows n p q c s w) n)) (length-columns c s n p q pq qn (byColumns n w) flat)
+    (λ i j hi hj. columns-at c s n p q pq qn (byColumns n w) flat i j hi hj ∙ turned-same c s p q j (at (byColumns n w) n i) (λ r. at w n r i) (old i p hi (lt-trans pq qn)) (old i q hi qn) (old i j hi hj) ∙ sym (turned-rows-at c s n p q pq qn w e j i hj hi)))
   where
     flat : length (byColumns n w) ≡ n * n
     flat = length-rows (transpose (at w n)) n n
@@ -36,8 +27,8 @@ flip-rows c s n p q w pq qn e =
     old i j hi hj = rows-at (transpose (at w n)) n n i j hi hj
 
 -- the identity is its transpose
-same-test : (i j : ℕ) → eqb j i ≡ eqb i j
-same-test i j = go (eqb i j) (eqb-true i j) (eqb-false i j)
+eqb-sym : (i j : ℕ) → eqb j i ≡ eqb i j
+eqb-sym i j = go (eqb i j) (eqb-true i j) (eqb-false i j)
   where
     go : (b : Bool) → (b ≡ true → i ≡ j) → (b ≡ false → i ≡ j → ⊥) → eqb j i ≡ b
     go true t f = eq-eqb j i (sym (t refl))
@@ -45,4 +36,4 @@ same-test i j = go (eqb i j) (eqb-true i j) (eqb-false i j)
 
 pub flip-identity : (n : ℕ) → byColumns n (rows n n identity) ≡ rows n n identity
 flip-identity n =
-    rows-ext n n (transpose (at (rows n n identity) n)) identity (λ i j hi hj. rows-at identity n n j i hj hi ∙ ap (λ (b : Bool). cond b one zero⁺) (same-test i j))
+    rows-ext n n (transpose (at (rows n n identity) n)) identity (λ i j hi hj. rows-at identity n n j i hj hi ∙ ap (λ (b : Bool). cond b one zero⁺) (eqb-sym i j))

@@ -15,6 +15,7 @@ use borrow.Author.Tests.{lt-ltb, le-ltb, eqb-true, eqb-false}
 use Rattle.leaves.proofs.Whole.{le-or-lt}
 use Rattle.leaves.specs.Numbers.{_⊕_, _⊗_, _⊘_, zero⁺, half, one, isFinite}
 use Rattle.leaves.specs.Loops.{loop, sumTo, amaxTo}
+use Rattle.leaves.proofs.Commutative.{product-comm}
 use Rattle.leaves.proofs.Rounding.{near, Held, held-pow, near-held, near-most}
 use Rattle.leaves.proofs.Units.{U, U-pos, U-is, Top, Val, sign, mag, rounded, zero-val, zero-mag, val-finite, val-unique, eq-zero, mag-val, mag-held, rounded-val}
 use Rattle.leaves.proofs.Arithmetic.{sumSign, total, add-rounded, mul-rounded, div-rounded}
@@ -107,18 +108,6 @@ plus-plain y t = elim (zero-plus y t) [ inl h ↦ subst Plain (sym (h .1)) (h .0
 plus-twice : (y : Float) → Finite y → zero⁺ ⊕ (zero⁺ ⊕ y) ≡ zero⁺ ⊕ y
 plus-twice y t = elim (zero-plus y t) [ inl h ↦ ap (λ (x : Float). zero⁺ ⊕ x) (h .1) | inr e ↦ ap (λ (x : Float). zero⁺ ⊕ x) e ∙ plus-zero zero⁺ false zero-plain ∙ sym e ]
 
-times-comm : (x y : Float) → Finite x → Finite y → x ⊗ y ≡ y ⊗ x
-times-comm x y t u =
-    let v = mag-val x (t .0) (t .1) in
-    let w = mag-val y (u .0) (u .1) in
-    mul-rounded x y (sign x) (sign y) (mag x) (mag y) v w ∙ (λ i. rounded (unlike-sym (sign x) (sign y) i) (mul-comm (mag x) (mag y) i) U) ∙ sym (mul-rounded y x (sign y) (sign x) (mag y) (mag x) w v)
-  where
-    unlike-sym : (s t : Bool) → unlike s t ≡ unlike t s
-    unlike-sym true true = refl
-    unlike-sym true false = refl
-    unlike-sym false true = refl
-    unlike-sym false false = refl
-
 -- ---- a column of the identity times a column of finite numbers
 module _ (n i : ℕ) (y : ℕ → Float) (t : (k : ℕ) → k < n → Finite (y k)) (hi : i < n) where
   -- the sum up to m
@@ -151,7 +140,7 @@ module _ (n i : ℕ) (y : ℕ → Float) (t : (k : ℕ) → k < n → Finite (y 
       go true e d = here m (e refl) h
       go false e d = there m (d refl) h
 
-  pub times-identity : sumTo n (λ k. identity k i ⊗ y k) ≡ zero⁺ ⊕ y i
+  times-identity : sumTo n (λ k. identity k i ⊗ y k) ≡ zero⁺ ⊕ y i
   times-identity = sum-upTo n (le-refl n) ∙ rw (lt-ltb i n hi)
 
 -- ---- what the sweeps begin with
@@ -172,17 +161,10 @@ start-is n scale a t =
     first : (i j : ℕ) → i < n → j < n → left i j ≡ scaledEntry scale a i j
     first i j hi hj = times-identity n i (λ k. a k j ⊘ scale) (λ k h. t k j h hj) hi
 
-    identity-finite : (i j : ℕ) → Finite (identity i j)
-    identity-finite i j = go (eqb i j)
-      where
-        go : (b : Bool) → Finite (cond b one zero⁺)
-        go true = unfold fits isFinite in (tt, tt)
-        go false = unfold fits isFinite in (tt, tt)
-
     second : (i j : ℕ) → i < n → j < n → product n left identity i j ≡ scaledEntry scale a i j
     second i j hi hj =
         sum-ext n (λ k. left i k ⊗ identity k j) (λ k. identity k j ⊗ scaledEntry scale a i k)
-        (λ k h. ap (λ (x : Float). x ⊗ identity k j) (first i k hi h) ∙ times-comm (scaledEntry scale a i k) (identity k j) (plus-plain (a i k ⊘ scale) (t i k hi h) .0) (identity-finite k j))
+        (λ k h. ap (λ (x : Float). x ⊗ identity k j) (first i k hi h) ∙ product-comm (scaledEntry scale a i k) (identity k j))
         ∙ times-identity n j (scaledEntry scale a i) (λ k h. plus-plain (a i k ⊘ scale) (t i k hi h) .0) hj ∙ plus-twice (a i j ⊘ scale) (t i j hi hj)
 
 -- over its largest size a finite matrix, not zero, is finite

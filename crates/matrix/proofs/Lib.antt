@@ -1,11 +1,11 @@
--- The laws that the proofs of the matrices share, and the theorems about the decomposition (Sweeps, Vectors).
+-- The laws that the proofs of the matrices share, and the theorems about the decomposition (Sweeps, LargerLimit, Vectors, Symmetry).
 -- loops, stored matrices and searches
 pub mod Steps
 pub mod Stored
 pub mod First
 pub mod Alike
-pub mod Compare
--- counts of sweeps and rotations
+-- one rotation; counts of sweeps and rotations
+pub mod Rotated
 pub mod Counts
 pub mod Sweeps
 pub mod LargerLimit
@@ -17,7 +17,6 @@ pub mod Rows
 pub mod Cells
 pub mod Vectors
 pub mod Identity
--- one rotation, with V stored column by column and A symmetric
-pub mod Rotated
+-- a rotation with V stored column by column and A symmetric
 pub mod Flip
 pub mod Symmetry

@@ -1,15 +1,28 @@
--- A rotation, by what its steps computed: nothing at an entry 0, else A and V turned by the angle of the tangent found. Assumes nothing.
+-- A rotation does nothing or turns (`rotate-cases`); and by what its steps computed: nothing at an entry 0, else A and V turned by the angle of the tangent found.
+-- Assumes nothing.
 use mathlib.Core.Path.{_≡_, sym, ap, _∙_}
-use mathlib.Core.Bool.{true, false}
+use mathlib.Core.Bool.{Bool, true, false}
 use mathlib.Core.List.{List}
 use Prim.Native.Nat.{ℕ, suc}
 use lib.Ieee.{Float, eq}
 use Rattle.leaves.specs.Numbers.{_⊕_, _⊗_, _⊘_, zero⁺, one}
 use Rattle.leaves.specs.Root.{sqrt}
 use Rattle.matrix.specs.Matrix.{at}
-use Rattle.matrix.specs.Rotation.{turnColumns, tangent, cotangent, rotate, rotateBy, rotated}
+use Rattle.matrix.specs.Rotation.{State, turnColumns, tangent, cotangent, rotate, rotateBy, rotated}
 use Rattle.matrix.specs.Inner.{state, turnedBoth}
 
+pub rotate-cases : (P : State → Type 0) (n p q : ℕ) (st : State) → P st → ((τ : Float) → P (rotateBy n p q (tangent τ) st)) → P (rotate n p q st)
+unfolding rotate
+rotate-cases P n p q st still turned = go (eq (at (st .matrix) n p q) zero⁺)
+  where
+    τ : Float
+    τ = cotangent (at (st .matrix) n p p) (at (st .matrix) n p q) (at (st .matrix) n q q)
+
+    go : (b : Bool) → P (elim b as (λ z. State) [ true ↦ st | false ↦ rotateBy n p q (tangent τ) st ])
+    go true = still
+    go false = turned τ
+
+-- ---- by what the code computed
 module _ (n p q : ℕ) (a v : List Float) (y : Float) (ey : y ≡ at a n p q) (k : ℕ) where
   pub still : eq y zero⁺ ≡ true → state a v k ≡ rotate n p q (state a v k)
   unfolding rotate

@@ -22,19 +22,19 @@ unfoldable pub sum : (ℕ → ℕ) → ℕ → ℕ
 sum f zero = 0
 sum f (suc n) = sum f n + f n
 
-pub sum-same : (f g : ℕ → ℕ) (n : ℕ) → ((j : ℕ) → j < n → f j ≡ g j) → sum f n ≡ sum g n
+sum-same : (f g : ℕ → ℕ) (n : ℕ) → ((j : ℕ) → j < n → f j ≡ g j) → sum f n ≡ sum g n
 unfolding sum
 sum-same f g zero h = refl
 sum-same f g (suc n) h = λ i. sum-same f g n (λ j l. h j (le-step l)) i + h n (le-refl (suc n)) i
 
 -- f with 0 at p
-abbrev pub without : (ℕ → ℕ) → ℕ → ℕ → ℕ
+abbrev without : (ℕ → ℕ) → ℕ → ℕ → ℕ
 without f p j = cond (eqb j p) 0 (f j)
 
 other : (f : ℕ → ℕ) (p j : ℕ) → j ≢ p → without f p j ≡ f j
 other f p j d = ap (λ (b : Bool). cond b 0 (f j)) (ne-eqb j p d)
 
-pub sum-without : (f : ℕ → ℕ) (n p : ℕ) → p < n → sum f n ≡ sum (without f p) n + f p
+sum-without : (f : ℕ → ℕ) (n p : ℕ) → p < n → sum f n ≡ sum (without f p) n + f p
 unfolding sum
 sum-without f zero p h = absurd (not-suc-le-zero h)
 sum-without f (suc n) p h = go (eq-or-lt-of-le (le-of-suc-le-suc h)) (sum-without f n p)
@@ -80,10 +80,10 @@ module _ (f g : ℕ → ℕ) (n p q : ℕ) (pq : p < q) (qn : q < n) (h : (j : �
       go false true a b = refl
       go false false a b = h j (b refl) (a refl)
 
-  pub exchanged : sum g n + (f p + f q) ≡ sum f n + (g p + g q)
+  exchanged : sum g n + (f p + f q) ≡ sum f n + (g p + g q)
   exchanged = let a = apart f in let b = apart g in let c = sum-same (without (without f p) q) (without (without g p) q) n (λ j l. alike j) in omega arith
 
-  pub both-in : f p + f q ≤ sum f n
+  both-in : f p + f q ≤ sum f n
   both-in = let a = apart f in omega arith
 
 -- ---- a row after r turns

@@ -1,20 +1,23 @@
 -- Laws of `loop`: steps that do nothing, that are taken in two parts or row by row. Assumes nothing.
 use mathlib.Core.Path.{_≡_, refl, sym, ap, _∙_}
+use mathlib.Core.List.{List}
 use Prim.Native.Nat.{ℕ, zero, suc, _+_, _*_, _/_, _%_, _≤_, _<_}
 use native.Mathlib.Nat.{le-refl, le-step, zero-mul, suc-mul}
 use native.Mathlib.Omega.{arith}
 use lib.Dec.{ltb}
+use lib.ListN.{length}
 use lib.Ieee.{Float}
 use borrow.Author.Tests.{lt-ltb, le-ltb}
 use Rattle.leaves.specs.Numbers.{_⊕_, zero⁺}
-use Rattle.leaves.specs.Loops.{loop, sumTo}
-use Rattle.leaves.proofs.Loops.{cell-row, cell-col, loop-ext}
-use Rattle.matrix.specs.Matrix.{Matrix, sumOver, every}
+use Rattle.leaves.specs.Loops.{loop, sumTo, nth}
+use Rattle.leaves.proofs.Loops.{cell-row, cell-col, loop-ext, sum-ext}
+use Rattle.matrix.specs.Matrix.{Matrix, at, sumOver, every}
 use Rattle.matrix.specs.Inner.{addKept}
+use Rattle.matrix.proofs.Stored.{entry-at}
 
 module _ {S : Type 0} where
   -- nothing done below n
-  pub loop-still : (f : ℕ → S → S) (n : ℕ) (s : S) → ((k : ℕ) → k < n → (x : S) → f k x ≡ x) → loop n f s ≡ s
+  loop-still : (f : ℕ → S → S) (n : ℕ) (s : S) → ((k : ℕ) → k < n → (x : S) → f k x ≡ x) → loop n f s ≡ s
   unfolding loop
   loop-still f zero s h = refl
   loop-still f (suc n) s h = h n (le-refl (suc n)) (loop n f s) ∙ loop-still f n s (λ k l. h k (le-step l))
@@ -25,7 +28,7 @@ module _ {S : Type 0} where
   loop-both f a (suc b) s = let e : a + suc b ≡ suc (a + b) = omega arith in ap (λ (j : ℕ). loop j f s) e ∙ ap (f (a + b)) (loop-both f a b s)
 
   -- m rows of n steps are m * n steps
-  pub loop-rows : (f : ℕ → ℕ → S → S) (m n : ℕ) (s : S) → loop m (λ i. loop n (f i)) s ≡ loop (m * n) (λ k. f (k / n) (k % n)) s
+  loop-rows : (f : ℕ → ℕ → S → S) (m n : ℕ) (s : S) → loop m (λ i. loop n (f i)) s ≡ loop (m * n) (λ k. f (k / n) (k % n)) s
   unfolding loop
   loop-rows f zero n s = ap (λ (j : ℕ). loop j (λ k. f (k / n) (k % n)) s) (sym (zero-mul n))
   loop-rows f (suc m) n s =
@@ -37,9 +40,15 @@ module _ {S : Type 0} where
 -- ---- sums
 
 -- every entry, row by row
-pub sum-every : (f : Matrix) (n : ℕ) → sumTo (n * n) (λ k. f (k / n) (k % n)) ≡ sumOver n every f zero⁺
+sum-every : (f : Matrix) (n : ℕ) → sumTo (n * n) (λ k. f (k / n) (k % n)) ≡ sumOver n every f zero⁺
 unfolding sumTo sumOver
 sum-every f n = sym (loop-rows (λ i j s. s ⊕ f i j) n n zero⁺)
+
+-- a number for every entry of a stored matrix
+pub sum-stored : (g : Float → Float) (a : List Float) (n : ℕ) {x : Float} → x ≡ sumTo (length a) (λ k. g (nth a k)) → length a ≡ n * n → x ≡ sumOver n every (λ i j. g (at a n i j)) zero⁺
+sum-stored g a n e l =
+    e ∙ ap (λ (m : ℕ). sumTo m (λ k. g (nth a k))) l ∙ sum-ext (n * n) (λ k. g (nth a k)) (λ k. g (at a n (k / n) (k % n))) (λ k h. ap g (sym (entry-at a n k)))
+    ∙ sum-every (λ i j. g (at a n i j)) n
 
 -- those right of the diagonal: row p begins with column p + 1
 pub above-none : (f : Matrix) (p : ℕ) (s : Float) → s ≡ loop (p + 1) (addKept ltb f p) s

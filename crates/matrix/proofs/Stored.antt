@@ -1,19 +1,14 @@
 -- Laws of the matrices that are stored row by row, and of filling one. Assumes nothing.
-use mathlib.Core.Path.{_≡_, ap, _∙_}
-use mathlib.Core.List.{List, _++_, append-nil}
-use Prim.Native.Nat.{ℕ, zero, suc, _+_, _*_, _/_, _%_, _≤_, _<_, zero-le, suc-le-suc}
-use native.Mathlib.Nat.{div-add-mod', div-lt-iff-lt-mul, mod-lt, le-of-eq, mul-zero, not-suc-le-zero}
-use lib.ListN.{length, drop-of-length-le}
+use mathlib.Core.Path.{_≡_, refl, sym, ap, _∙_}
+use mathlib.Core.List.{List}
+use Prim.Native.Nat.{ℕ, _+_, _*_, _/_, _%_, _≤_, _<_}
+use native.Mathlib.Nat.{div-add-mod', div-lt-iff-lt-mul, mod-lt}
+use lib.ListN.{length}
 use lib.Ieee.{Float, nan}
 use Rattle.leaves.specs.Numbers.{_⊗_}
-use Rattle.leaves.specs.Loops.{tab, fill, nth}
-use Rattle.leaves.proofs.Loops.{cell, cell-row, cell-col, length-tab, nth-tab, tab-ext, Filled, filled-all, sum-ext}
+use Rattle.leaves.specs.Loops.{nth}
+use Rattle.leaves.proofs.Loops.{cell, cell-row, cell-col, has-column, row-below, col-below, length-tab, nth-tab, tab-is, tab-ext, Filled, sum-ext, filled-whole}
 use Rattle.matrix.specs.Matrix.{Matrix, at, rows, product}
-
--- a matrix with a cell k has a column
-pub has-column : (k m n : ℕ) → k < m * n → 0 < n
-has-column k m zero h = absurd (not-suc-le-zero (rw mul-zero at h))
-has-column k m (suc n) h = suc-le-suc zero-le
 
 -- number k is the entry in row k / n and column k % n
 pub entry-at : (a : List Float) (n k : ℕ) → at a n (k / n) (k % n) ≡ nth a k
@@ -24,19 +19,24 @@ unfolding rows
 length-rows f m n = length-tab (λ k. f (k / n) (k % n)) (m * n)
 
 -- a slice that is filled whole
-pub filled-whole : {f : ℕ → Float} {i n : ℕ} {old out : List Float} → Filled f i n old out → n ≤ i → length old ≡ n → out ≡ tab n f
-unfolding fill
-filled-whole {f} {i} {n} {old} {out} F h l =
-    filled-all F h ∙ ap (λ (r : List Float). tab n f ++ r) (drop-of-length-le old (le-of-eq l)) ∙ append-nil (tab n f)
-
 pub filled-rows : (f : Matrix) (n : ℕ) {i : ℕ} {old out : List Float} → Filled (λ k. f (k / n) (k % n)) i (n * n) old out → n * n ≤ i → length old ≡ n * n → out ≡ rows n n f
 unfolding rows
 filled-rows f n F h l = filled-whole F h l
 
-pub rows-at : (f : Matrix) (m n i j : ℕ) → i < m → j < n → at (rows m n f) n i j ≡ f i j
+pub rows-nth : (f : Matrix) (m n k : ℕ) → k < m * n → nth (rows m n f) k ≡ f (k / n) (k % n)
 unfolding rows
-rows-at f m n i j hi hj =
-    nth-tab (m * n) (λ k. f (k / n) (k % n)) (i * n + j) nan (cell i m j n hi hj) ∙ (λ t. f (cell-row i n j hj t) (cell-col i n j hj t))
+rows-nth f m n k h = nth-tab (m * n) (λ k. f (k / n) (k % n)) k nan h
+
+pub rows-at : (f : Matrix) (m n i j : ℕ) → i < m → j < n → at (rows m n f) n i j ≡ f i j
+rows-at f m n i j hi hj = rows-nth f m n (i * n + j) (cell i m j n hi hj) ∙ (λ t. f (cell-row i n j hj t) (cell-col i n j hj t))
+
+-- a stored matrix is f's where its entries are, so it is made of its own
+pub rows-is : (l : List Float) (n : ℕ) (f : Matrix) → length l ≡ n * n → ((i j : ℕ) → i < n → j < n → at l n i j ≡ f i j) → l ≡ rows n n f
+unfolding rows
+rows-is l n f e h = tab-is nan l (n * n) (λ k. f (k / n) (k % n)) e (λ k b. sym (entry-at l n k) ∙ h (k / n) (k % n) (row-below k n b) (col-below k n b))
+
+pub whole : (n : ℕ) (l : List Float) → length l ≡ n * n → l ≡ rows n n (at l n)
+whole n l e = rows-is l n (at l n) e (λ i j hi hj. refl)
 
 -- what holds in m rows and n columns holds cell by cell
 pub by-cell : (m n : ℕ) (P : ℕ → ℕ → Type 0) → ((i j : ℕ) → i < m → j < n → P i j) → (k : ℕ) → k < m * n → P (k / n) (k % n)

@@ -1,22 +1,22 @@
 -- Document 01, "Jacobi": sweeps ≤ limit, rotations ≤ sweeps × n(n - 1)/2.
 -- What every rotation keeps, the vectors and the count of a decomposition have. Assumes nothing.
 use mathlib.Core.Path.{_≡_, refl}
-use mathlib.Core.Bool.{Bool, true, false}
+use mathlib.Core.Bool.{Bool, false}
 use mathlib.Core.List.{List}
 use mathlib.Core.Option.{Option, none, some}
 use Prim.Native.Nat.{ℕ, _-_, _*_, _/_, _≤_, _<_, zero-le}
 use native.Mathlib.Nat.{le-refl, le-of-lt, zero-add}
-use lib.Ieee.{Float, eq}
-use Rattle.leaves.specs.Numbers.{_⊗_, zero⁺, ε}
+use lib.Ieee.{Float}
+use Rattle.leaves.specs.Numbers.{_⊗_, ε}
 use Rattle.leaves.specs.Loops.{loop, firstTo}
 use Rattle.leaves.specs.Root.{sqrt}
 use Rattle.leaves.proofs.Loops.{first-below}
-use Rattle.matrix.specs.Matrix.{Matrix, at, rows, identity, amax, squares, allFinite}
+use Rattle.matrix.specs.Matrix.{Matrix, at, rows, identity, amax, squares}
 use Rattle.matrix.specs.Rotation.{State}
 use Rattle.matrix.specs.Jacobi.{afterSweeps, test, stops, isConverged, Swept, sweeping, start, swept, scaledBack, unturned, decompose}
 use Rattle.matrix.specs.Inner.{state, sweptTo}
 use Rattle.matrix.proofs.Counts.{pairs, sweeps-keep, AtMost, rotate-count}
-use Rattle.matrix.proofs.Alike.{decomposedBy, decompose-is}
+use Rattle.matrix.proofs.Alike.{decompose-cases}
 
 -- ---- sweeping, by what the search for the first sweep that the test forbids finds
 module _ (n : ℕ) (tolerance : Float) (st : State) where
@@ -58,23 +58,19 @@ module _ (n : ℕ) (a : Matrix) where
   unfoldable pub begun : State
   begun = initial n (start n (amax n n a) a)
 
+  abbrev tolerance : Float
+  tolerance = ε ⊗ sqrt (squares n (at (begun .matrix) n))
+
   -- V and the count of rotations are those of the state after as many sweeps as were made
   pub decompose-reached : (limit : ℕ) → let d = decompose limit n a in let st = afterSweeps (d .sweeps) n begun in (d .vectors ≡ st .vectors) × (d .rotations ≡ st .rotations)
   unfolding begun
-  decompose-reached limit = rw (decompose-is limit n a) (go (allFinite n n a) (eq (amax n n a) zero⁺) (amax n n a) (start n (amax n n a) a))
-    where
-      go : (x y : Bool) (scale : Float) (b : List Float) → let d = decomposedBy limit n x y scale b in let st = afterSweeps (d .sweeps) n (initial n b) in (d .vectors ≡ st .vectors) × (d .rotations ≡ st .rotations)
-      go false y scale b = unfold unturned afterSweeps loop in (refl, refl)
-      go true true scale b = unfold unturned afterSweeps loop in (refl, refl)
-      go true false scale b = unfold scaledBack swept in let e = sweeping-reached n (ε ⊗ sqrt (squares n (at b n))) (initial n b) limit in ((λ i. e i .vectors), (λ i. e i .rotations))
+  decompose-reached limit =
+      decompose-cases (λ d. let st = afterSweeps (d .sweeps) n begun in (d .vectors ≡ st .vectors) × (d .rotations ≡ st .rotations)) limit n a (λ found. unfold unturned afterSweeps loop in (refl, refl))
+      (unfold scaledBack swept in let e = sweeping-reached n tolerance begun limit in ((λ i. e i .vectors), (λ i. e i .rotations)))
 
   pub sweeps-bound : (limit : ℕ) → decompose limit n a .sweeps ≤ limit
-  sweeps-bound limit = rw (decompose-is limit n a) (go (allFinite n n a) (eq (amax n n a) zero⁺) (amax n n a) (start n (amax n n a) a))
-    where
-      go : (x y : Bool) (scale : Float) (b : List Float) → decomposedBy limit n x y scale b .sweeps ≤ limit
-      go false y scale b = unfold unturned in zero-le
-      go true true scale b = unfold unturned in zero-le
-      go true false scale b = unfold scaledBack swept in sweeping-limit n (ε ⊗ sqrt (squares n (at b n))) (initial n b) limit
+  unfolding begun
+  sweeps-bound limit = decompose-cases (λ d. d .sweeps ≤ limit) limit n a (λ found. unfold unturned in zero-le) (unfold scaledBack swept in sweeping-limit n tolerance begun limit)
 
   pub rotations-bound : (limit : ℕ) → decompose limit n a .rotations ≤ decompose limit n a .sweeps * (n * (n - 1) / 2)
   unfolding pairs begun

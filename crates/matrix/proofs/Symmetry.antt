@@ -9,7 +9,7 @@ use Prim.Native.Nat.{ℕ, suc, _+_, _-_, _*_, _≤_, _<_}
 use native.Mathlib.Nat.{lt-trans, le-refl, ne-of-lt}
 use lib.Dec.{eqb}
 use lib.ListN.{length, set, length-set}
-use lib.Ieee.{Float, eq}
+use lib.Ieee.{Float}
 use borrow.Author.Tests.{eqb-true, eqb-false, eq-eqb, ne-eqb}
 use Rattle.leaves.specs.Numbers.{_⊕_, _⊖_, _⊗_, _⊘_, zero⁺, half}
 use Rattle.leaves.specs.Loops.{loop}
@@ -17,14 +17,14 @@ use Rattle.leaves.proofs.Whole.{le-or-lt}
 use Rattle.leaves.proofs.Commutative.{plus-comm}
 use Rattle.leaves.proofs.Loops.{cell}
 use Rattle.matrix.specs.Matrix.{Matrix, at, rows, identity, product, transpose, Symmetric}
-use Rattle.matrix.specs.Rotation.{State, tangent, cotangent, cosine, turnColumns, turnRows, rotated, rotateBy, rotate}
+use Rattle.matrix.specs.Rotation.{State, tangent, cosine, turnColumns, turnRows, rotated, rotateBy, rotate}
 use Rattle.matrix.specs.Jacobi.{afterSweeps, start}
 use Rattle.matrix.specs.Inner.{state, turnedBoth, turnedBlock, mirrored}
-use Rattle.matrix.proofs.Stored.{rows-at, rows-ext}
+use Rattle.matrix.proofs.Stored.{rows-at, rows-is}
+use Rattle.matrix.proofs.Rotated.{rotate-cases}
 use Rattle.matrix.proofs.Counts.{row-keeps, rows-keep, sweeps-keep}
 use Rattle.matrix.proofs.Rows.{turnedRow}
-use Rattle.matrix.proofs.Cells.{turned-same, two-set, same-row, same-column, Rows, rows-all, length-columns, columns-at, length-turned-rows, turned-rows-at}
-use Rattle.matrix.proofs.Flip.{whole}
+use Rattle.matrix.proofs.Cells.{turned-same, two-set, same-row, same-column, inRows, row-lines, Replaced, lines-all, length-columns, columns-at, length-turned-rows, turned-rows-at}
 
 -- ---- two cells of a stored matrix replaced
 module _ (n : ℕ) (l : List Float) (len : length l ≡ n * n) (i₁ j₁ i₂ j₂ : ℕ) (h₁ : i₁ < n) (k₁ : j₁ < n) (h₂ : i₂ < n) (k₂ : j₂ < n) (d : i₁ ≢ i₂) (x y : Float) where
@@ -134,7 +134,7 @@ module _ (c s : Float) (n p q : ℕ) (pq : p < q) (qn : q < n) where
     length-turned : length turned ≡ n * n
     length-turned = length-turned-rows c s n p q pq qn (turnColumns n p q c s a) (length-columns c s n p q pq qn a len)
 
-    pub length-both : length (turnedBoth n p q c s a) ≡ n * n
+    length-both : length (turnedBoth n p q c s a) ≡ n * n
     length-both = simp length-set length-turned
 
     turned-at : (i j : ℕ) → i < n → j < n → at turned n i j ≡ twice (at a n) i j
@@ -147,7 +147,7 @@ module _ (c s : Float) (n p q : ℕ) (pq : p < q) (qn : q < n) where
     both-at i j hi hj x y = zero-no turned length-turned i j hj x y ∙ turned-at i j hi hj
 
     module _ (same : Symmetric n a) where
-      pub both-symmetric : Symmetric n (turnedBoth n p q c s a)
+      both-symmetric : Symmetric n (turnedBoth n p q c s a)
       both-symmetric i j hi hj = go (place i) (place j)
         where
           other : (i ≡ p → j ≡ q → ⊥) → (i ≡ q → j ≡ p → ⊥) → at (turnedBoth n p q c s a) n i j ≡ at (turnedBoth n p q c s a) n j i
@@ -242,7 +242,7 @@ module _ (c s : Float) (n p q : ℕ) (pq : p < q) (qn : q < n) where
       mirrored-at i j hi hj (inr (inr e)) = rw (ne-eqb j p (e .0), ne-eqb j q (e .1)) (done-aside i j hi hj e (place i))
 
       pub mirrored-both : rows n n (mirrored n p q blocked) ≡ turnedBoth n p q c s a
-      mirrored-both = rows-ext n n (mirrored n p q blocked) (at (turnedBoth n p q c s a) n) (λ i j hi hj. mirrored-at i j hi hj (place j)) ∙ sym (whole n (turnedBoth n p q c s a) length-both)
+      mirrored-both = sym (rows-is (turnedBoth n p q c s a) n (mirrored n p q blocked) length-both (λ i j hi hj. sym (mirrored-at i j hi hj (place j))))
 
       pub blocked-meet : at blocked n p q ≡ at blocked n q p
       blocked-meet = zero-pq cornered length-cornered p q refl refl ∙ sym (zero-qp cornered length-cornered q p pn refl refl)
@@ -252,7 +252,7 @@ module _ (n p q : ℕ) (pq : p < q) (qn : q < n) (a : List Float) (len : length 
   abbrev from : ℕ → List Float → ℕ → Float
   from r v k = at v n r k
 
-  kept : (m : ℕ) (v : List Float) → m < n → Rows n p q pq qn a (from p) (from q) m v → (at v n p m ≡ at a n p m) × (at v n q m ≡ at a n q m)
+  kept : (m : ℕ) (v : List Float) → m < n → Replaced n (inRows n) (row-lines n) p q pq qn a (from p) (from q) m v → (at v n p m ≡ at a n p m) × (at v n q m ≡ at a n q m)
   kept m v hm H = (in-p (le-or-lt m p), in-q (le-or-lt m q))
     where
       pn : p < n
@@ -275,23 +275,18 @@ module _ (n p q : ℕ) (pq : p < q) (qn : q < n) (a : List Float) (len : length 
 
   pub copied-all : loop n copied a ≡ rows n n (mirrored n p q a)
   copied-all =
-      let H = rows-all n p q pq qn a (from p) (from q) kept n (le-refl n) len in
-      whole n (loop n copied a) (H .len) ∙ rows-ext n n (at (loop n copied a) n) (mirrored n p q a) (λ i j hi hj. H .done i j hi hj hi)
+      let H = lines-all n (inRows n) (row-lines n) p q pq qn a (from p) (from q) kept n (le-refl n) len in
+      rows-is (loop n copied a) n (mirrored n p q a) (H .len) (λ i j hi hj. H .done i j hi hj hi)
 
 -- ---- what rotations keep
 abbrev pub Kept : ℕ → ℕ → State → Type 0
 Kept n r st = (length (st .matrix) ≡ n * n) × Symmetric n (st .matrix)
 
 pub rotate-symmetric : (n r p q : ℕ) (st : State) → p < q → q < n → Kept n r st → Kept n (suc r) (rotate n p q st)
-unfolding rotate rotateBy rotated
-rotate-symmetric n r p q st pq qn g = go (eq (at (st .matrix) n p q) zero⁺)
-  where
-    t : Float
-    t = tangent (cotangent (at (st .matrix) n p p) (at (st .matrix) n p q) (at (st .matrix) n q q))
-
-    go : (b : Bool) → Kept n (suc r) (elim b as (λ z. State) [ true ↦ st | false ↦ rotateBy n p q t st ])
-    go true = g
-    go false = (length-both (cosine t) (t ⊗ cosine t) n p q pq qn (st .matrix) (g .0), both-symmetric (cosine t) (t ⊗ cosine t) n p q pq qn (st .matrix) (g .0) (g .1))
+unfolding rotateBy rotated
+rotate-symmetric n r p q st pq qn g =
+    rotate-cases (Kept n (suc r)) n p q st g
+    (λ τ. let t = tangent τ in (length-both (cosine t) (t ⊗ cosine t) n p q pq qn (st .matrix) (g .0), both-symmetric (cosine t) (t ⊗ cosine t) n p q pq qn (st .matrix) (g .0) (g .1)))
 
 -- so a row of a sweep, its first rows, and k sweeps, as the code has them
 module _ (n : ℕ) (a₀ v₀ : List Float) {a v : List Float} {r : ℕ} (len : length a₀ ≡ n * n) (same : Symmetric n a₀) where

@@ -7,9 +7,10 @@ use Prim.Native.Nat.{ℕ, _+_, _*_, _^_, _≤_, _<_}
 use native.Mathlib.Nat.{mul-le-mul, mul-lt-mul-of-pos-right, le-of-mul-le-mul-right}
 use native.Mathlib.Omega.{arith}
 use lib.Dec.{T, lit<}
-use lib.Ieee.{Float, nan, inf, fin, binary64, unlike, neg, add, sub, mul, fits}
+use lib.Ieee.{Float, nan, binary64, unlike, neg, sub, fits}
 use lib.Ieee.Fits.{add-fits, sub-fits}
 use Rattle.leaves.specs.Numbers.{_⊕_, _⊖_, _⊗_, isFinite}
+use Rattle.leaves.proofs.Nan.{nan-mul, nan-add, nan-sub}
 use Rattle.leaves.proofs.Rounding.{near, near-error}
 use Rattle.leaves.proofs.Units.{U, U-pos, Top, Val, sign, mag, val-mag, val-finite, mag-val, neg-val, rounded-val}
 use Rattle.leaves.proofs.Arithmetic.{sumSign, total, total-le, add-rounded}
@@ -84,26 +85,6 @@ module _ (C S P Q : ℕ) (unit : (C * C + S * S) * 1024 ≤ U * U * 1025) (hP : 
       go true false true = apart
       go true true false = apart
       go true true true = together
-
--- ---- NaN
-nan-mul : (x y : Float) → (x ≡ nan) ⊎ (y ≡ nan) → x ⊗ y ≡ nan
-unfolding mul
-nan-mul x y (inl e) = ap (λ (z : Float). z ⊗ y) e
-nan-mul nan y (inr e) = refl
-nan-mul (inf s) y (inr e) = ap (λ (z : Float). inf s ⊗ z) e
-nan-mul (fin s m d) y (inr e) = ap (λ (z : Float). fin s m d ⊗ z) e
-
-nan-add : (x y : Float) → (x ≡ nan) ⊎ (y ≡ nan) → x ⊕ y ≡ nan
-unfolding add
-nan-add x y (inl e) = ap (λ (z : Float). z ⊕ y) e
-nan-add nan y (inr e) = refl
-nan-add (inf s) y (inr e) = ap (λ (z : Float). inf s ⊕ z) e
-nan-add (fin s m d) y (inr e) = ap (λ (z : Float). fin s m d ⊕ z) e
-
-nan-sub : (x y : Float) → (x ≡ nan) ⊎ (y ≡ nan) → x ⊖ y ≡ nan
-unfolding sub neg
-nan-sub x y (inl e) = nan-add x (neg y) (inl e)
-nan-sub x y (inr e) = nan-add x (neg y) (inr (ap neg e))
 
 -- ---- a value of the format that is NaN or finite
 abbrev pub Tame : Float → Type 0

@@ -135,7 +135,7 @@ fn turned(
 {
     start(a, n, scale, work);
     tables::put_identity(vectors, n);
-    let tolerance = 2.220446049250313e-16 * leaves::root::sqrt(squares(work, n));
+    let tolerance = leaves::numbers::EPSILON * leaves::root::sqrt(squares(work, n));
     let w = sweeping(work, vectors, n, limit, tolerance);
     tables::put_diagonal(work, n, scale, values);
     tables::flip(vectors, n, work);

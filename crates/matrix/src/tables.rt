@@ -8,6 +8,17 @@ ghost use Rattle.matrix.specs.Matrix.{at, rows, identity, averaged};
 ghost use Rattle.matrix.specs.Inner.{byColumns};
 use crate::entries::get;
 
+pub fn copy(xs: &[f64], out: &mut [f64])
+    requires { ⌜ length (now xs) ≡ length (now out) ⌝ }
+    ensures { λ _. ⌜ now (out .exit) ≡ now (xs .entry) ⌝ }
+{
+    let mut k = 0;
+    while k < out.len() {
+        out[k] = xs[k];
+        k += 1;
+    }
+}
+
 // The average with the transpose.
 pub fn average(a: &[f64], n: usize, out: &mut [f64])
     requires { ⌜ (length (now a) ≡ n * n) × (length (now out) ≡ n * n) ⌝ }
@@ -89,23 +100,11 @@ fn put_transpose(a: &[f64], n: usize, out: &mut [f64])
     }
 }
 
-fn copy(a: &[f64], n: usize, out: &mut [f64])
-    requires { ⌜ (length (now a) ≡ n * n) × (length (now out) ≡ n * n) ⌝ }
-    ensures { λ _. ⌜ now (out .exit) ≡ now (a .entry) ⌝ }
-{
-    let size = n * n;
-    let mut k = 0;
-    while k < size {
-        out[k] = a[k];
-        k += 1;
-    }
-}
-
 // The transpose in place of the matrix, with `work` to reckon in.
 pub(crate) fn flip(a: &mut [f64], n: usize, work: &mut [f64])
     requires { ⌜ (length (now a) ≡ n * n) × (length (now work) ≡ n * n) ⌝ }
     ensures { λ _. ⌜ now (a .exit) ≡ byColumns n (now (a .entry)) ⌝ }
 {
     put_transpose(a, n, work);
-    copy(work, n, a);
+    copy(work, a);
 }

@@ -22,7 +22,7 @@ use Rattle.paper.specs.Text.{glyph, digits, unpadded}
 use Rattle.paper.specs.Screen.{shownAs, shown, shownText, screenText}
 use Rattle.paper.specs.Answer.{refused, bitsText, lineText, linesText, outcome, outcomeText}
 use Rattle.paper.specs.Grammar.{kinds, placeIn, little, starts, taken, sheet}
-use Rattle.paper.specs.Rules.{outline, present, shapeFits, settingsFit, takes, wellFormed, malformed, question, readPaper}
+use Rattle.paper.specs.Rules.{outline, present, shapeFits, settingsFit, takes, wellFormed, malformed, readPaper}
 use Rattle.paper.specs.Marking.{estimateOf, shrinkageOf, regularizationOf, limitOf, settingsOf, targetOf, asked, columns, answerOf, examined, marking}
 
 -- 01 0200 0200 | 02 000000000000F03F | 02 0000000000000040 | 02 0000000000000840 | 02 0000000000001840 | 0B 00

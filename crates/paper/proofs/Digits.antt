@@ -2,11 +2,10 @@
 use mathlib.Core.Path.{_≡_, refl, sym, ap, _∙_}
 use mathlib.Core.List.{List, [], _∷_, _++_, append-nil}
 use Prim.Native.Nat.{ℕ, zero, suc, _+_, _-_, _/_, _%_, _≤_, _<_}
-use native.Mathlib.Nat.{not-suc-le-zero, le-of-suc-le-suc, sub-zero}
+use native.Mathlib.Nat.{not-suc-le-zero, le-of-suc-le-suc, sub-zero, suc-sub-suc}
 use native.Mathlib.Numerals.{add-one, sub-one}
 use native.Mathlib.Omega.{arith}
 use lib.ListN.{length, set, take, drop, getD, length-append, length-drop, drop-of-length-le}
-use lib.Dec.{eqb}
 use lib.Seq.{take-all, drop-cons, append-snoc, drop-set-lt, getD-set-same, lt-length-set, drop-length, drop-append-le}
 use borrow.Author.Tests.{eq-eqb, ne-eqb}
 use Rattle.paper.specs.Text.{glyph, digits, unpadded}
@@ -43,10 +42,7 @@ unfolding digits
 digits-last b m zero n h = rw sub-zero (drop-of-length-le (digits b m n) {i = m} (omega (arith, digits-length b m n)))
 digits-last b zero (suc k) n h = absurd (not-suc-le-zero h)
 digits-last b (suc m) (suc k) n h =
-    rw (less m k, drop-append-le (m - k) (digits b m (n / b)) (glyph (n % b) ∷ []) (omega (arith, digits-length b m (n / b))), digits-last b m k (n / b) (le-of-suc-le-suc h))
-  where
-    less : (m k : ℕ) → suc m - suc k ≡ m - k
-    less m k = omega arith
+    rw (suc-sub-suc m k, drop-append-le (m - k) (digits b m (n / b)) (glyph (n % b) ∷ []) (omega (arith, digits-length b m (n / b))), digits-last b m k (n / b) (le-of-suc-le-suc h))
 
 -- ---- m digits, written from place i on
 

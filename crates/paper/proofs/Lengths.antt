@@ -24,7 +24,7 @@ use Rattle.paper.specs.declared.screen.Shown.the-variants.{Big, Number}
 use Rattle.paper.specs.Text.{Out, out, write, digits, unpadded, decimal}
 use Rattle.paper.specs.Screen.{shown, shownText}
 use Rattle.paper.specs.Answer.{Outcome, refused, ok, lineText, linesText, outcome, outcomeText}
-use Rattle.paper.specs.Grammar.{starts, body, none, more, taken, sheet, kinds}
+use Rattle.paper.specs.Grammar.{maxAssets, starts, body, none, more, taken, sheet, kinds}
 use Rattle.paper.specs.Rules.{outline, value, assets, periods, wellFormed, malformed, question, readPaper}
 use Rattle.paper.specs.Marking.{asked, columns, answerOf, examined, marking}
 use Rattle.paper.specs.Inner.{buffer}
@@ -104,7 +104,7 @@ entries (ok n c xs) = length xs
 abbrev pub maxText : ℕ
 maxText = 8192
 
-outcome-length : (a : Outcome) → entries a ≤ 64 → length (outcomeText a) ≤ maxText
+outcome-length : (a : Outcome) → entries a ≤ maxAssets * maxAssets → length (outcomeText a) ≤ maxText
 unfolding outcomeText
 outcome-length (refused k) h = simp length-append (omega (arith, decimal-length k))
 outcome-length (ok n c xs) h = simp length-append (omega (arith, decimal-length n, decimal-length c, lines-length c 0 xs))
@@ -163,7 +163,7 @@ outcome-entries n c (Intensity δ) xs = omega arith
 outcome-entries n c Mean xs = omega arith
 outcome-entries n c (Shrunk α target sweeps rotations) xs = omega arith
 
-answer-entries : (o : Outline) (r g : List Float) → wellFormed o ≡ true → entries (answerOf o r g) ≤ 64
+answer-entries : (o : Outline) (r g : List Float) → wellFormed o ≡ true → entries (answerOf o r g) ≤ maxAssets * maxAssets
 unfolding answerOf
 answer-entries o r g e =
     let n = assets o in

@@ -2,7 +2,7 @@
 use mathlib.Core.Path.{_≡_, _∙_}
 use mathlib.Core.List.{List}
 use Prim.Native.Nat.{ℕ, zero, suc, _+_, _-_, _*_, _^_, _≤_, _<_}
-use native.Mathlib.Nat.{not-suc-le-zero, sub-self, sub-zero, add-zero, pow-suc, pow-le-pow-right, lt-of-lt-of-le}
+use native.Mathlib.Nat.{not-suc-le-zero, sub-self, sub-zero, add-zero, add-suc, pow-suc, pow-le-pow-right, lt-of-lt-of-le}
 use native.Mathlib.Numerals.{sub-one}
 use native.Mathlib.Omega.{arith}
 use lib.ListN.{length, take, drop, getD}
@@ -27,13 +27,10 @@ unfolding little
 formed-more s at len zero v p f g h = absurd (not-suc-le-zero p)
 formed-more s at len (suc j) v p f g h = rw sub-one (record {
   few = omega arith;
-  is = rw (one-less len j (h .few), drop-cons s (at + j) 0 (omega arith), ← shift at j, ← h .is) (turn v (getD s (at + j) 0));
+  is = rw (one-less len j (h .few), drop-cons s (at + j) 0 (omega arith), ← add-suc at j, ← h .is) (turn v (getD s (at + j) 0));
   small = rw (one-less len j (h .few), pow-suc 256 (len - suc j)) (scaled v (getD s (at + j) 0) (256 ^ (len - suc j)) (h .small) (rw sub-one at g));
 })
   where
-    shift : (at j : ℕ) → at + suc j ≡ suc (at + j)
-    shift at j = omega arith
-
     turn : (v b : ℕ) → v * 256 + b ≡ b + 256 * v
     turn v b = omega arith
 

@@ -2,7 +2,7 @@
 use mathlib.Core.Path.{_≡_, refl, sym, ap, _∙_}
 use mathlib.Core.List.{List, [], _∷_, _++_, map}
 use Prim.Native.Nat.{ℕ, zero, suc, _+_, _-_, _≤_, _<_}
-use native.Mathlib.Nat.{not-suc-le-zero, le-of-suc-le-suc}
+use native.Mathlib.Nat.{not-suc-le-zero, le-of-suc-le-suc, add-sub-cancel-left}
 use native.Mathlib.Numerals.{add-one}
 use native.Mathlib.Omega.{arith}
 use lib.ListN.{length, getD, take, drop, length-map, length-drop, length-append}
@@ -54,13 +54,10 @@ floats-filled cs ns p from n d₀ d e f h g =
     let xs = map float l in
     let length-xs : length xs ≡ n = length-map l float ∙ length-l in
     let is : getD (split cs ns) p [] ≡ l = rw (piece cs ns p, ← e, ← f) in
-    let d-is : d ≡ xs ++ drop n d₀ = g ∙ rw (cancel from n, tab-map float l, length-l) in
+    let d-is : d ≡ xs ++ drop n d₀ = g ∙ rw (add-sub-cancel-left from n, tab-map float l, length-l) in
     let within : n ≤ length d = rw d-is (omega (arith, length-append xs (drop n d₀))) in
     record {
       counts = (within, sym (length-take-le n d within));
       front = rw (is, d-is) (take-at xs (drop n d₀) n length-xs);
       behind = rw d-is (drop-at xs (drop n d₀) n length-xs);
     }
-  where
-    cancel : (a b : ℕ) → a + b - a ≡ b
-    cancel a b = omega arith

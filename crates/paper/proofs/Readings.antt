@@ -1,11 +1,11 @@
 -- Laws of `readPaper`: from a scanned file to its reading. Assumes nothing.
-use mathlib.Core.Path.{_≡_, refl, sym, ap, _∙_, subst}
-use mathlib.Core.Bool.{Bool, true, false, _&&_, cond}
+use mathlib.Core.Path.{_≡_, refl, sym, ap, _∙_}
+use mathlib.Core.Bool.{Bool, true, false, _&&_, cond, and-eq-true-iff}
 use mathlib.Core.List.{List, [], _∷_, map}
 use Prim.Native.Nat.{ℕ, _+_, _-_, _≤_}
 use native.Mathlib.Omega.{arith}
 use lib.ListN.{length, drop, length-append, length-drop}
-use lib.Dec.{eqb, T}
+use lib.Dec.{eqb}
 use borrow.Author.Tests.{eq-eqb, ne-eqb}
 use Rattle.paper.specs.declared.rules.Outline.{Outline}
 use Rattle.paper.specs.declared.reader.Scanned.{Scanned}
@@ -56,10 +56,6 @@ told : (b : Bool) (q l : List (List ℕ)) → question q ≡ cond b (question l)
 told true q l e = (refl, cc)
 told false q l e = let no : _≡_ {A = ℕ} 0 1 = cc in absurd (omega arith)
 
-and-right : (a b : Bool) → a && b ≡ true → b ≡ true
-and-right true b e = e
-and-right false b e = absurd (subst T (sym e) tt)
-
 module _ (s v v' : List ℕ) (r : Parsed) (x : ReadIs s v v' r) where
   abbrev parts : List (List ℕ)
   parts = split (r .outline .counts) v'
@@ -79,7 +75,7 @@ module _ (s v v' : List ℕ) (r : Parsed) (x : ReadIs s v v' r) where
 
     -- what `examine` asks
     pub sound : (total (r .outline .counts) ≤ length v') × (wellFormed (r .outline) ≡ true)
-    sound = (omega (arith, room-is, x .room), rw (x .outline-is) (and-right (eqb (length (sheet kinds s .rest)) 0) _ (lists-are .0)))
+    sound = (omega (arith, room-is, x .room), rw (x .outline-is) (and-eq-true-iff (eqb (length (sheet kinds s .rest)) 0) _ .0 (lists-are .0) .1))
 
     pub marked : outcomeText (answerOf (r .outline) (floats parts 2) (floats parts 9)) ≡ marking s
     unfolding marking examined

@@ -1,9 +1,9 @@
 -- Laws of `taken`: the records of one kind, one by one. Assumes nothing.
 use mathlib.Core.Path.{_≡_, refl, sym, ap, _∙_}
-use mathlib.Core.Bool.{Bool, true, false, _&&_}
+use mathlib.Core.Bool.{true, false, and-eq-true-iff}
 use mathlib.Core.List.{List, [], _∷_}
 use Prim.Native.Nat.{ℕ, zero, suc, _+_, _-_, _≤_, _<_}
-use native.Mathlib.Nat.{add-zero, sub-zero, zero-add, not-suc-le-zero}
+use native.Mathlib.Nat.{add-zero, sub-zero, zero-add, sub-add-eq, not-suc-le-zero}
 use native.Mathlib.Numerals.{sub-one}
 use native.Mathlib.Omega.{arith}
 use lib.ListN.{length, getD, take, drop, length-drop}
@@ -32,11 +32,7 @@ module _ (k : Kind) (at : ℕ) (s : List ℕ) where
   -- it lies in the file
   pub fits-in : starts k (drop at s) ≡ true → at + 1 + k .body ≤ length s
   unfolding starts
-  fits-in e = let h : k .body < length s - at = ltb-true _ _ (simp length-drop at (left (ltb (k .body) (length (drop at s))) _ e)) in omega arith
-    where
-      left : (a b : Bool) → a && b ≡ true → a ≡ true
-      left true b e = refl
-      left false b e = e
+  fits-in e = let h : k .body < length s - at = ltb-true _ _ (simp length-drop at (and-eq-true-iff (ltb (k .body) (length (drop at s))) _ .0 e .0)) in omega arith
 
   -- the first body
   pub first-yes : (m : ℕ) → 0 < m → starts k (drop at s) ≡ true → little (take (k .body) (drop (at + 1) s)) ≡ firstOf (taken k m (drop at s) .bodies)
@@ -77,16 +73,13 @@ pub left-more : (s : List ℕ) (w : Taken) (o₀ : Out) (k : Kind) (m at count :
     → (v : ℕ) → v ≡ little (take (k .body) (drop (at + 1) s)) → p ≡ write o (v ∷ []) → Left s w o₀ k (m - (count + 1)) (at + (k .body + 1)) (count + 1) p
 left-more s w o₀ k m at count o p h l e v f g =
     let after = taken k (m - (count + 1)) (drop (at + (k .body + 1)) s) in
-    let t : taken k (m - count) (drop at s) ≡ more v after = taken-more k (m - count) at s (omega arith) e ∙ rw (less m count, ← f) in
+    let t : taken k (m - count) (drop at s) ≡ more v after = taken-more k (m - count) at s (omega arith) e ∙ rw (← sub-add-eq m count 1, ← f) in
     let one : length (taken k (m - count) (drop at s) .bodies) ≡ suc (length (after .bodies)) = rw t in
     record {
       numbers = onward o (v ∷ []) (after .bodies) (taken k (m - count) (drop at s) .bodies) g (ap (λ (x : Taken). x .bodies) t) ∙ h .numbers;
       rest = sym (ap (λ (x : Taken). x .rest) t) ∙ h .rest;
       counted = omega (arith, h .counted);
     }
-  where
-    less : (m count : ℕ) → m - count - 1 ≡ m - (count + 1)
-    less m count = omega arith
 
 pub left-none : (s : List ℕ) (w : Taken) (v₀ : List ℕ) (to : ℕ) (k : Kind) (m : ℕ) (r : Took) (v : List ℕ) → Left s w (out v₀ to) k m (r .at) (r .count) (out v (r .next)) → r .at ≤ length s
     → taken k m (drop (r .at) s) ≡ none (drop (r .at) s) → TookIs s w v₀ to v r

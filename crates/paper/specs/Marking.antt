@@ -6,6 +6,7 @@ use lib.ListN.{getD, replicate}
 use lib.Dec.{eqb}
 use lib.Ieee.{Float}
 use Rattle.leaves.specs.Numbers.{zero⁺, float}
+use Rattle.matrix.specs.Limits.{maxSweeps}
 use Rattle.estimators.specs.Calls.{Answered, adjustedCovariance, exponentiallyWeightedMean, jamesSteinMean, bayesSteinMean}
 use Rattle.estimators.specs.declared.Estimate.{Estimate}
 use Rattle.estimators.specs.declared.Estimate.the-variants.{Sample, Given, Weighted, Semi, SemiBelow}
@@ -40,9 +41,9 @@ shrinkageOf o = cond (has o 4) (Fixed (float (value o 4))) (cond (has o 5) (Ledo
 unfoldable pub regularizationOf : Outline → Regularization
 regularizationOf o = cond (has o 3) (Ridge (float (value o 3))) Unregularized
 
--- without kind 10 the limit is 100
+-- "Without 10 the limit is 100", the largest
 unfoldable pub limitOf : Outline → ℕ
-limitOf o = cond (has o 10) (value o 10) 100
+limitOf o = cond (has o 10) (value o 10) maxSweeps
 
 unfoldable pub settingsOf : Outline → Settings
 settingsOf o = record { estimate = estimateOf o; shrinkage = shrinkageOf o; regularization = regularizationOf o; limit = limitOf o }

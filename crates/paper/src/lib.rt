@@ -6,7 +6,7 @@ mod marking;
 mod reader;
 mod rules;
 mod screen;
-mod settings;
+pub mod settings;
 mod text;
 
 ghost use mathlib.Core.Path.{_≡_};

@@ -14,7 +14,7 @@ pub struct Outline {
     pub firsts: [u64; KINDS],
 }
 
-// What a list that has a number for each kind has for one.
+// The number of a kind in a list that has one for each; 0 for a byte of no kind.
 fn entry(list: [u64; KINDS], kind: u8) -> u64
     ensures { λ r. ⌜ r ≡ getD list (placeIn kinds kind) 0 ⌝ }
 {
@@ -22,7 +22,7 @@ fn entry(list: [u64; KINDS], kind: u8) -> u64
     if p < KINDS { list[p] } else { 0 }
 }
 
-pub fn count(o: Outline, kind: u8) -> u64
+fn count(o: Outline, kind: u8) -> u64
     ensures { λ r. ⌜ r ≡ Rules.count o kind ⌝ }
 {
     let counts = o.counts;

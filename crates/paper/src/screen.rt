@@ -24,7 +24,8 @@ fn units(m: u64, shift: u64) -> u64
     if shift > 63 { 0 } else { m * 625 >> shift }
 }
 
-pub fn show(x: f64) -> Shown
+// From the fields of the bits. Size 2^31 has the exponent 1054.
+fn show(x: f64) -> Shown
     ensures { λ r. ⌜ r ≡ Screen.shown x ⌝ }
 {
     if x != x {

@@ -14,13 +14,14 @@ use estimators::Target;
 use leaves::numbers::float;
 
 // The number of a kind.
-pub fn number_of(o: Outline, kind: u8) -> f64
+pub(crate) fn number_of(o: Outline, kind: u8) -> f64
     ensures { λ r. ⌜ r ≡ Numbers.float (Rules.value o kind) ⌝ }
 {
     float(value(o, kind))
 }
 
-fn target(byte: u64) -> Target
+// 0 stands for constant variance, 1 for constant correlation.
+pub fn target(byte: u64) -> Target
     ensures { λ r. ⌜ r ≡ Marking.targetOf byte ⌝ }
 {
     if byte == 0 {
@@ -69,16 +70,16 @@ fn regularization(o: Outline) -> Regularization
     Regularization::Unregularized
 }
 
-pub fn limit(o: Outline) -> usize
+pub(crate) fn limit(o: Outline) -> usize
     ensures { λ r. ⌜ r ≡ Marking.limitOf o ⌝ }
 {
     if has(o, 10) {
         return value(o, 10) as usize;
     }
-    100
+    matrix::MAX_SWEEPS
 }
 
-pub fn settings(o: Outline) -> Settings
+pub(crate) fn settings(o: Outline) -> Settings
     ensures { λ r. ⌜ r ≡ Marking.settingsOf o ⌝ }
 {
     let estimate = estimate(o);

@@ -6,6 +6,9 @@ ghost use lib.ListN.{length, drop};
 ghost use Rattle.paper.specs.Text as Text;
 ghost use Rattle.paper.specs.Text.{out as into, write};
 
+// No number of 64 bits has more decimal digits.
+const DIGITS: usize = 20;
+
 pub fn put(out: &mut [u8], at: usize, b: u8) -> usize
     ensures { λ r. ⌜ into (now (out .exit)) r ≡ write (into (now (out .entry)) at) (b ∷ []) ⌝ }
 {
@@ -73,9 +76,9 @@ pub fn put_digits(base: u64, k: usize, n: u64, out: &mut [u8], at: usize) -> usi
     requires { ⌜ (0 < base) × (base ≤ 16) × (k ≤ 20) ⌝ }
     ensures { λ r. ⌜ into (now (out .exit)) r ≡ write (into (now (out .entry)) at) (Text.digits base k n) ⌝ }
 {
-    let mut text = [0u8; 20];
+    let mut text = [0u8; DIGITS];
     fill_digits(base, n, &mut text);
-    let first = 20 - k;
+    let first = DIGITS - k;
     put_text(&text[first..], out, at)
 }
 
@@ -83,7 +86,7 @@ pub fn put_digits(base: u64, k: usize, n: u64, out: &mut [u8], at: usize) -> usi
 pub fn put_decimal(n: u64, after: u8, out: &mut [u8], at: usize) -> usize
     ensures { λ r. ⌜ into (now (out .exit)) r ≡ write (into (now (out .entry)) at) (Text.decimal n ++ (after ∷ [])) ⌝ }
 {
-    let mut text = [0u8; 20];
+    let mut text = [0u8; DIGITS];
     fill_digits(10, n, &mut text);
     let first = significant(&text);
     let next = put_text(&text[first..], out, at);

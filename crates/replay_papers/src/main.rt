@@ -11,7 +11,7 @@ fn wide(b: u8) -> usize
 fn mark(paper: &[u8]) {
     let mut text = [0u8; paper::TEXT];
     let k = paper::mark(paper, &mut text);
-    io::write_all(1, &text[..k]);
+    io::write_all(libc::STDOUT_FILENO, &text[..k]);
 }
 
 // Stops where a paper is not there whole.
@@ -31,6 +31,6 @@ fn mark_all(papers: &[u8]) {
 
 fn main() {
     let mut papers = io::large_buffer();
-    let n = io::read_full(0, &mut papers);
+    let n = io::read_full(libc::STDIN_FILENO, &mut papers);
     mark_all(&papers[..n]);
 }

@@ -28,8 +28,8 @@ returns c =
     let b = c .before .before .before in
     ap (λ (l : Left). l .report) (tells-unknown (c .hand-out .ensures) {old = []} _ (le-ltb _ _ (b .before .if1 .taken)) (b .reported .ensures))
 
-target-of-requires : tie.Need-target-of-requires
-target-of-requires c κs = search needs
+target-requires : tie.Need-target-requires
+target-requires c κs = search needs
 
 ledoit-wolf-requires : tie.Need-ledoit-wolf-requires
 ledoit-wolf-requires c κs = search needs
@@ -47,7 +47,7 @@ returns-2 c =
     let call = told .before in
     let a = call .before .before .before .before .args in
     let known = lt-ltb _ _ (call .before .before .if1 .left) in
-    ap (λ (l : Left). l .report) (tells-known (c .hand-out2 .ensures) [] known (told .report-of .ensures) (with-target (a .returns .now) (a .assets) (a .periods) (call .ledoit-wolf .ensures) (call .before .target-of .ensures)))
+    ap (λ (l : Left). l .report) (tells-known (c .hand-out2 .ensures) [] known (told .report-of .ensures) (with-target (a .returns .now) (a .assets) (a .periods) (call .ledoit-wolf .ensures) (call .before .target .ensures)))
 
 pub engine-ledoit-wolf-spec : {M : Type 1} → statement M
 engine-ledoit-wolf-spec =
@@ -56,7 +56,7 @@ engine-ledoit-wolf-spec =
     reported-requires
     hand-out-requires
     returns
-    target-of-requires
+    target-requires
     ledoit-wolf-requires
     report-of-requires
     hand-out-requires-2

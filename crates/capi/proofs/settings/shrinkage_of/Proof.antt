@@ -13,15 +13,18 @@ returns-2 : tie.Need-returns-2
 unfolding shrinkageOf
 returns-2 c = rw (ne-eqb _ _ (c .before .if1 .left), eq-eqb _ _ (c .if2 .taken))
 
-sub-target-of : tie.Need-sub-target-of
-sub-target-of c = search needs
+sub-target : tie.Need-sub-target
+sub-target c = search needs
 
-target-of-requires : tie.Need-target-of-requires
-target-of-requires c κs = search needs
+cast-target : tie.Need-cast-target
+cast-target c = search needs
+
+target-requires : tie.Need-target-requires
+target-requires c κs = search needs
 
 returns-3 : tie.Need-returns-3
 unfolding shrinkageOf
-returns-3 c = rw (ne-eqb _ _ (c .before .before .if1 .left), ne-eqb _ _ (c .before .if2 .left), c .target-of .ensures)
+returns-3 c = rw (ne-eqb _ _ (c .before .before .if1 .left), ne-eqb _ _ (c .before .if2 .left), c .target .ensures)
 
 pub shrinkage-of-spec : {M : Type 1} → statement M
-shrinkage-of-spec = tie.close (tie.spec returns returns-2 sub-target-of target-of-requires returns-3)
+shrinkage-of-spec = tie.close (tie.spec returns returns-2 sub-target cast-target target-requires returns-3)

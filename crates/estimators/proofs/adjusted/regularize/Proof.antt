@@ -10,14 +10,15 @@ use Rattle.matrix.specs.Matrix.{Matrix, rows, identity}
 use Rattle.matrix.proofs.Stored.{rows-ext}
 use Rattle.estimators.specs.Adjusted.{regularized}
 use Rattle.estimators.specs.declared.Regularization.the-variants.{Ridge}
-use Rattle.estimators.proofs.Entries.{entrywise, stored}
+use Rattle.estimators.proofs.Stored.{at-stored}
+use Rattle.estimators.proofs.Entries.{entrywise}
 use borrow.Author.Needs.{needs}
 use Rattle.estimators.proofs.adjusted.regularize.Statement.{statement}
 use Rattle.estimators.proofs.adjusted.regularize.Tie as tie
 
 ridged : (n : ℕ) (ridge : Float) (f : Matrix) {unit old out : List Float} → unit ≡ rows n n identity → old ≡ rows n n f → out ≡ tab (length old) (λ k. nth old k ⊕ ridge ⊗ nth unit k) → out ≡ rows n n (regularized (Ridge ridge) f)
 unfolding regularized
-ridged n ridge f {unit} eu e e′ = entrywise n f (λ x y. y ⊕ ridge ⊗ x) unit e e′ ∙ rows-ext n n _ _ (λ i j hi hj t. f i j ⊕ ridge ⊗ stored n identity eu i j hi hj t)
+ridged n ridge f {unit} eu e e′ = entrywise n f (λ x y. y ⊕ ridge ⊗ x) unit e e′ ∙ rows-ext n n _ _ (λ i j hi hj t. f i j ⊕ ridge ⊗ at-stored n identity eu i j hi hj t)
 
 enum-told : tie.Need-enum-told
 enum-told c = search needs

@@ -1,6 +1,6 @@
 -- `estimators::adjusted::shrink` meets its contract, by the cases of the shrinkage and its target.
 use mathlib.Core.Path.{refl, _∙_}
-use Rattle.estimators.proofs.Stored.{rows-is}
+use Rattle.matrix.proofs.Stored.{rows-is}
 use Rattle.estimators.specs.Adjusted.{shrunk}
 use borrow.Author.Needs.{needs}
 use Rattle.estimators.proofs.adjusted.shrink.Statement.{statement}

@@ -3,10 +3,9 @@ use mathlib.Core.Path.{refl, sym, ap, _∙_}
 use lib.ListN.{length}
 use lib.Ieee.{Float}
 use Rattle.matrix.specs.Matrix.{at, rows}
-use Rattle.matrix.proofs.Stored.{length-rows}
+use Rattle.matrix.proofs.Stored.{length-rows, rows-is}
 use Rattle.estimators.specs.Weighted.{weightedCovariance}
 use Rattle.estimators.specs.Adjusted.{base}
-use Rattle.estimators.proofs.Stored.{rows-is}
 use borrow.Author.Needs.{needs}
 use Rattle.estimators.proofs.base.put_base.Statement.{statement}
 use Rattle.estimators.proofs.base.put_base.Tie as tie

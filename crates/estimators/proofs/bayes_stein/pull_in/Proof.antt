@@ -1,5 +1,5 @@
 -- `estimators::bayes_stein::pull_in` meets its contract: the steps of `bayesSteinPull`, one after the other.
-use mathlib.Core.Path.{_≡_, refl, ap, _∙_}
+use mathlib.Core.Path.{_≡_, refl, ap}
 use mathlib.Core.List.{List}
 use Prim.Native.Nat.{ℕ, _<_}
 use native.Mathlib.Omega.{arith}
@@ -8,13 +8,13 @@ use lib.ListN.{getD}
 use lib.Ieee.{Float}
 use borrow.Author.Needs.{needs}
 use Rattle.leaves.specs.Numbers.{_⊘_, one}
-use Rattle.leaves.specs.Loops.{tab, nth}
+use Rattle.leaves.specs.Loops.{nth}
 use Rattle.leaves.specs.Root.{sqrt}
 use Rattle.matrix.specs.Matrix.{Matrix}
 use Rattle.matrix.specs.Jacobi.{Decomposition}
 use Rattle.estimators.specs.BayesStein.{Pull, bayesSteinPull, ratioOf, distanceOf, pulledBy}
 use Rattle.estimators.specs.Gather.{Gathered}
-use Rattle.estimators.proofs.Stored.{tab-nth}
+use Rattle.estimators.proofs.Stored.{nth-stored}
 use Rattle.estimators.proofs.Exponents.{read}
 use Rattle.estimators.proofs.Gathered.{gathered-as}
 use Rattle.estimators.proofs.bayes_stein.pull_in.Statement.{statement}
@@ -63,7 +63,7 @@ returns c Σ d is-v is-values is-vectors =
     let a = s .args in
     let ra = read (A .gather-ones .result) (omega (arith, A .gather-ones .ensures .size)) in
     let rb = read (B .gather-means .result) (omega (arith, B .gather-means .ensures .size)) in
-    let root : (i : ℕ) → i < a .n → nth (a .volatilities .now) i ≡ sqrt (Σ i i) = λ i h. ap (λ (l : List Float). nth l i) is-v ∙ tab-nth (λ i. sqrt (Σ i i)) (a .n) i h in
+    let root : (i : ℕ) → i < a .n → nth (a .volatilities .now) i ≡ sqrt (Σ i i) = λ i h. nth-stored (a .n) (λ i. sqrt (Σ i i)) is-v i h in
     steps (a .n) (a .periods) (nth (a .means .now)) Σ (λ i. getD (a .exponents .now) i (pos 0)) d (A .gather-ones .result) (B .gather-means .result) _ _ (R .ratio .result) (D .distance .result) _
     (gathered-as (λ i h. ap (λ (x : Float). one ⊘ x) (root i h)) (λ i h. refl) (A .gather-ones .ensures))
     (gathered-as (λ i h. ap (λ (x : Float). nth (a .means .now) i ⊘ x) (root i h)) (λ i h. refl) (B .gather-means .ensures))

@@ -10,10 +10,10 @@ use Rattle.leaves.specs.Loops.{tab, nth}
 use Rattle.leaves.proofs.Loops.{length-tab}
 use Rattle.matrix.specs.Matrix.{at, rows}
 use Rattle.matrix.specs.Jacobi.{Decomposition, decompose}
+use Rattle.estimators.specs.Sample.{volatility, correlation}
 use Rattle.estimators.specs.Refusals as Refusals
 use Rattle.estimators.specs.Refusals.{first}
-use Rattle.estimators.specs.LedoitWolf.{deviationOf}
-use Rattle.estimators.specs.BayesStein.{correlation, Pull, bayesSteinPull, pulled}
+use Rattle.estimators.specs.BayesStein.{Pull, bayesSteinPull, pulled}
 use Rattle.estimators.specs.Checks.{checked}
 use Rattle.estimators.specs.Held.{momentsOf}
 use Rattle.estimators.specs.Calls.{Answered, answered, settle}
@@ -29,7 +29,7 @@ use Rattle.estimators.proofs.bayes_stein.shrink_in.Tie as tie
 
 -- μ and Σ are the moments, v and C the volatilities and correlations found
 module _ (n limit : ℕ) (μ Σ : List Float) (T : Float) (es : List ℤ) (size : ℕ → Float) (slice v C : List Float) (constant : Check)
-    (is-v : v ≡ tab n (deviationOf (at Σ n))) (is-C : C ≡ rows n n (correlation (at Σ n))) (is-constant : checked constant ≡ first (byCorrelations n size (at Σ n) (at C n))) where
+    (is-v : v ≡ tab n (volatility (at Σ n))) (is-C : C ≡ rows n n (correlation (at Σ n))) (is-constant : checked constant ≡ first (byCorrelations n size (at Σ n) (at C n))) where
   abbrev e : ℕ → ℤ
   e i = getD es i (pos 0)
 
@@ -90,9 +90,10 @@ same-length-2 c = search needs
 
 returns : tie.Need-returns
 returns c =
-    let a = c .before .before .before .before .before .before .before .before .before .before .before .before .before .before .before .before .before .before .args in
-    let k = c .before .before .before .before .before .before .before .correlate .ensures in
-    refused (a .n) (a .limit) (a .means .now) (a .covariance .now) (a .periods) (a .exponents .now) (nth (a .sizes .now)) (a .out .now) _ _ _ (k .0) (k .1) (k .2) (c .before .constant .given .1)
+    let k = c .before .before .before .before .before .before .before in
+    let e = k .correlate .ensures in
+    let a = k .before .before .before .before .before .before .before .before .before .before .before .args in
+    refused (a .n) (a .limit) (a .means .now) (a .covariance .now) (a .periods) (a .exponents .now) (nth (a .sizes .now)) (a .out .now) _ _ _ (e .0) (e .1) (e .2) (c .before .constant .given .1)
 
 enum-told : tie.Need-enum-told
 enum-told c = search needs
@@ -120,25 +121,31 @@ same-length-6 c = search needs
 
 returns-2 : tie.Need-returns-2
 returns-2 c =
-    let a = c .before .before .before .before .before .before .before .before .before .before .before .before .before .before .before .before .before .before .before .before .before .before .before .before .before .before .before .before .before .before .args in
-    let k = c .before .before .before .before .before .before .before .before .before .before .before .before .before .before .before .before .before .before .before .correlate .ensures in
-    let d = c .before .before .before .before .before .before .before .before .before .decompose in
-    singular-refused (a .n) (a .limit) (a .means .now) (a .covariance .now) (a .periods) (a .exponents .now) (nth (a .sizes .now)) (a .out .now) _ _ _ (k .0) (k .1) (k .2) (c .before .before .before .before .before .before .before .before .before .before .before .before .before .enum-told .given .1) _ (d .ensures) _ (c .before .before .before .judge .ensures _) (c .before .singular .given .1)
+    let d = c .before .before .before .before .before .before .before .before .before in
+    let t = d .before .before .before .before in
+    let k = t .before .before .before .before .before .before in
+    let e = k .correlate .ensures in
+    let a = k .before .before .before .before .before .before .before .before .before .before .before .args in
+    singular-refused (a .n) (a .limit) (a .means .now) (a .covariance .now) (a .periods) (a .exponents .now) (nth (a .sizes .now)) (a .out .now) _ _ _ (e .0) (e .1) (e .2)
+    (t .enum-told .given .1) _ (d .decompose .ensures) _ (c .before .before .before .judge .ensures _) (c .before .singular .given .1)
 
 enum-told-2 : tie.Need-enum-told-2
 enum-told-2 c = search needs
 
 pull-requires : tie.Need-pull-requires
 pull-requires c κs =
-    let s = c .before .before .before .before .before .before .before .before .before .before .before .before .before .before .before .before .before .before .before .before .before .before .before .before .before .before .before .before .before .before .before .before in
-    let p = s .pre in
-    (p .1, p .3, ap length (c .before .before .before .before .before .before .before .before .before .before .before .before .before .before .before .before .before .before .before .before .before .correlate .ensures .0) ∙ length-tab _ _, p .5, p .6, search (needs, p .10), search (needs, p .11))
+    let k = c .before .before .before .before .before .before .before .before .before .before .before .before .before .before .before .before .before .before .before .before .before in
+    let p = k .before .before .before .before .before .before .before .before .before .before .before .pre in
+    (p .1, p .3, ap length (k .correlate .ensures .0) ∙ length-tab _ _, p .5, p .6, search (needs, p .10), search (needs, p .11))
 
 put-pulled-requires : tie.Need-put-pulled-requires
 put-pulled-requires c κs = let p = c .before .before .before .before .before .before .before .before .before .before .before .before .before .before .before .before .before .before .before .before .before .before .before .before .before .before .before .before .before .before .before .before .before .before .pre in (p .3 ∙ sym (p .12), p .5 ∙ sym (p .12), p .6)
 
 same-length-7 : tie.Need-same-length-7
-same-length-7 c = let s = c .before .before .before .before .before .before .before .before .before .before .before .before .before .before .before .before .before .before .before .before .before .before .before .before .before .before .before .before .before .before .before .before .before .before .before .before .before in ap length (c .before .before .before .before .before .before .before .before .before .before .before .before .before .before .before .before .before .before .before .before .before .before .before .before .before .before .correlate .ensures .0) ∙ length-tab (deviationOf (at (s .args .covariance .now) (s .args .n))) (s .args .n) ∙ sym (s .pre .8)
+same-length-7 c =
+    let k = c .before .before .before .before .before .before .before .before .before .before .before .before .before .before .before .before .before .before .before .before .before .before .before .before .before .before in
+    let s = k .before .before .before .before .before .before .before .before .before .before .before in
+    ap length (k .correlate .ensures .0) ∙ length-tab (volatility (at (s .args .covariance .now) (s .args .n))) (s .args .n) ∙ sym (s .pre .8)
 
 same-length-8 : tie.Need-same-length-8
 same-length-8 c = search needs
@@ -154,12 +161,17 @@ same-length-11 c = search needs
 
 returns-3 : tie.Need-returns-3
 returns-3 c =
-    let s = c .before .before .before .before .before .before .before .before .before .before .before .before .before .before .before .before .before .before .before .before .before .before .before .before .before .before .before .before .before .before .before .before .before .before .before .before .before in
+    let w = c .before .before .before .before in
+    let u = w .before .before .before .before in
+    let d = u .before .before .before .before .before .before .before .before in
+    let t = d .before .before .before .before in
+    let k = t .before .before .before .before .before .before in
+    let s = k .before .before .before .before .before .before .before .before .before .before .before in
     let a = s .args in
-    let k = c .before .before .before .before .before .before .before .before .before .before .before .before .before .before .before .before .before .before .before .before .before .before .before .before .before .before .correlate .ensures in
-    let d = c .before .before .before .before .before .before .before .before .before .before .before .before .before .before .before .before .decompose in
-    let w = c .before .before .before .before .pull in
-    accepted (a .n) (a .limit) (a .means .now) (a .covariance .now) (a .periods) (a .exponents .now) (nth (a .sizes .now)) (a .out .now) _ _ _ (k .0) (k .1) (k .2) (c .before .before .before .before .before .before .before .before .before .before .before .before .before .before .before .before .before .before .before .before .enum-told .given .1) _ (d .ensures) _ (c .before .before .before .before .before .before .before .before .before .before .judge .ensures _) (c .before .before .before .before .before .before .before .before .enum-told2 .given .1) (w .result .intensity) (w .result .target) _ (w .ensures) (rw (s .pre .12) at (c .before .before .put-pulled .ensures))
+    let e = k .correlate .ensures in
+    accepted (a .n) (a .limit) (a .means .now) (a .covariance .now) (a .periods) (a .exponents .now) (nth (a .sizes .now)) (a .out .now) _ _ _ (e .0) (e .1) (e .2)
+    (t .enum-told .given .1) _ (d .decompose .ensures) _ (u .before .before .judge .ensures _) (u .enum-told2 .given .1)
+    (w .pull .result .intensity) (w .pull .result .target) _ (w .pull .ensures) (rw (s .pre .12) at (c .before .before .put-pulled .ensures))
 
 pub shrink-in-spec : {M : Type 1} → statement M
 shrink-in-spec = tie.close (tie.spec correlate-requires enum-known-constant same-length same-length-2 returns enum-told decompose-requires judge-requires enum-known-singular same-length-3 same-length-4 same-length-5 same-length-6 returns-2 enum-told-2 pull-requires put-pulled-requires same-length-7 same-length-8 same-length-9 same-length-10 same-length-11 returns-3)

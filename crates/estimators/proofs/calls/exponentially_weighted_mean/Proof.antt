@@ -2,9 +2,10 @@
 use mathlib.Core.Path.{sym, ap, _∙_}
 use lib.ListN.{length}
 use lib.Seq.{length-take-le}
+use Rattle.estimators.specs.Order.{weightedOrder}
 use Rattle.estimators.specs.Checks.{checked}
-use Rattle.estimators.proofs.Opened.{shape-passes}
-use Rattle.estimators.proofs.Shapes.{weighted-refused, weighted-fits}
+use Rattle.estimators.specs.Calls.{exponentiallyWeightedMean}
+use Rattle.estimators.proofs.Opened.{shape-passes, shape-refuses, shape-fits}
 use borrow.Author.Needs.{needs}
 use Rattle.estimators.proofs.calls.exponentially_weighted_mean.Statement.{statement}
 use Rattle.estimators.proofs.calls.exponentially_weighted_mean.Tie as tie
@@ -16,34 +17,36 @@ enum-known-shape : tie.Need-enum-known-shape
 enum-known-shape c = search needs
 
 returns : tie.Need-returns
+unfolding exponentiallyWeightedMean weightedOrder
 returns c =
     let a = c .before .before .before .before .before .before .args in
-    weighted-refused (a .returns .now) (a .n) (a .periods) (a .answer .now) (a .half-life) (ap checked (sym (c .before .shape .given .1)) ∙ c .before .before .before .check-shape .ensures)
+    shape-refuses (a .returns .now) (a .n) (a .periods) (a .n) (a .answer .now) _ _ _ (ap checked (sym (c .before .shape .given .1)) ∙ c .before .before .before .check-shape .ensures)
 
 enum-told : tie.Need-enum-told
 enum-told c = search needs
 
 slice-relend-prefix-exponentially-weighted-mean :
     tie.Need-slice-relend-prefix-exponentially-weighted-mean
-slice-relend-prefix-exponentially-weighted-mean c = let a = c .before .before .before .before .before .args in shape-passes (length (a .returns .now)) (a .n) (a .periods) (a .n) (length (a .answer .now)) (sym (ap checked (sym (c .enum-told .given .1)) ∙ c .before .before .check-shape .ensures)) .1
+slice-relend-prefix-exponentially-weighted-mean c = let a = c .before .before .before .before .before .args in shape-passes (length (a .returns .now)) (a .n) (a .periods) (a .n) (length (a .answer .now)) (ap checked (c .enum-told .given .1)) (c .before .before .check-shape .ensures) .1
 
 slice-aggregate-exponentially-weighted-mean : tie.Need-slice-aggregate-exponentially-weighted-mean
-slice-aggregate-exponentially-weighted-mean c = let a = c .before .before .before .before .before .before .args in sym (length-take-le _ _ (shape-passes (length (a .returns .now)) (a .n) (a .periods) (a .n) (length (a .answer .now)) (sym (ap checked (sym (c .before .enum-told .given .1)) ∙ c .before .before .before .check-shape .ensures)) .1))
+slice-aggregate-exponentially-weighted-mean c = let a = c .before .before .before .before .before .before .args in sym (length-take-le _ _ (shape-passes (length (a .returns .now)) (a .n) (a .periods) (a .n) (length (a .answer .now)) (ap checked (c .before .enum-told .given .1)) (c .before .before .before .check-shape .ensures) .1))
 
 exponentially-weighted-mean-requires : tie.Need-exponentially-weighted-mean-requires
 exponentially-weighted-mean-requires c κs =
     let a = c .before .before .before .before .before .before .args in
-    let shape = shape-passes (length (a .returns .now)) (a .n) (a .periods) (a .n) (length (a .answer .now)) (sym (ap checked (sym (c .before .enum-told .given .1)) ∙ c .before .before .before .check-shape .ensures)) in
+    let shape = shape-passes (length (a .returns .now)) (a .n) (a .periods) (a .n) (length (a .answer .now)) (ap checked (c .before .enum-told .given .1)) (c .before .before .before .check-shape .ensures) in
     (shape .0, length-take-le _ _ (shape .1))
 
 same-length : tie.Need-same-length
 same-length c = search needs
 
 returns-2 : tie.Need-returns-2
+unfolding exponentiallyWeightedMean weightedOrder
 returns-2 c =
     let a = c .before .before .before .before .before .before .before .before .before .args in
-    let shape = shape-passes (length (a .returns .now)) (a .n) (a .periods) (a .n) (length (a .answer .now)) (sym (ap checked (sym (c .before .before .before .before .enum-told .given .1)) ∙ c .before .before .before .before .before .before .check-shape .ensures)) in
-    weighted-fits (a .returns .now) (a .n) (a .periods) (a .answer .now) (a .half-life) (shape .0) (shape .1) (c .before .before .exponentially-weighted-mean .ensures)
+    let shape = shape-passes (length (a .returns .now)) (a .n) (a .periods) (a .n) (length (a .answer .now)) (ap checked (c .before .before .before .before .enum-told .given .1)) (c .before .before .before .before .before .before .check-shape .ensures) in
+    shape-fits (a .returns .now) (a .n) (a .periods) (a .n) (a .answer .now) _ _ _ (shape .0) (shape .1) (c .before .before .exponentially-weighted-mean .ensures)
 
 pub exponentially-weighted-mean-spec : {M : Type 1} → statement M
 exponentially-weighted-mean-spec =

@@ -23,7 +23,7 @@ enum-told : tie.Need-enum-told
 enum-told c = search needs
 
 ledoit-wolf-requires : tie.Need-ledoit-wolf-requires
-ledoit-wolf-requires c κs = let a = c .before .before .before .before .args in shape-passes (length (a .returns .now)) (a .n) (a .periods) 0 0 (sym (ap checked (sym (c .enum-told .given .1)) ∙ c .before .before .check-shape .ensures)) .0
+ledoit-wolf-requires c κs = let a = c .before .before .before .before .args in shape-passes (length (a .returns .now)) (a .n) (a .periods) 0 0 (ap checked (c .enum-told .given .1)) (c .before .before .check-shape .ensures) .0
 
 returns-2 : tie.Need-returns-2
 returns-2 c = search needs

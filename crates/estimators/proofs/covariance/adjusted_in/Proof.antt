@@ -4,7 +4,8 @@ use native.Mathlib.Nat.{mul-le-mul}
 use native.Mathlib.Omega.{arith}
 use lib.Seq.{length-take-le}
 use Rattle.estimators.specs.Checks.{checked}
-use Rattle.estimators.proofs.Estimated.{returns-refuse, given-refuses, given-passes, examined-refused, examined-accepted, same-side}
+use Rattle.estimators.proofs.OfGiven.{examined-refused, examined-accepted, same-side}
+use Rattle.estimators.proofs.Estimated.{returns-refuse, given-refuses, given-passes}
 use borrow.Author.Needs.{needs}
 use Rattle.estimators.proofs.covariance.adjusted_in.Statement.{statement}
 use Rattle.estimators.proofs.covariance.adjusted_in.Tie as tie

@@ -1,11 +1,11 @@
--- `estimators::covariance::check_answer` meets its contract.
-use mathlib.Core.Path.{_≡_}
+-- `estimators::covariance::check_answer` meets its contract: its two checks, joined in their order.
+use mathlib.Core.Path.{ap, _∙_}
 use mathlib.Core.Bool.{Bool, not}
-use mathlib.Core.List.{[], _∷_}
 use lib.Ieee.{Float, eq, ofBits}
 use Rattle.leaves.specs.Numbers.{zero⁺}
-use Rattle.estimators.specs.Refusals.{Check, when, first}
+use Rattle.estimators.specs.Refusals.{when}
 use Rattle.estimators.specs.declared.Refusal.the-variants.{CovarianceNotFinite, Singular}
+use Rattle.estimators.proofs.Firsts.{first-alone, first-join}
 use borrow.Author.Needs.{needs}
 use Rattle.estimators.proofs.covariance.check_answer.Statement.{statement}
 use Rattle.estimators.proofs.covariance.check_answer.Tie as tie
@@ -25,15 +25,13 @@ when-requires-2 c κs = search needs
 first-requires : tie.Need-first-requires
 first-requires c κs = search needs
 
-joined : (f g : Bool) (t u : Float) (k k₁ k₂ : Check) → f ≡ g → t ≡ u → k₁ ≡ when (not f) CovarianceNotFinite → k₂ ≡ when (eq t zero⁺) Singular → k ≡ first (k₁ ∷ k₂ ∷ [])
-    → k ≡ first (when (not g) CovarianceNotFinite ∷ when (eq u zero⁺) Singular ∷ [])
-joined f g t u k k₁ k₂ ef et e₁ e₂ e = rw (← ef, ← et, ← e₁, ← e₂) e
-
 returns : tie.Need-returns
 unfolding ofBits
 returns c =
     let l = c .before .before in
-    joined _ _ _ _ _ _ _ (l .before .before .all-finite .ensures) (l .before .trace .ensures) (l .when .ensures) (c .before .when2 .ensures) (c .first .ensures)
+    first-join _ (l .when .ensures ∙ ap (λ (b : Bool). when (not b) CovarianceNotFinite) (l .before .before .all-finite .ensures))
+    (c .before .when2 .ensures ∙ ap (λ (t : Float). when (eq t zero⁺) Singular) (l .before .trace .ensures) ∙ first-alone _)
+    (c .first .ensures)
 
 pub check-answer-spec : {M : Type 1} → statement M
 check-answer-spec = tie.close (tie.spec all-finite-requires trace-requires when-requires when-requires-2 first-requires returns)

@@ -6,12 +6,11 @@ use native.Mathlib.Omega.{arith}
 use mir.Facts.{fits-below}
 use borrow.Author.Tests.{not-true, not-false}
 use lib.ListN.{length}
-use lib.Seq.{length-take-le}
+use lib.Seq.{length-take-le, take-at}
 use Rattle.matrix.proofs.Stored.{length-rows}
 use Rattle.estimators.specs.Checks.{checked}
-use Rattle.estimators.proofs.OfGiven.{sizes-pass}
+use Rattle.estimators.proofs.OfGiven.{sizes-pass, none-given, sizes-refuse, sizes-fit}
 use Rattle.estimators.proofs.Firsts.{passes-not}
-use Rattle.estimators.proofs.Estimated.{front, none-given, sizes-refuse, sizes-fit}
 use borrow.Author.Needs.{needs}
 use Rattle.estimators.proofs.covariance.examine_given.Statement.{statement}
 use Rattle.estimators.proofs.covariance.examine_given.Tie as tie
@@ -42,25 +41,25 @@ enum-told : tie.Need-enum-told
 enum-told c = search needs
 
 mul-size : tie.Need-mul-size
-mul-size c = let sizes = sizes-pass _ _ _ (sym (ap checked (sym (c .enum-told .given .1)) ∙ c .before .before .check-sizes .ensures)) in fits-below tt (mul-le-mul (sizes .2) (sizes .2))
+mul-size c = let sizes = sizes-pass _ _ _ (ap checked (c .enum-told .given .1)) (c .before .before .check-sizes .ensures) in fits-below tt (mul-le-mul (sizes .2) (sizes .2))
 
 slice-relend-prefix-examine : tie.Need-slice-relend-prefix-examine
 slice-relend-prefix-examine c =
     let a = c .before .before .before .before .before .before .before .args in
-    let sizes = sizes-pass (a .settings .limit) (length (a .given .now)) (a .side) (sym (ap checked (sym (c .enum-told .given .1)) ∙ c .before .before .check-sizes .ensures)) in
+    let sizes = sizes-pass (a .settings .limit) (length (a .given .now)) (a .side) (ap checked (c .enum-told .given .1)) (c .before .before .check-sizes .ensures) in
     let small = mul-le-mul (sizes .2) (sizes .2) in
     omega (arith, small, c .before .before .before .before .before .before .before .pre)
 
 slice-aggregate-examine : tie.Need-slice-aggregate-examine
 slice-aggregate-examine c =
     let a = c .before .before .before .before .before .before .before .before .args in
-    let sizes = sizes-pass (a .settings .limit) (length (a .given .now)) (a .side) (sym (ap checked (sym (c .before .enum-told .given .1)) ∙ c .before .before .before .check-sizes .ensures)) in
+    let sizes = sizes-pass (a .settings .limit) (length (a .given .now)) (a .side) (ap checked (c .before .enum-told .given .1)) (c .before .before .before .check-sizes .ensures) in
     let small = mul-le-mul (sizes .2) (sizes .2) in
     sym (length-take-le _ _ (omega (arith, small, c .before .before .before .before .before .before .before .before .pre)))
 
 examine-requires : tie.Need-examine-requires
 examine-requires c κs =
-    let sizes = sizes-pass _ _ _ (sym (ap checked (sym (c .before .enum-told .given .1)) ∙ c .before .before .before .check-sizes .ensures)) in
+    let sizes = sizes-pass _ _ _ (ap checked (c .before .enum-told .given .1)) (c .before .before .before .check-sizes .ensures) in
     let small = mul-le-mul (sizes .2) (sizes .2) in
     (sizes .1, sizes .2, sizes .0, sizes .3, length-take-le _ _ (omega (arith, small, c .before .before .before .before .before .before .before .before .pre)))
 
@@ -73,7 +72,7 @@ returns-3 c =
     let e = sym (c .before .before .before .before .before .before .before .before .is-given .ensures) ∙ not-false _ (c .before .before .before .before .before .before .before .if1 .left) in
     let pass = ap checked (sym (c .before .before .before .before .enum-told .given .1)) ∙ c .before .before .before .before .before .before .check-sizes .ensures in
     let table = c .before .before .examine .ensures .0 in
-    (sizes-fit (a .settings) (a .given .now) (a .side) e pass table (c .before .before .examine .ensures .1), λ given passed. front _ _ _ _ table (length-rows _ _ _))
+    (sizes-fit (a .settings) (a .given .now) (a .side) e pass table (c .before .before .examine .ensures .1), λ given passed. take-at _ _ _ (ap length table ∙ length-rows _ _ _) ∙ table)
 
 pub examine-given-spec : {M : Type 1} → statement M
 examine-given-spec =

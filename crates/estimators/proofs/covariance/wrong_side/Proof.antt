@@ -1,4 +1,4 @@
--- `estimators::covariance::wrong_side` meets its contract.
+-- `estimators::covariance::wrong_side` meets its contract, by the test for a given matrix.
 use borrow.Author.Needs.{needs}
 use Rattle.estimators.proofs.covariance.wrong_side.Statement.{statement}
 use Rattle.estimators.proofs.covariance.wrong_side.Tie as tie

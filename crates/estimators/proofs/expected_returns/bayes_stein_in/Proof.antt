@@ -6,7 +6,7 @@ use Rattle.leaves.proofs.Loops.{length-tab}
 use Rattle.matrix.specs.Matrix.{at}
 use Rattle.estimators.specs.BayesStein.{gathered}
 use Rattle.estimators.specs.Held.{held}
-use Rattle.estimators.proofs.SteinCalls.{bayes-stein-lists}
+use Rattle.estimators.proofs.MeanCalls.{bayes-stein-lists}
 use Rattle.estimators.proofs.expected_returns.bayes_stein_in.Statement.{statement}
 use Rattle.estimators.proofs.expected_returns.bayes_stein_in.Tie as tie
 

@@ -1,10 +1,11 @@
 -- `estimators::expected_returns::bayes_stein_mean` meets its contract: each return is the case of the call that the checks pick.
-use mathlib.Core.Path.{sym, _∙_}
+use mathlib.Core.Path.{sym, ap, _∙_}
 use Prim.Native.Nat.{_≤_}
 use lib.Seq.{length-take-le}
 use borrow.Author.Needs.{needs}
 use Rattle.matrix.specs.Limits.{maxSweeps}
-use Rattle.estimators.proofs.SteinCalls.{within, bayes-stein-refused, bayes-stein-accepted}
+use Rattle.estimators.specs.Checks.{checked}
+use Rattle.estimators.proofs.MeanCalls.{within, bayes-stein-refused, bayes-stein-accepted}
 use Rattle.estimators.proofs.expected_returns.bayes_stein_mean.Statement.{statement}
 use Rattle.estimators.proofs.expected_returns.bayes_stein_mean.Tie as tie
 
@@ -24,7 +25,7 @@ returns : tie.Need-returns
 returns c =
     let s = c .before .before .before .before .before .before .before .before in
     let a = s .args in
-    bayes-stein-refused (a .returns .now) (a .n) (a .periods) (a .limit) (a .out .now) (s .pre .0) (s .pre .1) _ _ _ (c .before .before .before .before .before .check-opened .ensures) (c .before .before .before .before .bad-sweep-limit .ensures) (c .before .before .before .first .ensures) (c .before .bad .given .1)
+    bayes-stein-refused (a .returns .now) (a .n) (a .periods) (a .out .now) (s .pre .0) (s .pre .1) (c .before .before .before .before .before .check-opened .ensures) (a .limit) (c .before .before .before .before .bad-sweep-limit .ensures) (c .before .before .before .first .ensures) (ap checked (c .before .bad .given .1))
 
 enum-told : tie.Need-enum-told
 enum-told c = search needs
@@ -45,7 +46,7 @@ bayes-stein-in-requires : tie.Need-bayes-stein-in-requires
 bayes-stein-in-requires c κs =
     let s = c .before .before .before .before .before .before .before .before .before .before in
     let a = s .args in
-    let limited : a .limit ≤ maxSweeps = within (a .returns .now) (a .n) (a .periods) (a .limit) (a .out .now) (s .pre .0) (s .pre .1) _ _ _ (c .before .before .before .before .before .before .before .check-opened .ensures) (c .before .before .before .before .before .before .bad-sweep-limit .ensures) (c .before .before .before .before .before .first .ensures) (c .before .before .before .enum-told .given .1) in
+    let limited : a .limit ≤ maxSweeps = within (a .returns .now) (a .n) (a .periods) (a .out .now) (s .pre .0) (s .pre .1) (c .before .before .before .before .before .before .before .check-opened .ensures) (a .limit) (c .before .before .before .before .before .before .bad-sweep-limit .ensures) (c .before .before .before .before .before .first .ensures) (ap checked (c .before .before .before .enum-told .given .1)) in
     (s .pre .0, limited, length-take-le _ _ (s .pre .0 .1), length-take-le _ _ (s .pre .0 .1), s .pre .1)
 
 same-length : tie.Need-same-length
@@ -56,7 +57,7 @@ returns-2 c =
     let s = c .before .before .before .before .before .before .before .before .before .before .before .before .before .before .before in
     let a = s .args in
     c .before .before .before .before .bayes-stein-in .ensures
-    ∙ bayes-stein-accepted (a .returns .now) (a .n) (a .periods) (a .limit) (a .out .now) (s .pre .0) (s .pre .1) _ _ _ (c .before .before .before .before .before .before .before .before .before .before .before .before .check-opened .ensures) (c .before .before .before .before .before .before .before .before .before .before .before .bad-sweep-limit .ensures) (c .before .before .before .before .before .before .before .before .before .before .first .ensures) (c .before .before .before .before .before .before .before .before .enum-told .given .1)
+    ∙ bayes-stein-accepted (a .returns .now) (a .n) (a .periods) (a .out .now) (s .pre .0) (s .pre .1) (c .before .before .before .before .before .before .before .before .before .before .before .before .check-opened .ensures) (a .limit) (c .before .before .before .before .before .before .before .before .before .before .before .bad-sweep-limit .ensures) (c .before .before .before .before .before .before .before .before .before .before .first .ensures) (ap checked (c .before .before .before .before .before .before .before .before .enum-told .given .1))
 
 pub bayes-stein-mean-spec : {M : Type 1} → statement M
 bayes-stein-mean-spec = tie.close (tie.spec check-opened-requires bad-sweep-limit-requires first-requires enum-known-bad returns enum-told array-borrow-prefix-sizes slice-aggregate-bayes-stein-in array-borrow-prefix-exponents slice-aggregate-bayes-stein-in-2 bayes-stein-in-requires same-length returns-2)

@@ -1,7 +1,7 @@
 -- `estimators::expected_returns::exponentially_weighted_mean` meets its contract: the returns and the half-life are looked at, then the means are written.
 use mathlib.Core.Path.{ap}
 use Rattle.estimators.specs.Checks.{checked}
-use Rattle.estimators.proofs.Shapes.{weighted-bad, weighted-good}
+use Rattle.estimators.proofs.MeanCalls.{weighted-refused, weighted-accepted}
 use borrow.Author.Needs.{needs}
 use Rattle.estimators.proofs.expected_returns.exponentially_weighted_mean.Statement.{
   statement,
@@ -24,7 +24,7 @@ returns : tie.Need-returns
 returns c =
     let l = c .before .before .before .before .before .before .before .before in
     let a = l .args in
-    weighted-bad (a .returns .now) (a .n) (a .periods) (a .out .now) (a .half-life) (l .pre .0) (l .pre .1) (c .before .before .before .before .before .check-opened .ensures) (c .before .before .before .before .check-half-life .ensures) (c .before .before .before .first .ensures) (ap checked (c .before .bad .given .1))
+    weighted-refused (a .returns .now) (a .n) (a .periods) (a .out .now) (l .pre .0) (l .pre .1) (c .before .before .before .before .before .check-opened .ensures) (a .half-life) (c .before .before .before .before .check-half-life .ensures) (c .before .before .before .first .ensures) (ap checked (c .before .bad .given .1))
 
 enum-told : tie.Need-enum-told
 enum-told c = search needs
@@ -42,7 +42,7 @@ returns-2 : tie.Need-returns-2
 returns-2 c =
     let l = c .before .before .before .before .before .before .before .before .before .before .before .before in
     let a = l .args in
-    weighted-good (a .returns .now) (a .n) (a .periods) (a .out .now) (a .half-life) (l .pre .0) (l .pre .1) (c .before .before .before .before .before .before .before .before .before .check-opened .ensures) (c .before .before .before .before .before .before .before .before .check-half-life .ensures) (c .before .before .before .before .before .before .before .first .ensures) (ap checked (c .before .before .before .before .before .enum-told .given .1))
+    weighted-accepted (a .returns .now) (a .n) (a .periods) (a .out .now) (l .pre .0) (l .pre .1) (c .before .before .before .before .before .before .before .before .before .check-opened .ensures) (a .half-life) (c .before .before .before .before .before .before .before .before .check-half-life .ensures) (c .before .before .before .before .before .before .before .first .ensures) (ap checked (c .before .before .before .before .before .enum-told .given .1))
     (c .before .before .before .before .log-decay .ensures) (c .before .before .mean-of .ensures)
 
 pub exponentially-weighted-mean-spec : {M : Type 1} → statement M

@@ -6,7 +6,8 @@ use borrow.Author.Needs.{needs}
 use Rattle.leaves.specs.Scaling.{binaryExponent}
 use Rattle.matrix.specs.Limits.{maxSweeps}
 use Rattle.estimators.proofs.Exponents.{read}
-use Rattle.estimators.proofs.SteinCalls.{within, james-stein-refused, james-stein-accepted}
+use Rattle.estimators.specs.Checks.{checked}
+use Rattle.estimators.proofs.MeanCalls.{within, james-stein-refused, james-stein-accepted}
 use Rattle.estimators.proofs.expected_returns.james_stein_mean.Statement.{statement}
 use Rattle.estimators.proofs.expected_returns.james_stein_mean.Tie as tie
 
@@ -26,7 +27,7 @@ returns : tie.Need-returns
 returns c =
     let s = c .before .before .before .before .before .before .before .before in
     let a = s .args in
-    james-stein-refused (a .returns .now) (a .n) (a .periods) (a .limit) (a .out .now) (s .pre .0) (s .pre .1) _ _ _ (c .before .before .before .before .before .check-opened .ensures) (c .before .before .before .before .bad-sweep-limit .ensures) (c .before .before .before .first .ensures) (c .before .bad .given .1)
+    james-stein-refused (a .returns .now) (a .n) (a .periods) (a .out .now) (s .pre .0) (s .pre .1) (c .before .before .before .before .before .check-opened .ensures) (a .limit) (c .before .before .before .before .bad-sweep-limit .ensures) (c .before .before .before .first .ensures) (ap checked (c .before .bad .given .1))
 
 enum-told : tie.Need-enum-told
 enum-told c = search needs
@@ -44,7 +45,7 @@ shrink-requires : tie.Need-shrink-requires
 shrink-requires c κs =
     let s = c .before .before .before .before .before .before .before .before .before .before .before in
     let a = s .args in
-    let limited : a .limit ≤ maxSweeps = within (a .returns .now) (a .n) (a .periods) (a .limit) (a .out .now) (s .pre .0) (s .pre .1) _ _ _ (c .before .before .before .before .before .before .before .before .check-opened .ensures) (c .before .before .before .before .before .before .before .bad-sweep-limit .ensures) (c .before .before .before .before .before .before .first .ensures) (c .before .before .before .before .enum-told .given .1) in
+    let limited : a .limit ≤ maxSweeps = within (a .returns .now) (a .n) (a .periods) (a .out .now) (s .pre .0) (s .pre .1) (c .before .before .before .before .before .before .before .before .check-opened .ensures) (a .limit) (c .before .before .before .before .before .before .before .bad-sweep-limit .ensures) (c .before .before .before .before .before .before .first .ensures) (ap checked (c .before .before .before .before .enum-told .given .1)) in
     (s .pre .0 .0, s .pre .0 .1, limited, s .pre .1)
 
 same-length : tie.Need-same-length
@@ -58,7 +59,7 @@ returns-2 c =
     let s = c .before .before .before .before .before .before .before .before .before .before .before .before .before .before in
     let a = s .args in
     c .before .before .shrink .ensures
-    ∙ james-stein-accepted (a .returns .now) (a .n) (a .periods) (a .limit) (a .out .now) (s .pre .0) (s .pre .1) _ _ _ (c .before .before .before .before .before .before .before .before .before .before .before .check-opened .ensures) (c .before .before .before .before .before .before .before .before .before .before .bad-sweep-limit .ensures) (c .before .before .before .before .before .before .before .before .before .first .ensures) (c .before .before .before .before .before .before .before .enum-told .given .1) _ _ (m .ensures) k
+    ∙ james-stein-accepted (a .returns .now) (a .n) (a .periods) (a .out .now) (s .pre .0) (s .pre .1) (c .before .before .before .before .before .before .before .before .before .before .before .check-opened .ensures) (a .limit) (c .before .before .before .before .before .before .before .before .before .before .bad-sweep-limit .ensures) (c .before .before .before .before .before .before .before .before .before .first .ensures) (ap checked (c .before .before .before .before .before .before .before .enum-told .given .1)) _ _ (m .ensures) k
 
 pub james-stein-mean-spec : {M : Type 1} → statement M
 james-stein-mean-spec = tie.close (tie.spec check-opened-requires bad-sweep-limit-requires first-requires enum-known-bad returns enum-told amax-requires exponent-requires moments-over-requires shrink-requires same-length returns-2)

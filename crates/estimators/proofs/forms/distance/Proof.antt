@@ -2,7 +2,6 @@
 use mathlib.Core.Path.{_≡_, ap, _∙_}
 use mathlib.Core.List.{List}
 use Prim.Native.Nat.{ℕ, _<_}
-use lib.ListN.{length}
 use lib.Ieee.{Float}
 use borrow.Author.Needs.{needs}
 use Rattle.leaves.specs.Numbers.{_⊖_, _⊗_}
@@ -11,7 +10,7 @@ use Rattle.matrix.specs.Matrix.{at}
 use Rattle.matrix.specs.Jacobi.{Decomposition}
 use Rattle.estimators.specs.BayesStein.{project, form, distanceOf}
 use Rattle.leaves.proofs.Loops.{tab-ext, sum-ext}
-use Rattle.estimators.proofs.Stored.{tab-nth}
+use Rattle.estimators.proofs.Stored.{nth-stored}
 use Rattle.estimators.proofs.forms.distance.Statement.{statement}
 use Rattle.estimators.proofs.forms.distance.Tie as tie
 
@@ -24,7 +23,7 @@ project-ext n d f g h =
 squared : (n : ℕ) (d : Decomposition) (x y : List Float) (a : Float) (z q : List Float) (r : Float) → z ≡ tab n (λ i. nth y i ⊖ a ⊗ nth x i) → q ≡ project n d (nth z) → r ≡ form n d q q → r ≡ distanceOf n d x y a
 squared n d x y a z q r is-z is-q is-r =
     let f : ℕ → Float = λ i. nth y i ⊖ a ⊗ nth x i in
-    let e : q ≡ project n d f = is-q ∙ project-ext n d (nth z) f (λ i h. ap (λ (l : List Float). nth l i) is-z ∙ tab-nth f n i h) in
+    let e : q ≡ project n d f = is-q ∙ project-ext n d (nth z) f (λ i h. nth-stored n f is-z i h) in
     is-r ∙ (λ t. form n d (e t) (e t))
 
 subtract-requires : tie.Need-subtract-requires

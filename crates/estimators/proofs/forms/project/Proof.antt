@@ -4,9 +4,8 @@ use native.Mathlib.Omega.{arith}
 use borrow.Author.Needs.{needs}
 use Rattle.leaves.specs.Numbers.{_⊗_}
 use Rattle.leaves.specs.Loops.{sumTo, nth}
-use Rattle.leaves.proofs.Loops.{Filled, filled-none, filled-more}
+use Rattle.leaves.proofs.Loops.{Filled, filled-none, filled-more, filled-whole}
 use Rattle.matrix.specs.Matrix.{at}
-use Rattle.matrix.proofs.Stored.{filled-whole}
 use Rattle.estimators.specs.BayesStein.{project}
 use Rattle.estimators.proofs.forms.project.Statement.{statement}
 use Rattle.estimators.proofs.forms.project.Tie as tie

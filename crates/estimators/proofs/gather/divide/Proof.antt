@@ -6,8 +6,7 @@ use lib.ListN.{length}
 use borrow.Author.Needs.{needs}
 use Rattle.leaves.specs.Numbers.{_⊘_}
 use Rattle.leaves.specs.Loops.{nth}
-use Rattle.leaves.proofs.Loops.{Filled, filled-none, filled-more}
-use Rattle.matrix.proofs.Stored.{filled-whole}
+use Rattle.leaves.proofs.Loops.{Filled, filled-none, filled-more, filled-whole}
 use Rattle.estimators.proofs.gather.divide.Statement.{statement}
 use Rattle.estimators.proofs.gather.divide.Tie as tie
 

@@ -14,7 +14,7 @@ use Rattle.leaves.specs.Loops.{tab, nth}
 use Rattle.leaves.proofs.Loops.{length-tab}
 use Rattle.estimators.specs.BayesStein.{commonExponent, gathered}
 use Rattle.estimators.specs.Gather.{Gathered, twoExponents}
-use Rattle.estimators.proofs.Stored.{tab-nth}
+use Rattle.estimators.proofs.Stored.{nth-stored}
 use Rattle.estimators.proofs.Exponents.{read}
 use Rattle.estimators.proofs.Gathered.{gathered-as}
 use Rattle.estimators.proofs.gather.gather.Statement.{statement}
@@ -26,7 +26,7 @@ made n m k quotients e l is-q is-e size is-l =
     let long : length quotients ≡ n = ap length is-q ∙ length-tab m n in
     let same : toZ w32 (ofZ w32 e) ≡ e = read e (omega arith) in
     let g : Gathered n (nth quotients) k (toZ w32 (ofZ w32 e)) l = record { power = same ∙ rw long at is-e; numbers = rw long at is-l; size = rw same size } in
-    gathered-as (λ i h. ap (λ (q : List Float). nth q i) is-q ∙ tab-nth m n i h) (λ i h. refl) g
+    gathered-as (λ i h. nth-stored n m is-q i h) (λ i h. refl) g
 
 divide-requires : tie.Need-divide-requires
 divide-requires c κs = search needs

@@ -47,7 +47,12 @@ same-length-3 c = search needs
 
 returns : tie.Need-returns
 unfolding ofBits
-returns c = let a = c .before .before .before .before .before .before .before .before .before .before .before .before .before .before .before .before .before .before .args in apart (a .n) (a .limit) (a .a .now) (c .before .before .before .before .before .before .before .before .before .before .before .before .before .amax .ensures) _ (c .before .before .before .before .before .before .before .before .before .before .before .before .before .before .before .before .before .before .pre .2) (c .before .before .before .before .before .before .before .before .before .before .divide .ensures) (c .before .before .before .before .before .before .before .before .before .before .before .before .if1 .taken) (c .before .before .before .before .decompose .ensures)
+returns c =
+    let o = c .before .before .before .before .before .before .before .before .before .before in
+    let m = o .before .before .before in
+    let s = m .before .before .before .before .before in
+    let a = s .args in
+    apart (a .n) (a .limit) (a .a .now) (m .amax .ensures) _ (s .pre .2) (o .divide .ensures) (o .before .before .if1 .taken) (c .before .before .before .before .decompose .ensures)
 
 unturned-requires : tie.Need-unturned-requires
 unturned-requires c κs = search needs
@@ -60,7 +65,10 @@ same-length-5 c = search needs
 
 returns-2 : tie.Need-returns-2
 unfolding ofBits
-returns-2 c = let a = c .before .before .before .before .before .before .before .before .before .before .before .before .before .args in zero (a .n) (a .limit) (a .a .now) (c .before .before .before .before .before .before .before .before .amax .ensures) _ (c .before .before .before .before .before .before .before .if1 .left) (c .before .before .before .before .unturned .ensures)
+returns-2 c =
+    let m = c .before .before .before .before .before .before .before .before in
+    let a = m .before .before .before .before .before .args in
+    zero (a .n) (a .limit) (a .a .now) (m .amax .ensures) _ (c .before .before .before .before .before .before .before .if1 .left) (c .before .before .before .before .unturned .ensures)
 
 pub decompose-spec : {M : Type 1} → statement M
 decompose-spec = tie.close (tie.spec amax-requires divide-requires decompose-requires same-length same-length-2 same-length-3 returns unturned-requires same-length-4 same-length-5 returns-2)

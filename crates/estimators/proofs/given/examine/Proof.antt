@@ -52,7 +52,10 @@ same-length : tie.Need-same-length
 same-length c = search needs
 
 returns : tie.Need-returns
-returns c = let a = c .before .before .before .before .before .before .before .before .before .before .args in (c .before .before .before .before .before .before .average .ensures, refused (a .limit) (a .n) (at (a .g .now) (a .n)) _ (c .before .before .before .check-entries .ensures) (c .before .before .before .before .before .before .average .ensures) (c .before .bad .given .1))
+returns c =
+    let o = c .before .before .before .before .before .before in
+    let a = o .before .before .before .before .args in
+    (o .average .ensures, refused (a .limit) (a .n) (at (a .g .now) (a .n)) _ (c .before .before .before .check-entries .ensures) (o .average .ensures) (c .before .bad .given .1))
 
 enum-told : tie.Need-enum-told
 enum-told c = search needs
@@ -64,7 +67,10 @@ same-length-2 : tie.Need-same-length-2
 same-length-2 c = search needs
 
 returns-2 : tie.Need-returns-2
-returns-2 c = let a = c .before .before .before .before .before .before .before .before .before .before .before .args in (c .before .before .before .before .before .before .before .average .ensures, accepted (a .limit) (a .n) (at (a .g .now) (a .n)) _ (c .before .before .before .before .check-entries .ensures) (c .before .before .before .before .before .before .before .average .ensures) (c .before .before .enum-told .given .1) (c .take-apart .ensures))
+returns-2 c =
+    let o = c .before .before .before .before .before .before .before in
+    let a = o .before .before .before .before .args in
+    (o .average .ensures, accepted (a .limit) (a .n) (at (a .g .now) (a .n)) _ (c .before .before .before .before .check-entries .ensures) (o .average .ensures) (c .before .before .enum-told .given .1) (c .take-apart .ensures))
 
 pub examine-spec : {M : Type 1} → statement M
 examine-spec = tie.close (tie.spec average-requires check-entries-requires enum-known-bad same-length returns enum-told take-apart-requires same-length-2 returns-2)

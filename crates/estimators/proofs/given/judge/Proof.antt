@@ -44,11 +44,24 @@ amax-requires-2 c κs = search needs
 
 returns-2 : tie.Need-returns-2
 unfolding first ofBits ofInt neg
-returns-2 c = λ v. let a = c .before .before .before .before .before .before .before .before .args in let d = decomposed (a .d .found) (a .values .now) v (a .d .sweeps) (a .d .rotations) in rw (c .before .before .before .before .before .if1 .left, bounded (a .n) d (c .before .before .before .before .smallest .ensures) (c .before .before .before .nearest-u64-to-f64 .ensures) (c .before .before .amax .ensures) (c .before .before .before .before .before .before .before .before .pre .1) (c .before .if2 .taken)) (λ t. Refused (Indefinite (low (a .n) d (c .before .before .before .before .smallest .ensures) (c .before .before .before .nearest-u64-to-f64 .ensures) (c .before .before .amax .ensures) (c .before .before .before .before .before .before .before .before .pre .1) t ⊗ c .amax2 .ensures t)))
+returns-2 c = λ v.
+    let l = c .before .before .before .before in
+    let s = l .before .before .before .before in
+    let a = s .args in
+    let d = decomposed (a .d .found) (a .values .now) v (a .d .sweeps) (a .d .rotations) in
+    let size = c .before .before .before .nearest-u64-to-f64 .ensures in
+    let largest = c .before .before .amax .ensures in
+    rw (l .before .if1 .left, bounded (a .n) d (l .smallest .ensures) size largest (s .pre .1) (c .before .if2 .taken))
+    (λ t. Refused (Indefinite (low (a .n) d (l .smallest .ensures) size largest (s .pre .1) t ⊗ c .amax2 .ensures t)))
 
 returns-3 : tie.Need-returns-3
 unfolding first ofBits ofInt neg
-returns-3 c = λ v. let a = c .before .before .before .before .before .before .before .args in let d = decomposed (a .d .found) (a .values .now) v (a .d .sweeps) (a .d .rotations) in rw (c .before .before .before .before .if1 .left, bounded (a .n) d (c .before .before .before .smallest .ensures) (c .before .before .nearest-u64-to-f64 .ensures) (c .before .amax .ensures) (c .before .before .before .before .before .before .before .pre .1) (c .if2 .left))
+returns-3 c = λ v.
+    let l = c .before .before .before in
+    let s = l .before .before .before .before in
+    let a = s .args in
+    let d = decomposed (a .d .found) (a .values .now) v (a .d .sweeps) (a .d .rotations) in
+    rw (l .before .if1 .left, bounded (a .n) d (l .smallest .ensures) (c .before .before .nearest-u64-to-f64 .ensures) (c .before .amax .ensures) (s .pre .1) (c .if2 .left))
 
 pub judge-spec : {M : Type 1} → statement M
 judge-spec = tie.close (tie.spec returns smallest-requires nearest-u64-to-f64-requires amax-requires amax-requires-2 returns-2 returns-3)

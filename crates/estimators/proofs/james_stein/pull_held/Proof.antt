@@ -4,7 +4,7 @@ use Prim.Native.Nat.{_*_}
 use native.Mathlib.Nat.{mul-le-mul}
 use lib.ListN.{length}
 use lib.Seq.{length-take-le}
-use mir.Facts.{fits-le, fits-lit}
+use mir.Facts.{fits-below}
 use borrow.Author.Needs.{needs}
 use Rattle.matrix.specs.Limits.{maxSide}
 use Rattle.estimators.proofs.Room.{vector-room, table-room}
@@ -12,7 +12,7 @@ use Rattle.estimators.proofs.james_stein.pull_held.Statement.{statement
 use Rattle.estimators.proofs.james_stein.pull_held.Tie as tie
 
 mul-size : tie.Need-mul-size
-mul-size c = fits-le (mul-le-mul (c .pre .1) (c .pre .1)) (fits-lit tt)
+mul-size c = fits-below tt (mul-le-mul (c .pre .1) (c .pre .1))
 
 array-share-prefix-mean : tie.Need-array-share-prefix-mean
 array-share-prefix-mean c = let s = c .before .before in let l : length (s .args .m .mean) ≡ maxSide = search needs in vector-room (s .args .m .mean) l (s .pre .1)

@@ -49,8 +49,12 @@ same-length-3 c = search needs
 
 returns : tie.Need-returns
 returns c =
-    let a = c .before .before .before .before .before .before .before .before .before .before .before .before .before .before .before .before .before .before .before .before .before .before .before .before .args in
-    from-stored _ (a .periods) (a .n) (centered (a .row) (a .n) (a .centers .now) (a .r .now)) (c .before .before .before .before .before .before .enum-told .given .1) (c .before .before .before .before .before .before .before .before .before .before .before .before .before .before .before .put-moments .ensures .0) (c .before .before .to-variance .ensures _ (c .before .before .before .before .before .before .before .before .before .before .variation .ensures))
+    let t = c .before .before .before .before .before .before in
+    let v = t .before .before .before .before in
+    let m = v .before .before .before .before .before in
+    let a = m .before .before .before .before .before .before .before .before .before .args in
+    from-stored _ (a .periods) (a .n) (centered (a .row) (a .n) (a .centers .now) (a .r .now)) (t .enum-told .given .1) (m .put-moments .ensures .0)
+    (c .before .before .to-variance .ensures _ (v .variation .ensures))
 
 same-length-4 : tie.Need-same-length-4
 same-length-4 c = search needs
@@ -69,8 +73,13 @@ same-length-8 c = search needs
 
 returns-2 : tie.Need-returns-2
 returns-2 c =
-    let a = c .before .before .before .before .before .before .before .before .before .before .before .before .before .before .before .before .before .before .before .before .before .before .before .before .before .before .before .before .before .before .before .before .before .args in
-    from-stored _ (a .periods) (a .n) (centered (a .row) (a .n) (a .centers .now) (a .r .now)) (c .before .before .before .before .before .before .before .before .before .before .before .before .before .before .before .enum-told2 .given .1) (c .before .before .before .before .before .before .before .before .before .before .before .before .before .before .before .before .before .before .before .before .before .before .before .before .put-moments .ensures .0) (c .before .before .before .before .to-correlation .ensures _ (c .before .before .before .before .before .before .before .before .before .before .before .before .before .before .before .before .before .before .before .variation .ensures) (c .before .before .before .before .before .before .before .before .before .before .before .before .covariation .ensures))
+    let θ = c .before .before .before .before .before .before .before .before .before .before .before .before in
+    let t = θ .before .before .before in
+    let v = t .before .before .before .before in
+    let m = v .before .before .before .before .before in
+    let a = m .before .before .before .before .before .before .before .before .before .args in
+    from-stored _ (a .periods) (a .n) (centered (a .row) (a .n) (a .centers .now) (a .r .now)) (t .enum-told2 .given .1) (m .put-moments .ensures .0)
+    (c .before .before .before .before .to-correlation .ensures _ (v .variation .ensures) (θ .covariation .ensures))
 
 pub of-rows-in-spec : {M : Type 1} → statement M
 of-rows-in-spec = tie.close (tie.spec put-moments-requires variation-requires enum-told to-variance-requires enum-told-2 covariation-requires to-correlation-requires same-length same-length-2 same-length-3 returns same-length-4 same-length-5 same-length-6 same-length-7 same-length-8 returns-2)

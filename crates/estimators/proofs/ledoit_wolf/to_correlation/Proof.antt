@@ -36,7 +36,17 @@ same-length-2 c = search needs
 
 returns : tie.Need-returns
 unfolding distance target
-returns c = let a = c .before .before .before .before .before .before .before .before .before .before .before .before .before .before .before .before .before .before .before .before .before .before .before .before .args in let s = at (a .s .now) (a .n) in λ z eπ eθ. intensity-is ConstantCorrelation (a .periods) (a .n) z s (c .before .before .before .before .before .before .distance .ensures (target ConstantCorrelation (a .n) s) (c .before .before .before .before .before .before .before .before .before .before .put-constant-correlation .ensures)) (correlation-error (a .periods) (a .n) z s eπ (c .before .before .before .total .ensures) (c .before .before .before .before .before .before .before .before .before .before .before .before .before .before .before .before .before .put-volatilities .ensures) (c .before .before .before .before .before .before .before .before .before .before .before .before .before .average-correlation .ensures) eθ (c .before .target-variation .ensures)) (c .intensity .ensures)
+returns c =
+    let γ = c .before .before .before .before .before .before in
+    let F = γ .before .before .before .before in
+    let r = F .before .before .before in
+    let v = r .before .before .before .before in
+    let a = v .before .before .before .before .before .before .before .args in
+    let s = at (a .s .now) (a .n) in
+    λ z eπ eθ. intensity-is ConstantCorrelation (a .periods) (a .n) z s
+    (γ .distance .ensures (target ConstantCorrelation (a .n) s) (F .put-constant-correlation .ensures))
+    (correlation-error (a .periods) (a .n) z s eπ (c .before .before .before .total .ensures) (v .put-volatilities .ensures) (r .average-correlation .ensures) eθ (c .before .target-variation .ensures))
+    (c .intensity .ensures)
 
 pub to-correlation-spec : {M : Type 1} → statement M
 to-correlation-spec = tie.close (tie.spec put-volatilities-requires average-correlation-requires put-constant-correlation-requires distance-requires total-requires target-variation-requires intensity-requires same-length same-length-2 returns)

@@ -42,7 +42,17 @@ same-length c = search needs
 
 returns : tie.Need-returns
 unfolding distance
-returns c = let a = c .before .before .before .before .before .before .before .before .before .before .before .before .before .before .before .before .before .before .args in let s = at (a .s .now) (a .n) in λ z e. intensity-is ConstantVariance (a .periods) (a .n) z s (c .before .before .before .before .distance .ensures (target ConstantVariance (a .n) s) (target-is (a .n) s (c .before .before .before .before .before .before .before .before .before .before .before .before .before .put-identity .ensures) (c .before .before .before .before .before .before .before .before .before .before .average-variance .ensures) (c .before .before .before .before .before .before .before .before .times .ensures))) (variance-error (a .periods) (a .n) z s e (c .before .total .ensures)) (c .intensity .ensures)
+returns c =
+    let γ = c .before .before .before .before in
+    let F = γ .before .before .before .before in
+    let m = F .before .before in
+    let I = m .before .before .before in
+    let a = I .before .before .before .before .before .args in
+    let s = at (a .s .now) (a .n) in
+    λ z e. intensity-is ConstantVariance (a .periods) (a .n) z s
+    (γ .distance .ensures (target ConstantVariance (a .n) s) (target-is (a .n) s (I .put-identity .ensures) (m .average-variance .ensures) (F .times .ensures)))
+    (variance-error (a .periods) (a .n) z s e (c .before .total .ensures))
+    (c .intensity .ensures)
 
 pub to-variance-spec : {M : Type 1} → statement M
 to-variance-spec = tie.close (tie.spec put-identity-requires average-variance-requires times-requires distance-requires total-requires intensity-requires same-length returns)

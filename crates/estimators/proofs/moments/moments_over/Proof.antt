@@ -12,7 +12,7 @@ use Rattle.matrix.specs.Matrix.{at}
 use Rattle.estimators.specs.Sample.{scaled}
 use Rattle.estimators.proofs.Exponents.{read}
 use Rattle.estimators.proofs.Gathered.{part-at}
-use Rattle.estimators.proofs.MomentsExt.{moments-ext}
+use Rattle.estimators.proofs.Samples.{moments-same}
 use Rattle.estimators.proofs.moments.moments_over.Statement.{statement}
 use Rattle.estimators.proofs.moments.moments_over.Tie as tie
 
@@ -37,7 +37,7 @@ returns c =
     let p = c .before .before .before .pre in
     let k = read (a .exponent) (omega (arith, p .4)) in
     c .of-returns .ensures
-    ∙ moments-ext (a .periods) (a .n) _ _ (λ t i b j. pow2Scaled (at (a .r .now) (a .n) t i) (negℤ ((part-at (toZ w32 (ofZ w32 (a .exponent))) maxSide (a .n) (p .2) (pos 0) i b ∙ k) j)))
+    ∙ moments-same (a .n) (a .periods) _ _ (λ t i b j. pow2Scaled (at (a .r .now) (a .n) t i) (negℤ ((part-at (toZ w32 (ofZ w32 (a .exponent))) maxSide (a .n) (p .2) (pos 0) i b ∙ k) j)))
 
 pub moments-over-spec : {M : Type 1} → statement M
 moments-over-spec = tie.close (tie.spec array-share-prefix-exponents slice-aggregate-of-returns of-returns-requires returns)

@@ -1,6 +1,5 @@
 -- `estimators::rows::weight` meets its contract: NaN past the end of the list.
 use mathlib.Core.Path.{refl, sym}
-use borrow.Author.Needs.{needs}
 use lib.Ieee.{nan, div, ofBits}
 use lib.ListN.{List·getD-eq-default}
 use borrow.Author.Needs.{needs}

@@ -1,28 +1,22 @@
 -- `estimators::scales::put_exponents` meets its contract. The invariant: the numbers passed have theirs, each of an f64's size.
 use mathlib.Core.Path.{_≡_, refl, sym, ap, _∙_, subst}
-use mathlib.Core.List.{List, _++_, append-nil}
+use mathlib.Core.List.{List}
 use mathlib.Core.Logic.{⊎-elim}
 use Prim.Native.Nat.{ℕ, _+_, _-_, _≤_, _<_}
-use native.Mathlib.Nat.{le-of-eq}
 use native.Mathlib.Omega.{arith}
 use lib.IntN.{ℤ, pos, natAbs}
-use lib.ListN.{length, getD, drop-of-length-le}
+use lib.ListN.{length}
 use borrow.Author.Needs.{needs}
-use Rattle.leaves.specs.Loops.{tab, fill, nth}
+use Rattle.leaves.specs.Loops.{tab, nth}
 use Rattle.leaves.specs.Scaling.{binaryExponent}
 use Rattle.leaves.proofs.Whole.{le-or-lt}
 use Rattle.leaves.proofs.Ints.{back-i32}
-use Rattle.leaves.proofs.Loops.{Filled, filled-none, filled-more, filled-all, length-tab}
+use Rattle.leaves.proofs.Loops.{Filled, filled-none, filled-more, length-tab, filled-whole}
 use Rattle.estimators.specs.Held.{maxExponent}
 use Rattle.estimators.specs.Gather.{Exponents}
-use Rattle.estimators.proofs.Stored.{tab-getD}
+use Rattle.estimators.proofs.Stored.{getD-stored}
 use Rattle.estimators.proofs.scales.put_exponents.Statement.{statement}
 use Rattle.estimators.proofs.scales.put_exponents.Tie as tie
-
--- at the end
-filled-powers : {f : ℕ → ℤ} {i n : ℕ} {old out : List ℤ} → Filled f i n old out → n ≤ i → length old ≡ n → out ≡ tab n f
-unfolding fill
-filled-powers {f} {i} {n} {old} F h l = filled-all F h ∙ ap (λ (r : List ℤ). tab n f ++ r) (drop-of-length-le old (le-of-eq l)) ∙ append-nil (tab n f)
 
 -- the first k are sized
 abbrev Sized : (ℕ → ℤ) → ℕ → Type 0
@@ -38,7 +32,7 @@ sized-more f k h e i l =
 sized-all : (f : ℕ → ℤ) (n k : ℕ) (out : List ℤ) → out ≡ tab n f → n ≤ k → Sized f k → Exponents out
 sized-all f n k out e h s i l =
     let b : i < n = omega (arith, ap length e, length-tab f n) in
-    subst (λ (z : ℤ). natAbs z ≤ maxExponent) (sym (ap (λ (l : List ℤ). getD l i (pos 0)) e ∙ tab-getD f n i (pos 0) b)) (s i (omega arith))
+    subst (λ (z : ℤ). natAbs z ≤ maxExponent) (sym (getD-stored n f (pos 0) e i b)) (s i (omega arith))
 
 abbrev Inv-loop : tie.InvT-loop
 Inv-loop xs out₀ k₀ out k = Filled (λ k. binaryExponent (nth xs k)) k (length out₀) out₀ out × Sized (λ k. binaryExponent (nth xs k)) k
@@ -84,7 +78,7 @@ same-length c = search needs
 returns : tie.Need-returns Inv-loop μ-loop
 returns c =
     let i = c .before .loop .inv in
-    let w = filled-powers (i .0) (omega arith) refl in
+    let w = filled-whole (i .0) (omega arith) refl in
     (w, sized-all (λ k. binaryExponent (nth (c .before .before .before .args .xs .now) k)) _ _ _ w (omega arith) (i .1))
 
 pub put-exponents-spec : {M : Type 1} → statement M

@@ -1,5 +1,4 @@
 -- `estimators::tables::start` meets its contract: each arm returns what `start` says of its case.
-use borrow.Author.Needs.{needs}
 use Rattle.estimators.specs.Rows as Rows
 use borrow.Author.Needs.{needs}
 use Rattle.estimators.proofs.tables.start.Statement.{statement}

@@ -11,8 +11,9 @@ use Rattle.leaves.proofs.Loops.{loop-start, loop-turn, loop-end, length-tab}
 use Rattle.matrix.specs.Limits.{maxSide}
 use Rattle.matrix.specs.Matrix.{Matrix, at, sumOver}
 use Rattle.matrix.specs.Inner.{sumRow}
-use Rattle.estimators.specs.LedoitWolf.{apart, deviationOf, averageCorrelation}
-use Rattle.estimators.proofs.Stored.{tab-nth}
+use Rattle.estimators.specs.Sample.{volatility}
+use Rattle.estimators.specs.LedoitWolf.{apart, averageCorrelation}
+use Rattle.estimators.proofs.Stored.{nth-stored}
 use Rattle.estimators.proofs.Entries.{sum-over-ext}
 use lib.ListN.{length}
 use borrow.Author.Needs.{needs}
@@ -23,9 +24,11 @@ use Rattle.estimators.proofs.targets.average_correlation.Tie as tie
 abbrev correlation : Matrix → (ℕ → Float) → Matrix
 correlation s v i j = s i j ⊘ v i ⊘ v j
 
-average : (n : ℕ) (s : Matrix) {sd : List Float} {t k : Float} → sd ≡ tab n (deviationOf s) → t ≡ loop n (sumRow n apart (correlation s (nth sd))) zero⁺ → k ≡ count (n * (n - 1)) → t ⊘ k ≡ averageCorrelation n s
+average : (n : ℕ) (s : Matrix) {sd : List Float} {t k : Float} → sd ≡ tab n (volatility s) → t ≡ loop n (sumRow n apart (correlation s (nth sd))) zero⁺ → k ≡ count (n * (n - 1)) → t ⊘ k ≡ averageCorrelation n s
 unfolding averageCorrelation sumOver
-average n s {sd} ed et ek = λ u. (et ∙ ap (λ (l : List Float). sumOver n apart (correlation s (nth l)) zero⁺) ed ∙ sum-over-ext n apart (correlation s (nth (tab n (deviationOf s)))) (correlation s (deviationOf s)) zero⁺ (λ i j hi hj v. s i j ⊘ tab-nth (deviationOf s) n i hi v ⊘ tab-nth (deviationOf s) n j hj v)) u ⊘ ek u
+average n s {sd} ed et ek = λ u.
+    (et ∙ sum-over-ext n apart (correlation s (nth sd)) (correlation s (volatility s)) zero⁺
+    (λ i j hi hj v. s i j ⊘ nth-stored n (volatility s) ed i hi v ⊘ nth-stored n (volatility s) ed j hj v)) u ⊘ ek u
 
 room : (n : ℕ) → n ≤ maxSide → n * (n - 1) ≤ maxSide * maxSide
 room n h = let less : n - 1 ≤ maxSide = omega arith in mul-le-mul h less

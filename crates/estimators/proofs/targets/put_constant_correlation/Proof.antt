@@ -12,20 +12,22 @@ use Rattle.leaves.specs.Loops.{tab, nth}
 use Rattle.leaves.proofs.Loops.{row, length-tab, tab-ext}
 use Rattle.matrix.specs.Matrix.{Matrix, at}
 use Rattle.matrix.proofs.Stored.{length-rows}
-use Rattle.estimators.specs.LedoitWolf.{deviationOf, averageCorrelation, constantCorrelation}
-use Rattle.estimators.proofs.Stored.{tab-nth, passed, passed-none, passed-all}
+use Rattle.estimators.specs.Sample.{volatility}
+use Rattle.estimators.specs.LedoitWolf.{averageCorrelation, constantCorrelation}
+use Rattle.estimators.proofs.Stored.{passed, passed-none, passed-all, nth-stored}
 use Rattle.estimators.proofs.Entries.{row-long, passed-row}
 use borrow.Author.Needs.{needs}
 use Rattle.estimators.proofs.targets.put_constant_correlation.Statement.{statement}
 use Rattle.estimators.proofs.targets.put_constant_correlation.Tie as tie
 
 -- a row, by the numbers that the code has
-row-is : (n i m : ℕ) (s : Matrix) {r v : Float} {sd ys : List Float} → i < n → m ≡ n → r ≡ averageCorrelation n s → v ≡ s i i → sd ≡ tab n (deviationOf s)
+row-is : (n i m : ℕ) (s : Matrix) {r v : Float} {sd ys : List Float} → i < n → m ≡ n → r ≡ averageCorrelation n s → v ≡ s i i → sd ≡ tab n (volatility s)
     → ys ≡ tab m (λ j. cond (eqb i j) v (r ⊗ nth sd i ⊗ nth sd j)) → ys ≡ tab n (constantCorrelation n s i)
 unfolding constantCorrelation
 row-is n i m s {r} {v} {sd} hi em er ev ed e =
-    e ∙ (λ t. tab (em t) (λ j. cond (eqb i j) (ev t) (er t ⊗ nth (ed t) i ⊗ nth (ed t) j)))
-    ∙ tab-ext _ (constantCorrelation n s i) n (λ j hj t. cond (eqb i j) (s i i) (averageCorrelation n s ⊗ tab-nth (deviationOf s) n i hi t ⊗ tab-nth (deviationOf s) n j hj t))
+    e ∙ (λ t. tab (em t) (λ j. cond (eqb i j) (ev t) (er t ⊗ nth sd i ⊗ nth sd j)))
+    ∙ tab-ext _ (constantCorrelation n s i) n
+    (λ j hj t. cond (eqb i j) (s i i) (averageCorrelation n s ⊗ nth-stored n (volatility s) ed i hi t ⊗ nth-stored n (volatility s) ed j hj t))
 
 abbrev Inv-loop : tie.InvT-loop
 Inv-loop s r sd n out₀ i₀ out i = (i ≤ n) × (length out ≡ n * n) × (out ≡ passed n i (constantCorrelation n (at s n)) out₀)
@@ -64,7 +66,11 @@ part-put-row-end : tie.Need-part-put-row-end Inv-loop μ-loop
 part-put-row-end c = omega (arith, row _ _ (c .before .before .before .before .before .before .args .n) (c .before .loop-test .taken))
 
 put-row-requires : tie.Need-put-row-requires Inv-loop μ-loop
-put-row-requires c κs = let p = c .before .before .before .before .before .before .before .pre in let long = row-long _ _ (c .before .before .before .loop .out) (c .before .before .before .loop .inv .1) (c .before .before .loop-test .taken) in (omega (arith, long), ap length (p .2) ∙ length-tab _ _ ∙ sym long)
+put-row-requires c κs =
+    let i = c .before .before .before .loop in
+    let p = c .before .before .before .before .before .before .before .pre in
+    let long = row-long _ _ (i .out) (i .inv .1) (c .before .before .loop-test .taken) in
+    (omega (arith, long), ap length (p .2) ∙ length-tab _ _ ∙ sym long)
 
 add-i : tie.Need-add-i Inv-loop μ-loop
 add-i c = search needs
@@ -73,7 +79,16 @@ loop-less : tie.Need-loop-less Inv-loop μ-loop
 loop-less c = search needs
 
 loop-again : tie.Need-loop-again Inv-loop μ-loop
-loop-again c = let a = c .before .before .before .before .before .before .before .before .before .before .args in let p = c .before .before .before .before .before .before .before .before .before .before .pre in let long = row-long _ _ (c .before .before .before .before .before .before .loop .out) (c .before .before .before .before .before .before .loop .inv .1) (c .before .before .before .before .before .loop-test .taken) in let e = passed-row _ _ (a .out .now) _ _ _ (c .before .before .before .before .before .before .loop .inv .2) (c .before .before .before .before .before .loop-test .taken) (row-is (a .n) (c .before .before .before .before .before .before .loop .i) _ (at (a .s .now) (a .n)) (c .before .before .before .before .before .loop-test .taken) long (p .1) refl (p .2) (c .before .before .put-row .ensures)) in (omega arith, ap length e ∙ length-rows _ _ _, e)
+loop-again c =
+    let t = c .before .before .before .before .before in
+    let i = t .before .loop in
+    let s = t .before .before .before .before .before in
+    let a = s .args in
+    let below = t .loop-test .taken in
+    let long = row-long _ _ (i .out) (i .inv .1) below in
+    let here = row-is (a .n) (i .i) _ (at (a .s .now) (a .n)) below long (s .pre .1) refl (s .pre .2) (c .before .before .put-row .ensures) in
+    let e = passed-row _ _ (a .out .now) _ _ _ (i .inv .2) below here in
+    (omega arith, ap length e ∙ length-rows _ _ _, e)
 
 same-length : tie.Need-same-length Inv-loop μ-loop
 same-length c = c .before .loop .inv .1 ∙ sym (c .before .before .before .before .before .pre .3)

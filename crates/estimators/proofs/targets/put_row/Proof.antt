@@ -7,8 +7,7 @@ use lib.ListN.{length, set}
 use lib.Ieee.{Float}
 use Rattle.leaves.specs.Numbers.{_⊗_}
 use Rattle.leaves.specs.Loops.{nth}
-use Rattle.leaves.proofs.Loops.{Filled, filled-none, filled-more}
-use Rattle.matrix.proofs.Stored.{filled-whole}
+use Rattle.leaves.proofs.Loops.{Filled, filled-none, filled-more, filled-whole}
 use Rattle.estimators.proofs.Entries.{set-tab}
 use borrow.Author.Needs.{needs}
 use Rattle.estimators.proofs.targets.put_row.Statement.{statement}

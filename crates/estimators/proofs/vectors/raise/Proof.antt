@@ -7,8 +7,7 @@ use lib.ListN.{length}
 use lib.Ieee.{nan}
 use Rattle.leaves.specs.Numbers.{abs, larger}
 use Rattle.leaves.specs.Loops.{nth}
-use Rattle.leaves.proofs.Loops.{Filled, filled-none, filled-here, filled-more}
-use Rattle.matrix.proofs.Stored.{filled-whole}
+use Rattle.leaves.proofs.Loops.{Filled, filled-none, filled-here, filled-more, filled-whole}
 use Rattle.estimators.proofs.vectors.raise.Statement.{statement}
 use Rattle.estimators.proofs.vectors.raise.Tie as tie
 

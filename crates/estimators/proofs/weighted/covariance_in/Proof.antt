@@ -40,9 +40,15 @@ same-length-4 c = search needs
 
 returns : tie.Need-returns
 returns c =
-    let a = c .before .before .before .before .before .before .before .before .before .before .before .before .before .before .before .before .before .before .before .before .before .before .before .before .before .before .before .args in
-    let h = c .before .before .before .before .before .before .before .before .before .before .before .before .before .before .before .before .before .before .before .before .before .before .before .before .before .before .before .pre in
-    weighted-alike (a .periods) (a .n) _ (a .l) (at (a .r .now) (a .n)) (h .5) (c .before .before .before .before .before .before .before .before .before .before .before .before .before .before .before .before .before .before .before .before .put-weights .ensures ∙ ap (λ (m : ℕ). weights m (a .l)) (h .4)) (c .before .before .before .before .before .before .before .before .before .before .before .denominator .ensures) (c .before .before .before .before .before .before .before .before .before .before .before .before .before .before .before .means .ensures) (c .before .before .before .before .before .before .before .before .before .put-roots .ensures) (c .before .before .gram .ensures)
+    let root = c .before .before .before .before .before .before .before .before .before in
+    let d = root .before .before in
+    let m = d .before .before .before .before in
+    let w = m .before .before .before .before .before in
+    let s = w .before .before .before .before .before .before .before in
+    let a = s .args in
+    let h = s .pre in
+    weighted-alike (a .periods) (a .n) _ (a .l) (at (a .r .now) (a .n)) (h .5)
+    (w .put-weights .ensures ∙ ap (λ (m : ℕ). weights m (a .l)) (h .4)) (d .denominator .ensures) (m .means .ensures) (root .put-roots .ensures) (c .before .before .gram .ensures)
 
 pub covariance-in-spec : {M : Type 1} → statement M
 covariance-in-spec = tie.close (tie.spec put-weights-requires means-requires denominator-requires put-roots-requires slice-aggregate-gram gram-requires same-length same-length-2 same-length-3 same-length-4 returns)

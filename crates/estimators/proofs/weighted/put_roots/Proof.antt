@@ -5,8 +5,7 @@ use lib.ListN.{length}
 use Rattle.leaves.specs.Numbers.{_⊘_}
 use Rattle.leaves.specs.Loops.{nth}
 use Rattle.leaves.specs.Root.{sqrt}
-use Rattle.leaves.proofs.Loops.{Filled, filled-none, filled-more}
-use Rattle.matrix.proofs.Stored.{filled-whole}
+use Rattle.leaves.proofs.Loops.{Filled, filled-none, filled-more, filled-whole}
 use borrow.Author.Needs.{needs}
 use Rattle.estimators.proofs.weighted.put_roots.Statement.{statement}
 use Rattle.estimators.proofs.weighted.put_roots.Tie as tie

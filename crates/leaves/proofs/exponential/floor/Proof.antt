@@ -1,9 +1,9 @@
 -- `leaves::exponential::floor` meets its contract: the value cut toward zero, and one less where the value is below that.
 use mathlib.Core.Path.{_≡_, _∙_}
-use Prim.Native.Nat.{_+_, _*_}
+use Prim.Native.Nat.{_+_, _*_, _^_}
 use native.Mathlib.Omega.{arith}
-use mathlib.Core.Bool.{Bool, true, false, _||_}
-use lib.Dec.{T, ltb, lt→ltb}
+use mathlib.Core.Bool.{true, false}
+use lib.Dec.{T, lt→ltb}
 use lib.IntN.{ℤ, pos, _-ℤ_}
 use lib.Ieee.{Float, nan, inf, fin, binary64, lt, le, ofInt, toSigned, up, down}
 use lib.Ieee.Fits.{down-pos}
@@ -11,6 +11,7 @@ use mir.Syntax.{w32, w64}
 use mir.Val.{SFits, toZ, ofZ}
 use mir.Facts.{toZ-ofZ, sfits-widen}
 use borrow.Author.Needs.{needs}
+use borrow.Author.Tests.{lt-ltb}
 use Rattle.leaves.specs.Inner.{Small}
 use Rattle.leaves.specs.Exp.{floor}
 use Rattle.leaves.proofs.Whole.{over, under, one-side, minus}
@@ -20,22 +21,19 @@ use Rattle.leaves.proofs.exponential.floor.Statement.{statement}
 use Rattle.leaves.proofs.exponential.floor.Tie as tie
 
 -- a small value is in the range of an i64
-or-left : (a b : Bool) → T a → T (a || b)
-or-left true b t = tt
-
 in-range : (x : Float) → Small x → T (le (fin true 1 (pos 63)) x) × T (lt x (fin false 1 (pos 63)))
 unfolding le lt
 in-range nan h = absurd h
 in-range (inf s) h = absurd h
 in-range (fin true m e) h =
     let d = down-pos e in (
-      or-left (ltb (m * up e * 1) (1 * 9223372036854775808 * down e)) _ (lt→ltb (m * up e * 1) (1 * 9223372036854775808 * down e) (omega arith)),
-      lt→ltb 0 (m * up e * 1 + 1 * 9223372036854775808 * down e) (omega arith),
+      rw (lt-ltb (m * up e * 1) (1 * 2 ^ 63 * down e) (omega arith)) tt,
+      lt→ltb 0 (m * up e * 1 + 1 * 2 ^ 63 * down e) (omega arith),
     )
 in-range (fin false m e) h =
     let d = down-pos e in (
-      or-left (ltb 0 (1 * 9223372036854775808 * down e + m * up e * 1)) _ (lt→ltb 0 (1 * 9223372036854775808 * down e + m * up e * 1) (omega arith)),
-      lt→ltb (m * up e * 1) (1 * 9223372036854775808 * down e) (omega arith),
+      rw (lt-ltb 0 (1 * 2 ^ 63 * down e + m * up e * 1) (omega arith)) tt,
+      lt→ltb (m * up e * 1) (1 * 2 ^ 63 * down e) (omega arith),
     )
 
 module _ (x : Float) (h : Small x) (z : ℤ) (is-z : z ≡ toSigned 63 x) where

@@ -12,23 +12,23 @@ use Rattle.leaves.proofs.numbers.abs.Tie as tie
 
 at-zero : (x : Float) → T (fits binary64 x) → eq x zero⁺ ≡ true → zero⁺ ≡ abs x
 unfolding eq abs
-at-zero nan t h = absurd (subst T (sym h) tt)
-at-zero (inf s) t h = absurd (subst T (sym h) tt)
+at-zero nan t h = no h refl
+at-zero (inf s) t h = no h refl
 at-zero (fin s zero e) t h = ap (fin false 0) (sym (zero-exp binary64 s e t))
 at-zero (fin s (suc m) e) t h = no h (other-is-not s m e)
 
 below : (x : Float) → lt x zero⁺ ≡ true → neg x ≡ abs x
 unfolding lt neg abs
-below nan h = absurd (subst T (sym h) tt)
+below nan h = no h refl
 below (inf true) h = refl
-below (inf false) h = absurd (subst T (sym h) tt)
+below (inf false) h = no h refl
 below (fin true m e) h = refl
 below (fin false m e) h = no h (not-below m e)
 
 above : (x : Float) → eq x zero⁺ ≡ false → lt x zero⁺ ≡ false → x ≡ abs x
 unfolding lt eq abs
 above nan h k = refl
-above (inf true) h k = absurd (subst T k tt)
+above (inf true) h k = no refl k
 above (inf false) h k = refl
 above (fin true zero e) h k = no (zero-is-zero true e) h
 above (fin true (suc m) e) h k = no (is-below m e) k

@@ -1,12 +1,13 @@
 -- `leaves::numbers::float` meets its contract: the patterns above an infinity's are those of NaN.
-use mathlib.Core.Path.{_≡_, refl, sym, _∙_, subst}
+use mathlib.Core.Path.{_≡_, refl, sym, _∙_}
 use mathlib.Core.Bool.{true}
 use Prim.Native.Nat.{ℕ, _%_, _<_}
-use lib.Dec.{T}
 use lib.Ieee.{Float, nan, inf, fin, binary64, div, ofBits, isNan}
 use lib.Ieee.Bits.{nanBits-is, nanBits-above}
-use borrow.Author.Tests.{lt-ltb, le-ltb}
+use borrow.Author.Tests.{lt-ltb}
 use borrow.Author.Needs.{needs}
+use Rattle.leaves.proofs.Zero.{no}
+use Rattle.leaves.proofs.IsNan.{pattern-number}
 use Rattle.leaves.proofs.numbers.float.Statement.{statement}
 use Rattle.leaves.proofs.numbers.float.Tie as tie
 
@@ -16,11 +17,11 @@ nan-pattern n h = sym (is-nan (ofBits binary64 n) (sym (nanBits-is binary64 n) �
   where
     is-nan : (x : Float) → isNan x ≡ true → x ≡ nan
     is-nan nan e = refl
-    is-nan (inf s) e = absurd (subst T (sym e) tt)
-    is-nan (fin s m d) e = absurd (subst T (sym e) tt)
+    is-nan (inf s) e = no e refl
+    is-nan (fin s m d) e = no e refl
 
 float-from-bits-result : tie.Need-float-from-bits-result
-float-from-bits-result c = rw (nanBits-above binary64 (c .before .args .bits), le-ltb _ _ (c .if1 .left)) tt
+float-from-bits-result c = pattern-number _ (c .if1 .left)
 
 returns : tie.Need-returns
 unfolding div ofBits

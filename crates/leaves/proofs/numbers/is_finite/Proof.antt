@@ -1,16 +1,16 @@
 -- `leaves::numbers::is_finite` meets its contract, by the value's cases: each side computes.
-use mathlib.Core.Path.{_≡_, refl, sym, subst, _∙_}
+use mathlib.Core.Path.{_≡_, refl, _∙_}
 use mathlib.Core.Bool.{true, false}
-use lib.Dec.{T}
 use lib.Ieee.{Float, nan, inf, fin, lt, neg, div, ofBits}
 use Rattle.leaves.specs.Numbers.{isFinite}
+use Rattle.leaves.proofs.Zero.{no}
 use Rattle.leaves.proofs.numbers.is_finite.Statement.{statement}
 use Rattle.leaves.proofs.numbers.is_finite.Tie as tie
 
 above : (x : Float) → lt (inf true) x ≡ true → lt x (inf false) ≡ isFinite x
 unfolding lt isFinite
 above nan h = refl
-above (inf true) h = absurd (subst T (sym h) tt)
+above (inf true) h = no h refl
 above (inf false) h = refl
 above (fin s m e) h = refl
 
@@ -18,8 +18,8 @@ below : (x : Float) → lt (inf true) x ≡ false → false ≡ isFinite x
 unfolding lt isFinite
 below nan h = refl
 below (inf true) h = refl
-below (inf false) h = absurd (subst T h tt)
-below (fin s m e) h = absurd (subst T h tt)
+below (inf false) h = no refl h
+below (fin s m e) h = no refl h
 
 returns : tie.Need-returns
 unfolding ofBits div neg

@@ -1,6 +1,6 @@
 -- `leaves::root::is_nearest` meets its contract: where all tests hold, `nearest-is` says it.
 use mathlib.Core.Path.{_≡_, refl, subst}
-use Prim.Native.Nat.{ℕ, _+_, _*_, _-_}
+use Prim.Native.Nat.{ℕ, _+_, _*_, _-_, _^_}
 use native.Mathlib.Nat.{div-add-mod'}
 use borrow.Author.Needs.{needs}
 use Rattle.leaves.proofs.Zero.{no}
@@ -34,7 +34,7 @@ returns-3 c =
     let a = l .before .before .args in
     let pre = l .before .before .pre in
     let g = 4 * a .p - 2 in
-    let over = subst (λ (x : ℕ). k .rest-over .result .over + x * x ≡ a .n * 72057594037927936) (div-add-mod' g 268435456) (k .rest-over .ensures (c .before .before .if3 .taken)) in
+    let over = subst (λ (x : ℕ). k .rest-over .result .over + x * x ≡ a .n * 2 ^ 56) (div-add-mod' g (2 ^ 28)) (k .rest-over .ensures (c .before .before .if3 .taken)) in
     (l .before .if1 .left, l .if2 .left, nearest-is (a .n) (a .p) (k .rest-over .result .over) (pre .1) (pre .0) (l .before .if1 .left, l .if2 .left) over (c .before .if4 .taken) (c .if5 .taken))
 
 returns-4 : tie.Need-returns-4

@@ -1,6 +1,6 @@
 -- `leaves::root::is_root` meets its contract: where all tests hold, `root-is` says it.
 use mathlib.Core.Path.{_≡_, refl, sym, subst}
-use Prim.Native.Nat.{ℕ, suc, _+_, _-_, _*_, _/_, _%_, _≤_, _<_}
+use Prim.Native.Nat.{ℕ, suc, _+_, _-_, _*_, _/_, _%_, _^_, _≤_, _<_}
 use native.Mathlib.Nat.{mul-le-mul-left, sub-le}
 use native.Mathlib.Omega.{arith}
 use mathlib.Core.Bool.{true, false}
@@ -12,7 +12,7 @@ use mir.Facts.{fits-below}
 use borrow.Author.Needs.{needs}
 use Rattle.leaves.specs.Root.{sticky, sqrt}
 use Rattle.leaves.proofs.Zero.{no}
-use Rattle.leaves.proofs.Guessed.{above-number}
+use Rattle.leaves.proofs.IsNan.{above-number}
 use Rattle.leaves.proofs.Sqrts.{M-lt, radicand-is, radicand-in}
 use Rattle.leaves.proofs.RootBits.{Place, at, place-of, radicand-bits, root-is}
 use Rattle.leaves.proofs.root.is_root.Statement.{statement}
@@ -20,23 +20,23 @@ use Rattle.leaves.proofs.root.is_root.Tie as tie
 
 -- n and p, by the bits of x and of the guess
 abbrev field : ℕ → ℕ
-field b = b / 4503599627370496
+field b = b / 2 ^ 52
 
 abbrev digits : ℕ → ℕ
-digits b = b % 4503599627370496 + 4503599627370496
+digits b = b % 2 ^ 52 + 2 ^ 52
 
-few : (a t : ℕ) → a < 4503599627370496 → (a + 4503599627370496) * (2 - t) ≤ 18014398509481982
-few a t h = let m = mul-le-mul-left (a + 4503599627370496) (sub-le 2 t) in omega (arith, m, h)
+few : (a t : ℕ) → a < 2 ^ 52 → (a + 2 ^ 52) * (2 - t) ≤ 2 ^ 54 - 2
+few a t h = let m = mul-le-mul-left (a + 2 ^ 52) (sub-le 2 t) in omega (arith, m, h)
 
-n-in : {x : Float} → Place x → 0 < field (toBits binary64 x) → (4503599627370496 ≤ digits (toBits binary64 x) * (2 - field (toBits binary64 x) % 2)) × (digits (toBits binary64 x) * (2 - field (toBits binary64 x) % 2) < 18014398509481984)
+n-in : {x : Float} → Place x → 0 < field (toBits binary64 x) → (2 ^ 52 ≤ digits (toBits binary64 x) * (2 - field (toBits binary64 x) % 2)) × (digits (toBits binary64 x) * (2 - field (toBits binary64 x) % 2) < 2 ^ 54)
 n-in (at m e r) h =
     let b = toBits binary64 (fin false (suc m) e) in
     let i = radicand-bits m e r b refl h in
     (omega (arith, i, radicand-in m e r, radicand-is m e r), omega (arith, i, M-lt m e r))
 
 is-root : {x : Float} → Place x → (y : Float) → fits binary64 y ≡ true → 0 < field (toBits binary64 x) → field (toBits binary64 y) ≡ (field (toBits binary64 x) + 1023) / 2
-    → (4503599627370496 ≤ digits (toBits binary64 y)) × (digits (toBits binary64 y) < 9007199254740992)
-    × (ofInt binary64 (pos (8 * digits (toBits binary64 y))) ≡ ofInt binary64 (pos (sticky (digits (toBits binary64 x) * (2 - field (toBits binary64 x) % 2) * 72057594037927936))))
+    → (2 ^ 52 ≤ digits (toBits binary64 y)) × (digits (toBits binary64 y) < 2 ^ 53)
+    × (ofInt binary64 (pos (8 * digits (toBits binary64 y))) ≡ ofInt binary64 (pos (sticky (digits (toBits binary64 x) * (2 - field (toBits binary64 x) % 2) * 2 ^ 56))))
     → y ≡ sqrt x
 is-root (at m e r) y t h f s =
     root-is m e r (toBits binary64 (fin false (suc m) e)) refl h (digits (toBits binary64 y)) (s .0, s .1) (s .2) y (subst T (sym t) tt) (toBits binary64 y) refl f refl
@@ -61,7 +61,7 @@ sub-n : tie.Need-sub-n
 sub-n c = search needs
 
 mul-n : tie.Need-mul-n
-mul-n c = fits-below {n = 18014398509481982} tt (few _ _ (omega arith))
+mul-n c = fits-below {n = 2 ^ 54 - 2} tt (few _ _ (omega arith))
 
 add-is-nearest : tie.Need-add-is-nearest
 add-is-nearest c = search needs

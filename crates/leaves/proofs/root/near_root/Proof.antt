@@ -2,7 +2,7 @@
 use native.Mathlib.Omega.{arith}
 use lib.Ieee.{ofBits}
 use borrow.Author.Needs.{needs}
-use Rattle.leaves.proofs.Guessed.{above-number, pattern-number}
+use Rattle.leaves.proofs.IsNan.{above-number, pattern-number}
 use Rattle.leaves.proofs.root.near_root.Statement.{statement}
 use Rattle.leaves.proofs.root.near_root.Tie as tie
 
@@ -32,19 +32,19 @@ root-requires : tie.Need-root-requires
 root-requires c κs = search needs
 
 float-from-bits-r : tie.Need-float-from-bits-r
-float-from-bits-r c = pattern-number _ (c .root .ensures)
+float-from-bits-r c = pattern-number _ (omega (arith, c .root .ensures))
 
 half-reciprocal-requires : tie.Need-half-reciprocal-requires
 half-reciprocal-requires c κs = search needs
 
 float-from-bits-y : tie.Need-float-from-bits-y
-float-from-bits-y c = pattern-number _ (c .half-reciprocal .ensures)
+float-from-bits-y c = pattern-number _ (omega (arith, c .half-reciprocal .ensures))
 
 square-requires : tie.Need-square-requires
 square-requires c κs = search needs
 
 float-from-bits-d : tie.Need-float-from-bits-d
-float-from-bits-d c = pattern-number _ (c .square .ensures)
+float-from-bits-d c = pattern-number _ (omega (arith, c .square .ensures))
 
 returns : tie.Need-returns
 returns c = search needs

@@ -1,6 +1,6 @@
 -- `leaves::root::root_digits` meets its contract. The invariant is `Digits`: what the i digits found and the remainder stand for.
 use mathlib.Core.Logic.{⊎-elim}
-use Prim.Native.Nat.{_-_, _<_}
+use Prim.Native.Nat.{_-_, _^_, _<_}
 use native.Mathlib.Omega.{arith}
 use Rattle.leaves.proofs.Digits.{Digits, bounded, turn-0, turn-1, exact, inexact, all-passed}
 use Rattle.leaves.proofs.root.root_digits.Statement.{statement}
@@ -12,7 +12,7 @@ Inv-loop n rest₀ root₀ rem₀ i₀ rest root rem i = Digits n rest root rem 
 abbrev μ-loop : tie.MeasureT-loop
 μ-loop n rest₀ root₀ rem₀ i₀ rest root rem i = 55 - i
 
-small : (l : tie.At-loop Inv-loop μ-loop) → l .loop .root < 36028797018963968
+small : (l : tie.At-loop Inv-loop μ-loop) → l .loop .root < 2 ^ 55
 small l = bounded (l .before .args .n) (l .loop .rest) (l .loop .root) (l .loop .rem) (l .loop .i) (l .loop .inv)
 
 loop-holds : tie.Need-loop-holds Inv-loop μ-loop

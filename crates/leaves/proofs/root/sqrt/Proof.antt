@@ -104,13 +104,13 @@ module _ (m : ℕ) (e : ℤ) (p : Room (suc m) e) (b : ℤ) (fb : mag b < 2 ^ 31
       n-is : n ≡ M m e p
       n-is = rw (is-n, y-is, scaled m e p) (truncated m e p)
 
-      n-lt : n < 18014398509481984
+      n-lt : n < 2 ^ 54
       n-lt = rw n-is (M-lt m e p)
 
-      module _ (w : Float) (is-w : w ≡ ofInt binary64 (pos (sticky (n * 72057594037927936)))) (r : Float) (is-r : r ≡ pow2Scaled w (rd (H -ℤ pos 55))) where
+      module _ (w : Float) (is-w : w ≡ ofInt binary64 (pos (sticky (n * 2 ^ 56)))) (r : Float) (is-r : r ≡ pow2Scaled w (rd (H -ℤ pos 55))) where
         w-is : w ≡ round binary64 false (sticky (radicand (suc m) e)) 1
         unfolding ofInt
-        w-is = is-w ∙ ap (λ (k : ℕ). round binary64 false (sticky k) 1) (ap (λ (k : ℕ). k * 72057594037927936) n-is ∙ sym (radicand-is m e p))
+        w-is = is-w ∙ ap (λ (k : ℕ). round binary64 false (sticky k) 1) (ap (λ (k : ℕ). k * 2 ^ 56) n-is ∙ sym (radicand-is m e p))
 
         found : r ≡ sqrt (fin false (suc m) e)
         found = rw (is-r, H-is, toZ-ofZ fits-3, w-is) (last m e p)
@@ -130,11 +130,11 @@ step-y : {x : Float} → Place x → (b : ℤ) → mag b < 2 ^ 31 → b ≡ bina
 step-y (at m e p) b fb ib y iy = y-in m e p b fb ib y iy
 
 step-n : {x : Float} → Place x → (b : ℤ) → mag b < 2 ^ 31 → b ≡ binaryExponent x → (y : Float) → y ≡ pow2Scaled x (rd (rd (pos 52 -ℤ rd (shrZ (rd b) 2)) -ℤ rd (shrZ (rd b) 2)))
-    → (n : ℕ) → n ≡ toUnsigned 64 y → n < 18014398509481984
+    → (n : ℕ) → n ≡ toUnsigned 64 y → n < 2 ^ 54
 step-n (at m e p) b fb ib y iy n i = n-lt m e p b fb ib y iy n i
 
 step-r : {x : Float} → Place x → (b : ℤ) → mag b < 2 ^ 31 → b ≡ binaryExponent x → (y : Float) → y ≡ pow2Scaled x (rd (rd (pos 52 -ℤ rd (shrZ (rd b) 2)) -ℤ rd (shrZ (rd b) 2)))
-    → (n : ℕ) → n ≡ toUnsigned 64 y → (w : Float) → w ≡ ofInt binary64 (pos (sticky (n * 72057594037927936)))
+    → (n : ℕ) → n ≡ toUnsigned 64 y → (w : Float) → w ≡ ofInt binary64 (pos (sticky (n * 2 ^ 56)))
     → (r : Float) → r ≡ pow2Scaled w (rd (rd (shrZ (rd b) 2) -ℤ pos 55)) → r ≡ sqrt x
 step-r (at m e p) b fb ib y iy n i w iw r ir = found m e p b fb ib y iy n i w iw r ir
 

@@ -13,7 +13,8 @@ use borrow.Fn.PlainCycle.{Measures, is, falls, and}
 use Rattle.leaves.specs.Numbers.{zero⁺}
 use Rattle.leaves.specs.Scaling.{pow2, binaryExponent}
 use Rattle.leaves.proofs.Ints.{back-i32}
-use Rattle.leaves.proofs.Exponent.{field, raised, at-nan, no-nan, at-zero, sh, field-fits, last-fits, last}
+use Rattle.leaves.proofs.IsNan.{itself-number}
+use Rattle.leaves.proofs.Exponent.{field, raised, at-nan, at-zero, x-shape, field-fits, last-fits, last}
 use Rattle.leaves.proofs.scaling.binary_exponent.Reads as binary-exponent
 use Rattle.leaves.proofs.scaling.binary_exponent.Kinds as binary-exponent-kinds
 use Rattle.leaves.proofs.scaling.+binary_exponent.Lts-binary_exponent as binary-exponent-lts
@@ -36,14 +37,14 @@ binary-exponent-below t =
 module _ (x : Float) (fx : fits binary64 x ≡ true) (a : ne x x ≡ false) (b : eq x zero⁺ ≡ false) where
   module _ (h : field x ≡ 0) (p : Float) (is-pow : p ≡ pow2 (pos 64)) where
     less : (t : ℕ) → 1 - field x ≡ t → 1 - field (mul binary64 x p) < t
-    less t e = rw (is-pow, ← e) (raised (sh x fx a b) h .falls)
+    less t e = rw (is-pow, ← e) (raised (x-shape x fx a b) h .falls)
 
     module _ (z : ℤ) (fz : mag z < 2 ^ 31) (is-b : z ≡ binaryExponent (mul binary64 x p)) where
       next-fits : SFits w32 (toZ w32 (ofZ w32 z) -ℤ pos 64)
-      next-fits = rw (back-i32 z fz, is-b, is-pow) (raised (sh x fx a b) h .fits-less)
+      next-fits = rw (back-i32 z fz, is-b, is-pow) (raised (x-shape x fx a b) h .fits-less)
 
       next : toZ w32 (ofZ w32 (toZ w32 (ofZ w32 z) -ℤ pos 64)) ≡ binaryExponent x
-      next = rw (toZ-ofZ next-fits, back-i32 z fz, is-b, is-pow) (raised (sh x fx a b) h .less)
+      next = rw (toZ-ofZ next-fits, back-i32 z fz, is-b, is-pow) (raised (x-shape x fx a b) h .less)
 
 -- ---- the needs
 binary-exponent-returns : (t : ℕ) → binary-exponent-lts.Need-returns (pow2-reads.Asked, pow2-reads.Learnt, binary-exponent-below t, binary-exponent.Post) (binary-exponent-at t) binary-exponent.Post
@@ -54,7 +55,7 @@ unfolding ofBits
 binary-exponent-returns-2 t c = at-zero (c .before .before .args .x) (c .if2 .taken)
 
 binary-exponent-float-to-bits-biased : (t : ℕ) → binary-exponent-lts.Need-float-to-bits-biased (pow2-reads.Asked, pow2-reads.Learnt, binary-exponent-below t, binary-exponent.Post) (binary-exponent-at t) binary-exponent.Post
-binary-exponent-float-to-bits-biased t c = no-nan (c .before .before .args .x) (c .before .if1 .left)
+binary-exponent-float-to-bits-biased t c = itself-number (c .before .before .args .x) (c .before .if1 .left)
 
 binary-exponent-cast-biased : (t : ℕ) → binary-exponent-lts.Need-cast-biased (pow2-reads.Asked, pow2-reads.Learnt, binary-exponent-below t, binary-exponent.Post) (binary-exponent-at t) binary-exponent.Post
 unfolding ofBits

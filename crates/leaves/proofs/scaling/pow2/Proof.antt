@@ -1,6 +1,6 @@
 -- `leaves::scaling::pow2` meets its contract: the field k + 1023 with no digits below the leading one is read as 2 ^ k.
 use mathlib.Core.Path.{_≡_, ap}
-use Prim.Native.Nat.{ℕ, suc, _+_, _-_, _*_, _/_, _%_, _≤_, _<_}
+use Prim.Native.Nat.{ℕ, suc, _+_, _-_, _*_, _/_, _%_, _^_, _≤_, _<_}
 use native.Mathlib.Omega.{arith}
 use mathlib.Core.Bool.{false}
 use lib.Dec.{leb, eqb}
@@ -18,13 +18,13 @@ use Rattle.leaves.proofs.Ints.{le-yes, is-pos, minus-is, fits-i32}
 use Rattle.leaves.proofs.scaling.pow2.Statement.{statement}
 use Rattle.leaves.proofs.scaling.pow2.Tie as tie
 
-pow2-bits : (x : ℕ) (k : ℤ) → over k + 1022 ≡ x + under k → x ≤ 2045 → ofBits binary64 (suc x * 4503599627370496 % 18446744073709551616) ≡ fin false 1 k
+pow2-bits : (x : ℕ) (k : ℤ) → over k + 1022 ≡ x + under k → x ≤ 2045 → ofBits binary64 (suc x * 2 ^ 52 % 2 ^ 64) ≡ fin false 1 k
 unfolding ofBits
 pow2-bits x k h l =
-    let b = suc x * 4503599627370496 % 18446744073709551616 in
-    let e1 : leb 9223372036854775808 b ≡ false = lt-leb 9223372036854775808 b (omega arith) in
-    let e2 : b % 9223372036854775808 / 4503599627370496 ≡ suc x = omega arith in
-    let e3 : b % 4503599627370496 ≡ 0 = omega arith in
+    let b = suc x * 2 ^ 52 % 2 ^ 64 in
+    let e1 : leb (2 ^ 63) b ≡ false = lt-leb (2 ^ 63) b (omega arith) in
+    let e2 : b % 2 ^ 63 / 2 ^ 52 ≡ suc x = omega arith in
+    let e3 : b % 2 ^ 52 ≡ 0 = omega arith in
     let e4 : eqb (suc x) 2047 ≡ false = ne-eqb (suc x) 2047 (λ q. omega arith) in
     rw (e1, e2, e3, e4) (ap (fin false 1) (same (Ieee.minus (x + 52) 1074) k (omega (arith, minus-is (x + 52) 1074))))
 
@@ -49,7 +49,7 @@ add-result c = rw (toZ-ofZ (c .fits .k)) (in-i32 c)
 cast-result : tie.Need-cast-result
 cast-result c = rw (read c) (tt, fits-of-lt (omega (arith, range c)))
 
-value : (c : tie.Start) → ofBits binary64 (natAbs (toZ w32 (ofZ w32 (toZ w32 (ofZ w32 (c .args .k)) +ℤ pos 1023))) * 4503599627370496 % 18446744073709551616) ≡ pow2 (c .args .k)
+value : (c : tie.Start) → ofBits binary64 (natAbs (toZ w32 (ofZ w32 (toZ w32 (ofZ w32 (c .args .k)) +ℤ pos 1023))) * 2 ^ 52 % 2 ^ 64) ≡ pow2 (c .args .k)
 value c =
     let n : suc (over (z c) - 1) ≡ over (z c) = omega (arith, range c) in
     rw (read c, ← n) (pow2-bits (over (z c) - 1) (c .args .k) (omega (arith, range c)) (omega (arith, range c)))

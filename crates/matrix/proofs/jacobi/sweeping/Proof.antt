@@ -11,6 +11,7 @@ use lib.Ieee.{Float, ofBits, ne, le, isNan}
 use Rattle.leaves.specs.Numbers.{_⊗_, two}
 use Rattle.leaves.specs.Loops.{loop, firstTo}
 use Rattle.leaves.specs.Root.{sqrt}
+use Rattle.leaves.proofs.IsNan.{nan-yes, nan-no}
 use Rattle.leaves.proofs.Loops.{loop-start, loop-turn}
 use Rattle.matrix.specs.Limits.{maxSide, maxSweeps}
 use Rattle.matrix.specs.Matrix.{at}
@@ -21,7 +22,6 @@ use Rattle.matrix.proofs.First.{first-none, first-more, first-at}
 use Rattle.matrix.proofs.Counts.{pairs, pairs-most, sweep-count, sweeps-count}
 use Rattle.matrix.proofs.Sweeps.{stopping, sweptBy, sweeping-is}
 use Rattle.matrix.proofs.Symmetry.{sweeps-symmetric}
-use Rattle.matrix.proofs.Compare.{nan-yes, nan-no}
 use Rattle.matrix.proofs.jacobi.sweeping.Statement.{statement}
 use Rattle.matrix.proofs.jacobi.sweeping.Tie as tie
 

@@ -1,26 +1,17 @@
 -- `matrix::sums::squares` meets its contract. The invariant: the sum of the squares passed.
-use mathlib.Core.Path.{_≡_, refl, sym, ap, _∙_}
-use mathlib.Core.List.{List}
-use Prim.Native.Nat.{ℕ, _≤_, _-_, _*_, _/_, _%_}
+use mathlib.Core.Path.{_≡_, refl}
+use Prim.Native.Nat.{_≤_, _-_}
 use native.Mathlib.Omega.{arith}
 use borrow.Author.Needs.{needs}
 use lib.ListN.{length}
-use lib.Ieee.{Float, ofBits}
+use lib.Ieee.{ofBits}
 use Rattle.leaves.specs.Numbers.{_⊗_}
 use Rattle.leaves.specs.Loops.{sumTo, nth}
-use Rattle.leaves.proofs.Loops.{sum-none, sum-turn, at-end, sum-ext}
-use Rattle.matrix.specs.Matrix.{at, squares}
-use Rattle.matrix.proofs.Steps.{sum-every}
-use Rattle.matrix.proofs.Stored.{entry-at}
+use Rattle.leaves.proofs.Loops.{sum-none, sum-turn, at-end}
+use Rattle.matrix.specs.Matrix.{squares}
+use Rattle.matrix.proofs.Steps.{sum-stored}
 use Rattle.matrix.proofs.sums.squares.Statement.{statement}
 use Rattle.matrix.proofs.sums.squares.Tie as tie
-
-by-rows : (a : List Float) (n : ℕ) {x : Float} → x ≡ sumTo (length a) (λ k. nth a k ⊗ nth a k) → length a ≡ n * n → x ≡ squares n (at a n)
-unfolding squares
-by-rows a n e l =
-    e ∙ ap (λ (k : ℕ). sumTo k (λ k. nth a k ⊗ nth a k)) l
-    ∙ sum-ext (n * n) (λ k. nth a k ⊗ nth a k) (λ k. at a n (k / n) (k % n) ⊗ at a n (k / n) (k % n)) (λ k h i. sym (entry-at a n k) i ⊗ sym (entry-at a n k) i)
-    ∙ sum-every (λ i j. at a n i j ⊗ at a n i j) n
 
 abbrev Inv-loop : tie.InvT-loop
 Inv-loop a n s₀ k₀ s k = (k ≤ length a) × (s ≡ sumTo k (λ k. nth a k ⊗ nth a k))
@@ -48,7 +39,8 @@ loop-again : tie.Need-loop-again Inv-loop μ-loop
 loop-again c = (omega arith, sum-turn _ _ _ _ (c .before .before .loop .inv .1) refl)
 
 returns : tie.Need-returns Inv-loop μ-loop
-returns c = let a = c .before .before .args .a .now in by-rows a (c .before .before .args .n) (at-end (λ k. sumTo k (λ k. nth a k ⊗ nth a k)) _ _ _ (c .before .loop .inv .1) (c .before .loop .inv .0) (c .loop-test .left)) (c .before .before .pre)
+unfolding squares
+returns c = let a = c .before .before .args .a .now in sum-stored (λ x. x ⊗ x) a (c .before .before .args .n) (at-end (λ k. sumTo k (λ k. nth a k ⊗ nth a k)) _ _ _ (c .before .loop .inv .1) (c .before .loop .inv .0) (c .loop-test .left)) (c .before .before .pre)
 
 pub squares-spec : {M : Type 1} → statement M
 squares-spec = tie.close (tie.spec Inv-loop μ-loop loop-holds mul-x shared-slice-read-x add-k loop-less loop-again returns)

@@ -1,23 +1,20 @@
--- `matrix::tables::copy` meets its contract. The invariant: every number passed is copied.
-use mathlib.Core.Path.{sym, _∙_}
-use Prim.Native.Nat.{_-_, _*_, _/_, _%_}
+-- `matrix::tables::copy` meets its contract. The invariant: the numbers passed are those of xs.
+use mathlib.Core.Path.{refl, sym, _∙_}
+use Prim.Native.Nat.{_-_}
 use native.Mathlib.Omega.{arith}
+use lib.ListN.{length}
+use lib.Ieee.{nan}
+use Rattle.leaves.specs.Loops.{nth}
+use Rattle.leaves.proofs.Loops.{Filled, filled-none, filled-more, filled-whole, tab-is}
 use borrow.Author.Needs.{needs}
-use Rattle.leaves.proofs.Loops.{Filled, filled-none, filled-more}
-use Rattle.matrix.specs.Matrix.{at}
-use Rattle.matrix.proofs.Stored.{entry-at, filled-rows}
-use Rattle.matrix.proofs.Flip.{whole}
 use Rattle.matrix.proofs.tables.copy.Statement.{statement}
 use Rattle.matrix.proofs.tables.copy.Tie as tie
 
 abbrev Inv-loop : tie.InvT-loop
-Inv-loop a n out₀ size k₀ out k = Filled (λ k. at a n (k / n) (k % n)) k (n * n) out₀ out
+Inv-loop xs out₀ k₀ out k = Filled (nth xs) k (length out₀) out₀ out
 
 abbrev μ-loop : tie.MeasureT-loop
-μ-loop a n out₀ size k₀ out k = n * n - k
-
-mul-size : tie.Need-mul-size Inv-loop μ-loop
-mul-size c = search needs
+μ-loop xs out₀ k₀ out k = length out₀ - k
 
 loop-holds : tie.Need-loop-holds Inv-loop μ-loop
 loop-holds c = filled-none _ _ _
@@ -41,13 +38,13 @@ loop-less : tie.Need-loop-less Inv-loop μ-loop
 loop-less c = search needs
 
 loop-again : tie.Need-loop-again Inv-loop μ-loop
-loop-again c = let a = c .before .before .before .args in filled-more (c .before .before .loop .inv) (c .before .loop-test .taken) (omega arith) (sym (entry-at (a .a .now) (a .n) (c .before .before .loop .k)))
+loop-again c = filled-more (c .before .before .loop .inv) (omega arith) (omega arith) refl
 
 same-length : tie.Need-same-length Inv-loop μ-loop
-same-length c = c .before .loop .inv .len
+same-length c = search needs
 
 returns : tie.Need-returns Inv-loop μ-loop
-returns c = let a = c .before .before .args in filled-rows (at (a .a .now) (a .n)) (a .n) (c .before .loop .inv) (c .loop-test .left) (c .before .before .pre .1) ∙ sym (whole (a .n) (a .a .now) (c .before .before .pre .0))
+returns c = filled-whole (c .before .loop .inv) (omega arith) refl ∙ sym (tab-is nan _ _ _ (c .before .before .pre) (λ k h. refl))
 
 pub copy-spec : {M : Type 1} → statement M
-copy-spec = tie.close (tie.spec Inv-loop μ-loop mul-size loop-holds mul-out shared-slice-read-out mul-out-2 slice-write-out add-k loop-less loop-again same-length returns)
+copy-spec = tie.close (tie.spec Inv-loop μ-loop loop-holds mul-out shared-slice-read-out mul-out-2 slice-write-out add-k loop-less loop-again same-length returns)

@@ -4,12 +4,12 @@ use lib.Dec.{T}
 use lib.Ieee.{toBits}
 use lib.Ieee.Compare.{differs-from-itself}
 use borrow.Author.Needs.{needs}
-use Rattle.leaves.proofs.Exponent.{no-nan}
+use Rattle.leaves.proofs.IsNan.{itself-number}
 use Rattle.paper.proofs.answer.bits.Statement.{statement}
 use Rattle.paper.proofs.answer.bits.Tie as tie
 
 float-to-bits-result : tie.Need-float-to-bits-result
-float-to-bits-result c = no-nan _ (c .if1 .left)
+float-to-bits-result c = itself-number _ (c .if1 .left)
 
 returns : tie.Need-returns
 unfolding toBits

@@ -3,7 +3,7 @@ use mathlib.Core.Path.{_≡_, sym, ap, _∙_}
 use Prim.Native.Nat.{_+_, _≤_, _-_}
 use native.Mathlib.Nat.{zero-add}
 use native.Mathlib.Omega.{arith}
-use lib.ListN.{drop}
+use lib.ListN.{length, drop}
 use Rattle.paper.specs.declared.kinds.Kind.{Kind}
 use Rattle.paper.specs.Grammar.{kinds, placeIn}
 use Rattle.paper.proofs.Table.{how-many, place-next, place-here, place-none}
@@ -11,10 +11,10 @@ use Rattle.paper.proofs.kinds.place.Statement.{statement}
 use Rattle.paper.proofs.kinds.place.Tie as tie
 
 abbrev Inv-loop : tie.InvT-loop
-Inv-loop byte i₀ i = (i ≤ 11) × (placeIn kinds byte ≡ i + placeIn (drop i kinds) byte)
+Inv-loop byte i₀ i = (i ≤ length kinds) × (placeIn kinds byte ≡ i + placeIn (drop i kinds) byte)
 
 abbrev μ-loop : tie.MeasureT-loop
-μ-loop byte i₀ i = 11 - i
+μ-loop byte i₀ i = length kinds - i
 
 loop-holds : tie.Need-loop-holds Inv-loop μ-loop
 loop-holds c = (omega arith, sym (zero-add _))
@@ -36,7 +36,7 @@ loop-less c = omega (arith, how-many)
 loop-again : tie.Need-loop-again Inv-loop μ-loop
 loop-again c =
     let l = c .before .before .before .before .loop in
-    (omega arith, place-next _ (l .i) (l .inv .1) (omega (arith, how-many)) (λ e. c .if1 .left (ap (λ (k : Kind). k .byte) (c .before .before .kind-at .ensures) ∙ e)))
+    (omega (arith, how-many), place-next _ (l .i) (l .inv .1) (omega (arith, how-many)) (λ e. c .if1 .left (ap (λ (k : Kind). k .byte) (c .before .before .kind-at .ensures) ∙ e)))
 
 returns-2 : tie.Need-returns-2 Inv-loop μ-loop
 returns-2 c = place-none _ _ (c .before .loop .inv .1) (omega (arith, how-many))

@@ -6,7 +6,7 @@ use lib.Dec.{leb, eqb}
 use lib.Ieee.{binary64, toBits}
 use borrow.Author.Needs.{needs}
 use borrow.Author.Tests.{eq-eqb, ne-eqb}
-use Rattle.leaves.proofs.Exponent.{no-nan}
+use Rattle.leaves.proofs.IsNan.{itself-number}
 use Rattle.paper.specs.declared.screen.Shown.the-variants.{Number}
 use Rattle.paper.specs.Screen.{shown}
 use Rattle.paper.proofs.Screens.{shown-nan, shown-big, shown-units}
@@ -17,7 +17,7 @@ returns : tie.Need-returns
 returns c = shown-nan _ (c .if1 .taken)
 
 float-to-bits-bits : tie.Need-float-to-bits-bits
-float-to-bits-bits c = no-nan _ (c .if1 .left)
+float-to-bits-bits c = itself-number _ (c .if1 .left)
 
 returns-2 : tie.Need-returns-2
 returns-2 c = shown-big (c .before .before .args .x) (c .before .before .good .0 .1) (c .if2 .taken)

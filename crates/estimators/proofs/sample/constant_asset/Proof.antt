@@ -1,5 +1,5 @@
--- `estimators::bayes_stein::constant_asset` meets its contract. The invariant: no asset passed is constant.
-use mathlib.Core.Path.{_≡_, refl, sym, ap, _∙_}
+-- `estimators::sample::constant_asset` meets its contract. The invariant: no asset passed is constant.
+use mathlib.Core.Path.{_≡_, refl, sym}
 use mathlib.Core.Bool.{Bool}
 use mathlib.Core.List.{List}
 use mathlib.Core.Option.{none}
@@ -12,19 +12,18 @@ use Rattle.leaves.specs.Loops.{firstTo, tab, nth}
 use Rattle.leaves.proofs.Loops.{at-end}
 use Rattle.matrix.specs.Matrix.{Matrix}
 use Rattle.matrix.proofs.First.{first-none, first-more, first-at}
-use Rattle.estimators.specs.Sample.{constantAsset}
-use Rattle.estimators.specs.LedoitWolf.{deviationOf}
-use Rattle.estimators.proofs.Stored.{tab-nth}
+use Rattle.estimators.specs.Sample.{constantAsset, volatility}
+use Rattle.estimators.proofs.Stored.{nth-stored}
 use Rattle.estimators.proofs.Constant.{constant-ext}
-use Rattle.estimators.proofs.bayes_stein.constant_asset.Statement.{statement}
-use Rattle.estimators.proofs.bayes_stein.constant_asset.Tie as tie
+use Rattle.estimators.proofs.sample.constant_asset.Statement.{statement}
+use Rattle.estimators.proofs.sample.constant_asset.Tie as tie
 
 abbrev constant : List Float → List Float → ℕ → Bool
 constant volatilities sizes i = le (nth volatilities i) (1e-10 ⊗ nth sizes i)
 
-constant-is : (n : ℕ) (volatilities sizes : List Float) (s : Matrix) → volatilities ≡ tab n (deviationOf s) → constantAsset n s (nth sizes) ≡ firstTo n (constant volatilities sizes)
+constant-is : (n : ℕ) (volatilities sizes : List Float) (s : Matrix) → volatilities ≡ tab n (volatility s) → constantAsset n s (nth sizes) ≡ firstTo n (constant volatilities sizes)
 unfolding constantAsset
-constant-is n volatilities sizes s e = constant-ext n (deviationOf s) (nth volatilities) (nth sizes) (nth sizes) (λ i h. sym (ap (λ (l : List Float). nth l i) e ∙ tab-nth (deviationOf s) n i h)) (λ i h. refl)
+constant-is n volatilities sizes s e = constant-ext n (volatility s) (nth volatilities) (nth sizes) (nth sizes) (λ i h. sym (nth-stored n (volatility s) e i h)) (λ i h. refl)
 
 abbrev Inv-loop : tie.InvT-loop
 Inv-loop volatilities n sizes i₀ i = (i ≤ n) × (firstTo i (constant volatilities sizes) ≡ none)

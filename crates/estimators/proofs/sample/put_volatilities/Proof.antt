@@ -1,16 +1,15 @@
--- `estimators::targets::put_volatilities` meets its contract. The invariant: every number passed is the square root of its variance.
+-- `estimators::sample::put_volatilities` meets its contract. The invariant: every number passed is the square root of its variance.
 use Prim.Native.Nat.{_-_}
 use native.Mathlib.Omega.{arith}
-use Rattle.leaves.proofs.Loops.{row, Filled, filled-none, filled-more}
+use Rattle.leaves.proofs.Loops.{row, Filled, filled-none, filled-more, filled-whole}
 use Rattle.matrix.specs.Matrix.{at}
-use Rattle.matrix.proofs.Stored.{filled-whole}
-use Rattle.estimators.specs.LedoitWolf.{deviationOf}
+use Rattle.estimators.specs.Sample.{volatility}
 use borrow.Author.Needs.{needs}
-use Rattle.estimators.proofs.targets.put_volatilities.Statement.{statement}
-use Rattle.estimators.proofs.targets.put_volatilities.Tie as tie
+use Rattle.estimators.proofs.sample.put_volatilities.Statement.{statement}
+use Rattle.estimators.proofs.sample.put_volatilities.Tie as tie
 
 abbrev Inv-loop : tie.InvT-loop
-Inv-loop s n out₀ i₀ out i = Filled (deviationOf (at s n)) i n out₀ out
+Inv-loop s n out₀ i₀ out i = Filled (volatility (at s n)) i n out₀ out
 
 abbrev μ-loop : tie.MeasureT-loop
 μ-loop s n out₀ i₀ out i = n - i
