@@ -22,7 +22,7 @@ use Rattle.estimators.specs.declared.Target.the-variants.{ConstantVarian
 use Rattle.estimators.specs.declared.rows.Row.the-variants.{Deviation, Scaled}
 use Rattle.estimators.proofs.Stored.{nth-stored, at-stored}
 use Rattle.estimators.proofs.Entries.{sum-over-ext}
-use Rattle.leaves.proofs.Commutative.{product-comm}
+use Rattle.estimators.proofs.GramSymmetric.{gram-symmetric}
 use Rattle.estimators.proofs.Samples.{gram-ext, row-bare}
 use Rattle.estimators.proofs.Largest.{amax-columns}
 
@@ -71,11 +71,6 @@ from-centered F T n x z e ee ez ed =
     let alike : (t i : ℕ) → t < T → i < n → z t i ≡ y e t i = λ t i ht hi. ez t i ht hi ∙ unfold scaled in sym (rows-at (scaled (λ i. e) (deviation T x)) T n t i ht hi) in
     ed ∙ intensity-ext T n z (y e) alike (at (secondMoments T n z) n) F ∙ ap (λ (s : List Float). intensityOf F T n (y e) (at s n)) (moments-ext T n z (y e) alike)
     ∙ ap (λ (e : ℤ). intensityOf F T n (y e) (at (secondMoments T n (y e)) n)) ee
-
--- products commute
-gram-symmetric : (T : ℕ) (z : Matrix) (i j : ℕ) → gram T z i j ≡ gram T z j i
-unfolding gram
-gram-symmetric T z i j = sum-ext T _ _ (λ t h. product-comm (z t i) (z t j))
 
 pub moments-symmetric : (T n : ℕ) (z : Matrix) {s : List Float} → s ≡ secondMoments T n z → Symmetric n s
 moments-symmetric T n z e i j hi hj =

@@ -40,13 +40,22 @@ first-then xs ys e = ap (λ (k : Check). first (k ∷ ys)) e ∙ sym (first-fron
 pub first-with : (xs ys : List Check) {x y a k : Check} → x ≡ first xs → a ≡ y → k ≡ first (x ∷ a ∷ []) → first (k ∷ ys) ≡ first (xs ++ y ∷ ys)
 first-with xs ys {y = y} ex ea e = first-then (first xs ∷ y ∷ []) ys (e ∙ (λ t. first (ex t ∷ ea t ∷ []))) ∙ sym (first-front xs (y ∷ ys))
 
--- a check that passes, with those after it
-pub first-passes : (b : Bool) (c : Refusal) (ys : List Check) → first (when b c ∷ ys) ≡ passes → (b ≡ false) × (first ys ≡ passes)
+-- ---- where all checks pass
+pub pass-test : (b : Bool) (c : Refusal) → when b c ≡ passes → b ≡ false
+pass-test false c e = refl
+pass-test true c e = absurd (passes-not (sym e))
+
+pub pass-cons : (x : Check) (ys : List Check) → first (x ∷ ys) ≡ passes → (x ≡ passes) × (first ys ≡ passes)
 unfolding first
-first-passes false c ys e = (refl, e)
-first-passes true c ys e = absurd (passes-not (sym e))
+pass-cons passes ys e = (refl, e)
+pass-cons (refuses c) ys e = absurd (passes-not (sym e))
+
+pub pass-append : (xs ys : List Check) → first (xs ++ ys) ≡ passes → (first xs ≡ passes) × (first ys ≡ passes)
+pass-append xs ys e = pass-cons (first xs) ys (sym (first-front xs ys) ∙ e)
+
+-- a test that passes, with the checks after it
+pub first-passes : (b : Bool) (c : Refusal) (ys : List Check) → first (when b c ∷ ys) ≡ passes → (b ≡ false) × (first ys ≡ passes)
+first-passes b c ys e = let p = pass-cons (when b c) ys e in (pass-test b c (p .0), p .1)
 
 pub first-rest : (x : Check) (ys : List Check) → first (x ∷ ys) ≡ passes → first ys ≡ passes
-unfolding first
-first-rest passes ys e = e
-first-rest (refuses c) ys e = absurd (passes-not (sym e))
+first-rest x ys e = pass-cons x ys e .1

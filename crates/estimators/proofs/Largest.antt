@@ -7,13 +7,13 @@ use mathlib.Core.Logic.{inl, inr}
 use Prim.Native.Nat.{ℕ, zero, suc, _+_, _*_, _/_, _%_, _≤_, _<_, zero-le}
 use native.Mathlib.Nat.{le-refl, le-trans, le-antisymm, le-of-eq, le-of-lt, le-of-suc-le-suc, lt-irrefl, eq-or-lt-of-le, not-suc-le-zero, mod-lt, div-lt-iff-lt-mul}
 use lib.Dec.{T, ltb}
-use lib.IntN.{ℤ, pos}
+use lib.IntN.{pos}
 use lib.Ieee.{Float, nan, inf, fin, binary64, lt, fits, isNan}
 use borrow.Author.Tests.{lt-ltb, le-ltb, ltb-true, ltb-false}
-use Rattle.leaves.specs.Numbers.{zero⁺, isFinite, abs, larger}
+use Rattle.leaves.specs.Numbers.{zero⁺, abs, larger}
 use Rattle.leaves.specs.Loops.{loop, amaxTo}
 use Rattle.leaves.proofs.Loops.{cell, cell-row, cell-col, has-column}
-use Rattle.leaves.proofs.Units.{Top, Val, sign, mag, mag-val, mag-held, mag-abs, zero-mag, lt-val, val-unique}
+use Rattle.leaves.proofs.Units.{Top, Val, sign, mag, fin-val, fin-under-Top, mag-abs, zero-mag, lt-val, val-unique}
 use Rattle.leaves.proofs.Signs.{sign-abs}
 use Rattle.leaves.proofs.Totals.{amax-one}
 use Rattle.leaves.proofs.Zero.{no}
@@ -43,13 +43,6 @@ record Size (x : Float) : Type 0 where
   plus : sign x ≡ false
   number : isNan x ≡ false
 
-under-top : (s : Bool) (m : ℕ) (e : ℤ) → T (fits binary64 (fin s m e)) → mag (fin s m e) < Top
-under-top s m e t = mag-held (fin s m e) t (unfold isFinite in tt) .1
-
-finite-val : (s : Bool) (m : ℕ) (e : ℤ) → T (fits binary64 (fin s m e)) → Val (fin s m e) s (mag (fin s m e))
-unfolding sign
-finite-val s m e t = mag-val (fin s m e) t (unfold isFinite in tt)
-
 lt-height : (m x : Float) → Size m → T (fits binary64 x) → sign x ≡ false → lt m x ≡ ltb (height m) (height x)
 unfolding lt height sign isNan
 lt-height nan x a t p = no refl (a .number)
@@ -57,13 +50,13 @@ lt-height (inf true) x a t p = no refl (a .plus)
 lt-height (fin true m e) x a t p = no refl (a .plus)
 lt-height (inf false) nan a t p = sym (le-ltb Top 0 zero-le)
 lt-height (inf false) (inf s) a t p = sym (le-ltb Top Top (le-refl Top))
-lt-height (inf false) (fin s n d) a t p = sym (le-ltb Top (mag (fin s n d)) (le-of-lt (under-top s n d t)))
+lt-height (inf false) (fin s n d) a t p = sym (le-ltb Top (mag (fin s n d)) (le-of-lt (fin-under-Top s n d t)))
 lt-height (fin false m e) nan a t p = sym (le-ltb (mag (fin false m e)) 0 zero-le)
 lt-height (fin false m e) (inf true) a t p = no refl p
-lt-height (fin false m e) (inf false) a t p = sym (lt-ltb (mag (fin false m e)) Top (under-top false m e (a .fit)))
+lt-height (fin false m e) (inf false) a t p = sym (lt-ltb (mag (fin false m e)) Top (fin-under-Top false m e (a .fit)))
 lt-height (fin false m e) (fin true n d) a t p = no refl p
 lt-height (fin false m e) (fin false n d) a t p =
-    lt-val (fin false m e) (fin false n d) false false (mag (fin false m e)) (mag (fin false n d)) (finite-val false m e (a .fit)) (finite-val false n d t)
+    lt-val (fin false m e) (fin false n d) false false (mag (fin false m e)) (mag (fin false n d)) (fin-val false m e (a .fit)) (fin-val false n d t)
 
 same-height : (x y : Float) → Size x → Size y → height x ≡ height y → x ≡ y
 unfolding height sign isNan
@@ -71,12 +64,12 @@ same-height nan y a b h = no refl (a .number)
 same-height (inf s) nan a b h = no refl (b .number)
 same-height (fin s m e) nan a b h = no refl (b .number)
 same-height (inf s) (inf t) a b h = ap inf (a .plus ∙ sym (b .plus))
-same-height (inf s) (fin t n d) a b h = absurd (lt-irrefl Top (subst (λ (k : ℕ). k < Top) (sym h) (under-top t n d (b .fit))))
-same-height (fin s m e) (inf t) a b h = absurd (lt-irrefl Top (subst (λ (k : ℕ). k < Top) h (under-top s m e (a .fit))))
+same-height (inf s) (fin t n d) a b h = absurd (lt-irrefl Top (subst (λ (k : ℕ). k < Top) (sym h) (fin-under-Top t n d (b .fit))))
+same-height (fin s m e) (inf t) a b h = absurd (lt-irrefl Top (subst (λ (k : ℕ). k < Top) h (fin-under-Top s m e (a .fit))))
 same-height (fin true m e) (fin t n d) a b h = no refl (a .plus)
 same-height (fin false m e) (fin true n d) a b h = no refl (b .plus)
 same-height (fin false m e) (fin false n d) a b h =
-    val-unique (fin false m e) (fin false n d) false (mag (fin false n d)) (a .fit) (b .fit) (subst (Val (fin false m e) false) h (finite-val false m e (a .fit))) (finite-val false n d (b .fit))
+    val-unique (fin false m e) (fin false n d) false (mag (fin false n d)) (a .fit) (b .fit) (subst (Val (fin false m e) false) h (fin-val false m e (a .fit))) (fin-val false n d (b .fit))
 
 -- ---- the larger of a size and another number's
 

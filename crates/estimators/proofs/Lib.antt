@@ -20,6 +20,7 @@ pub mod Samples
 pub mod Gathered
 pub mod Constant
 pub mod Grams
+pub mod GramSymmetric
 pub mod InUnits
 pub mod Room
 pub mod MeanCalls

@@ -1,7 +1,8 @@
 -- Laws of the calls' opening, 1 to 6: what holds where shapes and lengths pass, and what a call answers, by the answers that the code has of its
 -- checks. A call looks only at as much of the answer slice as its answer fills. Assumes nothing.
-use mathlib.Core.Path.{_≡_, refl, sym, ap, _∙_}
-use mathlib.Core.Bool.{Bool, true, false, not, _||_, true≢false}
+use mathlib.Core.Path.{_≡_, sym, ap, _∙_}
+use mathlib.Core.Bool.{not, _||_}
+use mathlib.Mathlib.Data.Bool.Basic.{or-eq-false-eq-eq-false-and-eq-false}
 use mathlib.Core.List.{List, [], _∷_, _++_, append-nil}
 use Prim.Native.Nat.{ℕ, _*_, _≤_}
 use native.Mathlib.Omega.{arith}
@@ -22,19 +23,14 @@ use Rattle.estimators.specs.declared.Answer.{Answer}
 use Rattle.estimators.specs.declared.Answer.the-variants.{Refused}
 use Rattle.estimators.proofs.Firsts.{first-passes, first-then, first-with}
 
--- one of two tests that both fail
-neither : (a b : Bool) → (a || b) ≡ false → (a ≡ false) × (b ≡ false)
-neither false b e = (refl, e)
-neither true b e = absurd (true≢false e)
-
 pub shape-passes : (l n T m room : ℕ) {k : Check} → k ≡ passes → k ≡ first (byShape l n T m room) → Shaped l n T × (m ≤ room)
 shape-passes l n T m room pass e =
     let a = first-passes (eqb n 0) _ _ (sym e ∙ pass) in
     let b = first-passes (ltb maxSide n || ltb maxPeriods T) _ _ (a .1) in
     let c = first-passes (ltb T 2) _ _ (b .1) in
     let d = first-passes (not (eqb l (T * n)) || ltb room m) _ _ (c .1) in
-    let large = neither _ _ (b .0) in
-    let long = neither _ _ (d .0) in
+    let large = or-eq-false-eq-eq-false-and-eq-false _ _ .0 (b .0) in
+    let long = or-eq-false-eq-eq-false-and-eq-false _ _ .0 (d .0) in
     let some = eqb-false n 0 (a .0) in
     ((omega (arith, some), ltb-false _ _ (large .0), ltb-false _ _ (c .0), ltb-false _ _ (large .1), eqb-true _ _ (not-false _ (long .0))), ltb-false _ _ (long .1))
 

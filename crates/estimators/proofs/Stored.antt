@@ -9,11 +9,11 @@ use mathlib.Core.Bool.{cond}
 use lib.Dec.{eqb, ltb}
 use borrow.Author.Tests.{lt-ltb, le-ltb, eq-eqb, ne-eqb}
 use lib.ListN.{length, getD, take, drop, length-append, length-drop, List·getD-append}
-use lib.Seq.{length-take-le, getD-take, getD-drop, getD-append-add, ext-getD}
+use lib.Seq.{length-take-le, getD-take, getD-drop, getD-append-add}
 use lib.Ieee.{Float, nan}
 use Rattle.leaves.specs.Loops.{tab, nth}
 use Rattle.leaves.proofs.Whole.{le-or-lt}
-use Rattle.leaves.proofs.Loops.{row, length-tab, tab-ext, nth-tab}
+use Rattle.leaves.proofs.Loops.{row, tab-ext, nth-tab}
 use Rattle.matrix.specs.Matrix.{Matrix, at, rows}
 use Rattle.matrix.proofs.Stored.{rows-at, rows-ext, rows-is}
 

@@ -222,9 +222,8 @@ pub(crate) fn sum(
         add_periods(term, row, r, n, periods, t, units, centers, weights, s, out);
         t += 2;
     }
-    while t < periods {
+    if t < periods {
         add_period(term, row, r, n, periods, t, units, centers, weights, s, out);
-        t += 1;
     }
 }
 

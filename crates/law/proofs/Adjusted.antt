@@ -46,6 +46,7 @@ use Rattle.estimators.specs.declared.Answer.{Answer}
 use Rattle.estimators.specs.declared.Answer.the-variants.{Covariance, Intensity}
 use Rattle.law.specs.Law.{All, Sized, AtLeast, answerParts, Alike, ask, EstimateInRange, ShrinkageInRange, CopiedEstimate, maxPower, returnRange, covarianceRange, intensityRange}
 use Rattle.law.specs.Law as Law
+use Rattle.law.proofs.Bits.{intensityLeast, intensityGrain}
 use Rattle.law.proofs.Numbers.{times-itself, means-alike}
 use Rattle.law.proofs.Chain.{Chain, ends, pass-must, pass-some, chain-same, chain-test, chain-must, chain-map, chain-append, chained, parts, settled}
 use Rattle.law.proofs.Sizes.{le-not-lt}
@@ -82,14 +83,14 @@ module _ (r : List Float) (n P : ℕ) (opens : (ds : List Check) → first (open
       go : (b : Bool) (w : Float) → lib.Dec.T (fits binary64 w) → AtLeast intensityRange (elim b [ true ↦ clamp01 w | false ↦ zero⁺ ])
           → ((elim b [ true ↦ clamp01 w | false ↦ zero⁺ ]) ≡ nan) ⊎ Shrinking.Intensity (elim b [ true ↦ clamp01 w | false ↦ zero⁺ ])
       go true w t a = clamped-range intensityRange (lit≤ tt) w t a
-      go false w t a = inr (range-zero 982 (2 ^ 1034) (2 ^ 1074))
+      go false w t a = inr (range-zero intensityGrain (2 ^ intensityLeast) (2 ^ 1074))
 
   no : {F : Target} → LedoitWolf F ≡ Unshrunk → ⊥
   no e = let z : true ≡ false = cc in subst lib.Dec.T z tt
 
   intensity-known : (S : Shrinkage) (E : Estimate) → ShrinkageInRange S (isSample E) r n P → badShrinkage S ≡ passes → notTheSample S E ≡ passes → noCorrelation S P n (at r n) ≡ passes → Known S (intensity S P n (at r n))
   unfolding intensity badShrinkage notTheSample
-  intensity-known Unshrunk E q a b c = inr (range-zero 982 (2 ^ 1034) (2 ^ 1074))
+  intensity-known Unshrunk E q a b c = inr (range-zero intensityGrain (2 ^ intensityLeast) (2 ^ 1074))
   intensity-known (Fixed δ) E q a b c = inr (fixed δ (q .0) (q .1) (and-eq-true-iff (le zero⁺ δ) (le δ one) .0 (pass-must (le zero⁺ δ && le δ one) (BadSetting ShrinkageField) a)))
     where
       fixed : (δ : Float) → lib.Dec.T (fits binary64 δ) → AtLeast intensityRange δ → (le zero⁺ δ ≡ true) × (le δ one ≡ true) → Shrinking.Intensity δ

@@ -25,9 +25,10 @@ use Rattle.estimators.specs.declared.Field.the-variants.{SweepLimitField}
 use Rattle.estimators.specs.declared.Refusal.the-variants.{BadSetting, ZeroVariance, Singular}
 use Rattle.estimators.specs.declared.Answer.the-variants.{Shrunk}
 use borrow.Author.Tests.{ltb-false}
+use Rattle.estimators.proofs.Firsts.{pass-test}
 use Rattle.law.specs.Law.{All, Sized, AtLeast, Alike, ask, maxPower, returnRange, meanRange}
 use Rattle.law.specs.Law as Law
-use Rattle.law.proofs.Chain.{Chain, ends, pass-test, chain-same, chain-test, chain-must, chain-some, chained, parts, settled}
+use Rattle.law.proofs.Chain.{Chain, ends, chain-same, chain-test, chain-must, chain-some, chained, parts, settled}
 use Rattle.law.proofs.Moments.{large, Copied, shrunk-alike}
 use Rattle.law.proofs.Opening.{Shape, returns, opening-chain}
 use Rattle.law.proofs.Columns.{C, column, constant-same, exps, exps-at, found, found-same, pull, sizeOf, taken, Σ}
@@ -89,7 +90,7 @@ module _ (k : ℕ) (small : k ≤ maxPower) (r : List Float) (sizes : All (Sized
           let f = exps P n (at r' n) in
           let same = found-same small R in
           let s' : Shape r' n P = record { assets = s .assets; few = s .few; periods = s .periods; most = s .most; full = length-map r (shift (pos k)) ∙ s .full } in
-          let tops : (i : ℕ) → i < n → over (exps P n (at r' n) i) ≤ 40 = λ i l. rw (exps-at P n (at r' n) i l) (column (lit≤ {m = 0} tt) (returns 0 (lit≤ tt) r' sizes' n P s') i l .small .0) in
+          let tops : (i : ℕ) → i < n → over (exps P n (at r' n) i) ≤ returnRange = λ i l. rw (exps-at P n (at r' n) i l) (column (lit≤ {m = 0} tt) (returns 0 (lit≤ tt) r' sizes' n P s') i l .small .0) in
           let c' = subst (λ (m : Moments). AtLeast meanRange (pull limit n m f .target)) same c in
           record {
             intensity = ap (λ (m : Moments). pull limit n m f .intensity) same ∙ intensity-same small R tops limit q;

@@ -2,16 +2,16 @@
 -- end. The two runs then refuse alike, or both accept (`settled`). Assumes nothing.
 use mathlib.Core.Path.{_≡_, refl, sym, ap, ap₂, subst}
 use Prim.Native.Nat.{ℕ}
-use mathlib.Core.Bool.{Bool, true, false, not, _||_}
+use mathlib.Core.Bool.{Bool, true, false, not}
 use mathlib.Core.List.{List, [], _∷_, _++_}
 use mathlib.Core.Option.{Option, none, some}
 use lib.IntN.{ℤ}
 use lib.Ieee.{Float}
 use borrow.Author.Tests.{not-false}
-use Rattle.leaves.proofs.Zero.{no}
 use Rattle.estimators.specs.Refusals.{Place, number, place, Check, passes, refuses, when, whenSome, first}
 use Rattle.estimators.specs.Calls.{Answered, settle}
 use Rattle.estimators.specs.declared.Refusal.{Refusal}
+use Rattle.estimators.proofs.Firsts.{pass-test}
 use Rattle.law.specs.Law.{compared, AnswerParts, answerParts, Alike}
 
 -- both checks pass, and P holds; or both refuse with the same refusal at the same place
@@ -24,14 +24,6 @@ pub data Chain (P : Type 0) : List Check → List Check → Type 0 where
   next : {c c' : Check} {cs cs' : List Check} → Both (Unit {0}) c c' → (c ≡ passes → Chain P cs cs') → Chain P (c ∷ cs) (c' ∷ cs')
 
 -- ---- what a check that passes has found
-pub pass-test : (b : Bool) (c : Refusal) → when b c ≡ passes → b ≡ false
-pass-test true c q = let z : true ≡ false = cc in z
-pass-test false c q = refl
-
-pub neither : (a b : Bool) → (a || b) ≡ false → (a ≡ false) × (b ≡ false)
-neither true b h = no refl h
-neither false b h = (refl, h)
-
 pub pass-must : (b : Bool) (c : Refusal) → when (not b) c ≡ passes → b ≡ true
 pass-must b c q = not-false b (pass-test (not b) c q)
 

@@ -32,7 +32,8 @@ use Rattle.estimators.specs.Sample.{mean, deviation, gram, covariance, largest,
 use Rattle.estimators.specs.Moments.{Moments, moments}
 use Rattle.estimators.specs.BayesStein.{Pull, bayesSteinPull, exponentsOf, largestIn, correlations}
 use borrow.Author.Tests.{ne-eqb}
-use Rattle.law.specs.Law.{maxPower}
+use Rattle.law.specs.Law.{maxPower, returnRange}
+use Rattle.law.proofs.Bits.{returnGrain, returnLeast, returnMost}
 use Rattle.law.proofs.Sizes.{plus-val, le-no}
 use Rattle.law.proofs.Sample.{Returns, entries-as, mean-moved, covariance-moved, largest-moved, largest-above, tenth-moved, tenth-above}
 use Rattle.law.proofs.Scaled.{sign-scaled, Scaling, scaling, scaled-least, exponent-within, exponent-null}
@@ -67,8 +68,8 @@ pub exps-at : (P n : ℕ) (x : Matrix) (i : ℕ) → i < n → exps P n x i ≡ 
 exps-at P n x i l = nth-tab n (λ i. binaryExponent (largest P x i)) i (pos 0) l
 
 -- ---- each column over its power of two
-module _ {k n P : ℕ} {x y : Matrix} (small : k ≤ maxPower) (r : Returns k n P 982 1034 1114 x y) where
-  pub column : (i : ℕ) → i < n → Scaling k 982 1034 1114 (largest P x i) (largest P y i)
+module _ {k n P : ℕ} {x y : Matrix} (small : k ≤ maxPower) (r : Returns k n P returnGrain returnLeast returnMost x y) where
+  pub column : (i : ℕ) → i < n → Scaling k returnGrain returnLeast returnMost (largest P x i) (largest P y i)
   column i a = scaling (largest-moved r i a) (lit≤ tt) (lit≤ tt) (lit≤ tt) (lit≤ tt) (lit≤ tt) (lit≤ tt) (omega arith)
 
   entry-same : (t i : ℕ) → t < P → i < n → scaled (exps P n y) y t i ≡ scaled (exps P n x) x t i
@@ -123,7 +124,7 @@ module _ {k n P : ℕ} {x y : Matrix} (small : k ≤ maxPower) (r : Returns k n 
     abbrev A : Float
     A = largest P x i
 
-    A-range : Range 982 (2 ^ 1034) (2 ^ 1114) (largest P x i)
+    A-range : Range returnGrain (2 ^ returnLeast) (2 ^ returnMost) (largest P x i)
     A-range = largest-moved r i a .range
 
     size-range : Range 942 (2 ^ 942) (2 ^ 1075) (sizeOf P n x i)
@@ -155,8 +156,8 @@ module _ {k n P : ℕ} {x y : Matrix} (small : k ≤ maxPower) (r : Returns k n 
 
         zeros : mag (largest P x i) ≡ 0 → ⊥
         zeros z =
-            let doubled : (d : Float) → Range 982 (2 ^ 1034) (2 ^ 1114) d → mag d ≡ 0 → Moved 1 982 1034 1114 d d = λ d q w. record { range = q; copy = sym (shift-null (pos 1) d (q .fit) (q .finite) w) } in
-            let s : Scaling 1 982 1034 1114 (largest P x i) (largest P x i) = scaling (doubled A A-range z) (lit≤ tt) (lit≤ tt) (lit≤ tt) (lit≤ tt) (lit≤ tt) (lit≤ tt) (lit≤ tt) in
+            let doubled : (d : Float) → Range returnGrain (2 ^ returnLeast) (2 ^ returnMost) d → mag d ≡ 0 → Moved 1 returnGrain returnLeast returnMost d d = λ d q w. record { range = q; copy = sym (shift-null (pos 1) d (q .fit) (q .finite) w) } in
+            let s : Scaling 1 returnGrain returnLeast returnMost (largest P x i) (largest P x i) = scaling (doubled A A-range z) (lit≤ tt) (lit≤ tt) (lit≤ tt) (lit≤ tt) (lit≤ tt) (lit≤ tt) (lit≤ tt) in
             let one-still : s .still ≡ 1 = alone (s .still) (binaryExponent A) (s .few) (s .exponent) in
             let null : (t : ℕ) → t < P → mag (x t i) ≡ 0 = λ t l. le-antisymm (le-trans (largest-above r t i l a) (le-of-eq z)) zero-le in
             let w : Matrix = λ t j. scaled (exps P n x) x t i in
@@ -171,14 +172,14 @@ module _ {k n P : ℕ} {x y : Matrix} (small : k ≤ maxPower) (r : Returns k n 
     pub grows : exps P n y i ≡ exps P n x i +ℤ pos k
     grows = exps-at P n y i a ∙ ap binaryExponent (largest-moved r i a .copy) ∙ exponent-shift (pos k) A (A-range .finite) not-zero ∙ ap (λ (e : ℤ). e +ℤ pos k) (sym (exps-at P n x i a))
 
-    pub exponent-small : (over (exps P n x i) ≤ 40) × (under (exps P n x i) ≤ 41)
+    pub exponent-small : (over (exps P n x i) ≤ returnRange) × (under (exps P n x i) ≤ suc returnRange)
     exponent-small = rw (exps-at P n x i a) (column i a .small)
 
     -- at least 2 ^ -34: the tolerance of a column whose largest is at least 1
     v-least : 2 ^ 1040 ≤ mag (sqrt (Σ n (found P n x) i i))
     v-least =
         let t = 1e-10 ⊗ sizeOf P n x i in
-        let one : 2 ^ 1074 ≤ mag (sizeOf P n x i) = rw (exps-at P n x i a) (scaled-least 1034 1114 A A-range not-zero (lit≤ tt) (lit≤ tt) (lit≤ tt)) in
+        let one : 2 ^ 1074 ≤ mag (sizeOf P n x i) = rw (exps-at P n x i a) (scaled-least returnLeast returnMost A A-range not-zero (lit≤ tt) (lit≤ tt) (lit≤ tt)) in
         let least : 2 ^ 1040 ≤ mag t = rw (product-is 1e-10 (sizeOf P n x i) (tenth-moved .range .fit) (size-range .fit) (tolerance-range .finite))
         (near-least (mag 1e-10 * mag (sizeOf P n x i)) U (2 ^ 1040) U-pos (held-pow 1040) (le-trans (le-of-eq (ap (λ (z : ℕ). 2 ^ 1040 * z) U-is)) (mul-le-mul (tenth-moved .range .least tenth-above) one))) in
         le-of-lt (lt-of-le-of-lt least (le-no (sqrt (Σ n m i i)) t (plus-val (v-range i a) (sign-sqrt (Σ n m i i) (variance-plus i a))) (plus-val tolerance-range (sign-mul 1e-10 (sizeOf P n x i) (unfold sign ofBits in sym size-plus))) h))

@@ -31,6 +31,7 @@ use Rattle.estimators.specs.declared.Regularization.{Regularization}
 use Rattle.estimators.specs.declared.Field.the-variants.{HalfLifeField, ThresholdField}
 use Rattle.estimators.specs.declared.Refusal.the-variants.{BadSetting, ZeroVariance}
 use Rattle.law.specs.Law.{All, Sized, EstimateInRange, CopiedEstimate, sample, given, weighted, semi, semiBelow, maxPower, returnRange, covarianceRange}
+use Rattle.law.proofs.Bits.{returnGrain, returnLeast, returnMost}
 use Rattle.law.proofs.Numbers.{copy-shift}
 use Rattle.law.proofs.Chain.{Chain, ends, pass-must}
 use Rattle.law.proofs.Sizes.{sized-fits}
@@ -56,7 +57,7 @@ module _ (k : ℕ) (small : k ≤ maxPower) (r : List Float) (sizes : All (Sized
   abbrev y : Matrix
   y = at (map (shift (pos k)) r) n
 
-  abbrev R : Returns k n P 982 1034 1114 (at r n) (at (map (shift (pos k)) r) n)
+  abbrev R : Returns k n P returnGrain returnLeast returnMost (at r n) (at (map (shift (pos k)) r) n)
   R = returns k small r sizes n P s
 
   -- 9, of a variance from the returns

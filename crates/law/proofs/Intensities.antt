@@ -25,13 +25,14 @@ use Rattle.estimators.specs.declared.Field.the-variants.{ShrinkageField}
 use Rattle.estimators.specs.declared.Refusal.the-variants.{BadSetting}
 use Rattle.estimators.specs.declared.Answer.{Answer}
 use Rattle.estimators.specs.declared.Answer.the-variants.{Refused, Covariance, Intensity, Mean, Shrunk}
+use Rattle.estimators.proofs.Firsts.{pass-cons, pass-append}
 use Rattle.law.specs.Law as Law
 use Rattle.law.specs.Law.{Question, ask}
 use Rattle.law.proofs.Sizes.{not-lt}
 use Rattle.law.proofs.Columns.{exps, found, pull}
 use Rattle.law.proofs.Pull.{pull-unit}
 use Rattle.law.proofs.Chain.{pass-must}
-use Rattle.law.proofs.Passing.{pass-cons, pass-append, pass-opening}
+use Rattle.law.proofs.Passing.{pass-opening}
 use Rattle.law.proofs.Calls.{averages, ofAnswer, covariance-is, inUnit, centre, uneven, james-is, bayes-is}
 
 abbrev pub Share : Float → Type 0

@@ -18,7 +18,7 @@ use Rattle.leaves.specs.Scaling.{binaryExponent, pow2Scaled}
 use Rattle.leaves.specs.Shift.{shift}
 use Rattle.leaves.proofs.Nan.{nan-add}
 use Rattle.leaves.proofs.Loops.{nth-tab}
-use Rattle.leaves.proofs.Units.{Val, sign, mag, val-mag, mag-val}
+use Rattle.leaves.proofs.Units.{Val, sign, mag, val-mag, mag-val, finite-fin}
 use Rattle.leaves.proofs.Shift.{shift-nan}
 use Rattle.leaves.proofs.Range.{Range, range-zero, range-size, count-pos}
 use Rattle.leaves.proofs.Operations.{Moved, still, moved-weaken, moved-add, moved-sub, moved-mul, moved-over}
@@ -35,7 +35,7 @@ use Rattle.estimators.specs.declared.Refusal.the-variants.{Singular}
 use Rattle.estimators.specs.declared.Answer.the-variants.{Shrunk}
 use Rattle.law.specs.Law.{All, Sized, AtLeast, Alike, ask, maxPower, returnRange, meanRange}
 use Rattle.law.specs.Law as Law
-use Rattle.law.proofs.Bits.{sideBits, side-bits}
+use Rattle.law.proofs.Bits.{sideBits, side-bits, returnGrain, returnLeast, returnMost}
 use Rattle.law.proofs.Chain.{Chain, ends, chain-same, chain-must, chained, parts, settled}
 use Rattle.law.proofs.Sizes.{at-least, lt-no, one-val}
 use Rattle.law.proofs.Sample.{Returns, entries-as, count-moved, mean-moved}
@@ -52,7 +52,7 @@ unit-range l h (inf true) t a b c = unfold lt in absurd (subst T b tt)
 unit-range l h (inf false) t a b c = unfold lt in absurd (subst T c tt)
 unit-range l h (fin s m e) t a b c =
     let x = fin s m e in
-    let f : T (isFinite x) = unfold isFinite in tt in
+    let f = finite-fin s m e in
     let v = mag-val x t f in
     let most : mag x ≤ 2 ^ 1074 = sign-case s v b c in
     inr (range-size (1022 - l) (2 ^ 1074) x t f (elim (at-least l (omega arith) x v a) [ inl z ↦ inl z | inr p ↦ inr (le-trans (le-of-eq (ap (λ (n : ℕ). 2 ^ n) (omega arith))) p) ]) most)
@@ -114,8 +114,8 @@ pull-range limit n m a = go (eq (unevenness n (nth (m .mean)) (centre n m)) zero
 abbrev pub found : ℕ → ℕ → Matrix → Moments
 found P n x = moments P n (scaled (λ i. binaryExponent (amax P n x)) x)
 
-module _ {k n P : ℕ} {x y : Matrix} (small : k ≤ maxPower) (r : Returns k n P 982 1034 1114 x y) where
-  common : Scaling k 982 1034 1114 (amax P n x) (amax P n y)
+module _ {k n P : ℕ} {x y : Matrix} (small : k ≤ maxPower) (r : Returns k n P returnGrain returnLeast returnMost x y) where
+  common : Scaling k returnGrain returnLeast returnMost (amax P n x) (amax P n y)
   common = scaling (amax-moved P n x y (r .entries)) (lit≤ tt) (lit≤ tt) (lit≤ tt) (lit≤ tt) (lit≤ tt) (lit≤ tt) (omega arith)
 
   pub found-same : found P n y ≡ found P n x

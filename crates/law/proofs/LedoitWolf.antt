@@ -25,6 +25,7 @@ use Rattle.estimators.specs.declared.Refusal.the-variants.{ZeroVariance}
 use Rattle.estimators.specs.declared.Answer.the-variants.{Intensity}
 use Rattle.law.specs.Law.{All, Sized, answerParts, Alike, ask, maxPower, returnRange}
 use Rattle.law.specs.Law as Law
+use Rattle.law.proofs.Bits.{returnGrain, returnLeast, returnMost}
 use Rattle.law.proofs.Numbers.{times-itself}
 use Rattle.law.proofs.Chain.{Chain, ends, chain-same, chained, parts, settled}
 use Rattle.law.proofs.Sample.{Returns, deviation-moved, constant-same}
@@ -32,7 +33,7 @@ use Rattle.law.proofs.Matrices.{amax-moved, amax-above}
 use Rattle.law.proofs.Scaled.{Scaling, scaling}
 use Rattle.law.proofs.Opening.{Shape, returns, sample-moved, opening-chain}
 
-pub ledoitWolf-same : {k n T : ℕ} {x y : Matrix} (F : Target) → k ≤ maxPower → Returns k n T 982 1034 1114 x y → ledoitWolf F T n y ≡ ledoitWolf F T n x
+pub ledoitWolf-same : {k n T : ℕ} {x y : Matrix} (F : Target) → k ≤ maxPower → Returns k n T returnGrain returnLeast returnMost x y → ledoitWolf F T n y ≡ ledoitWolf F T n x
 unfolding ledoitWolf scaled
 ledoitWolf-same {k} {n} {T} {x} {y} F small r =
     let each = deviation-moved r 918 (lit≤ tt) (omega arith) in

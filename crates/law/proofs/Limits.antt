@@ -26,12 +26,13 @@ use Rattle.estimators.specs.declared.Shrinkage.{Shrinkage}
 use Rattle.estimators.specs.declared.Regularization.{Regularization}
 use Rattle.estimators.specs.declared.Settings.{Settings}
 use Rattle.estimators.specs.declared.Refusal.the-variants.{BadSetting, NotDecomposed, Singular}
+use Rattle.estimators.proofs.Firsts.{pass-cons, pass-append}
 use Rattle.law.specs.Law as Law
 use Rattle.law.specs.Law.{Question, ask}
 use Rattle.law.proofs.Settings.{sets}
 use Rattle.law.proofs.Columns.{C, found, taken}
 use Rattle.law.proofs.Chain.{pass-must}
-use Rattle.law.proofs.Passing.{pass-cons, pass-append, Accepted, all-pass}
+use Rattle.law.proofs.Passing.{Accepted, all-pass}
 use Rattle.law.proofs.Calls.{averages, ofAnswer, covarianceBy, covariance-is, inUnit, centre, uneven, jamesBy, james-is, bayesBy, bayes-is}
 
 -- ---- the check of the limit

@@ -10,12 +10,12 @@ use lib.IntN.{ℤ, pos, negsuc, negℤ, natAbs, _+ℤ_, _*ℤ_, *ℤ-one}
 use lib.ListN.{take, drop}
 use lib.Seq.{take-append-seam}
 use lib.Ieee.{Float, nan, inf, fin, binary64, fits}
-use Rattle.leaves.specs.Numbers.{isFinite, signum}
+use Rattle.leaves.specs.Numbers.{signum}
 use Rattle.leaves.specs.Loops.{tab, fill}
 use Rattle.leaves.specs.Shift.{shift}
 use Rattle.leaves.proofs.Loops.{length-tab}
 use Rattle.leaves.proofs.Shift.{shift-fin, expo}
-use Rattle.leaves.proofs.Units.{U, Top, Val, sign, mag, val-unique, val-shift, mag-val, mag-held, mag-shift, fits-shift}
+use Rattle.leaves.proofs.Units.{U, Top, Val, mag, val-unique, val-shift, finite-fin, fin-val, fin-under-Top, mag-shift, fits-shift}
 use Rattle.law.specs.Law.{units, TimesPower, Times, All, Each, Copy, AnswerParts, Alike}
 
 -- ---- with signs
@@ -39,10 +39,6 @@ units-are : (s : Bool) (m : ℕ) (e : ℤ) → units s m e ≡ signed s (mag (fi
 unfolding signed mag U
 units-are false m e = refl
 units-are true m e = refl
-
-finite-fin : (s : Bool) (m : ℕ) (e : ℤ) → T (isFinite (fin s m e))
-unfolding isFinite
-finite-fin s m e = tt
 
 -- ---- a number and its shift
 pub times-shift : (k : ℕ) (x : Float) → T (fits binary64 x) → Times (pos k) x (shift (pos k) x)
@@ -75,9 +71,9 @@ copy-shift k (fin s m e) (fin r n d) t u c =
     let i : s ≡ r = let q = c .1 in cc in
     let q : mag x * 2 ^ k ≡ mag y =
     sym (signed-size s (mag x * 2 ^ k)) ∙ ap natAbs (sym (signed-times s (mag x) (2 ^ k)) ∙ ap (λ (z : ℤ). z *ℤ pos (2 ^ k)) (sym (units-are s m e)) ∙ c .0 ∙ units-are r n d) ∙ signed-size r (mag y) in
-    let v : Val x s (mag x) = unfold sign in mag-val x t (finite-fin s m e) in
-    let w : Val y r (mag y) = unfold sign in mag-val y u (finite-fin r n d) in
-    val-unique y (shift (pos k) x) s (mag x * 2 ^ k) u (fits-shift k x s (mag x) t v (subst (λ (z : ℕ). z < Top) (sym q) (mag-held y u (finite-fin r n d) .1))) (subst₂ (Val y) (sym i) (sym q) w) (val-shift k x s (mag x) v)
+    let v = fin-val s m e t in
+    let w = fin-val r n d u in
+    val-unique y (shift (pos k) x) s (mag x * 2 ^ k) u (fits-shift k x s (mag x) t v (subst (λ (z : ℕ). z < Top) (sym q) (fin-under-Top r n d u))) (subst₂ (Val y) (sym i) (sym q) w) (val-shift k x s (mag x) v)
 
 -- ---- lists
 pub copies-shift : (k : ℕ) (l l' : List Float) → All (λ x. T (fits binary64 x)) l → All (λ x. T (fits binary64 x)) l' → Each (Copy (pos k)) l l' → l' ≡ map (shift (pos k)) l

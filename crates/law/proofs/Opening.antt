@@ -5,6 +5,7 @@ use Prim.Native.Nat.{ℕ, _+_, _-_, _*_, _≤_, _<_}
 use native.Mathlib.Nat.{le-of-eq, lt-of-lt-of-le}
 use native.Mathlib.Omega.{arith}
 use mathlib.Core.Bool.{true, false, not, _||_}
+use mathlib.Mathlib.Data.Bool.Basic.{or-eq-false-eq-eq-false-and-eq-false}
 use mathlib.Core.List.{List, [], _++_, map}
 use mathlib.Core.Option.{Option}
 use lib.Dec.{T, eqb, ltb, lit≤}
@@ -25,7 +26,8 @@ use Rattle.estimators.specs.Sample.{covariance}
 use Rattle.estimators.specs.Order.{maxPeriods, notFinite, opening}
 use Rattle.estimators.specs.declared.Refusal.the-variants.{NoAssets, TooLarge, TooFewPeriods, WrongLength, NotFinite, CovarianceNotFinite}
 use Rattle.law.specs.Law.{All, Sized, maxPower, returnRange}
-use Rattle.law.proofs.Chain.{Chain, neither, chain-same, chain-test, chain-must}
+use Rattle.law.proofs.Bits.{returnGrain, returnLeast, returnMost}
+use Rattle.law.proofs.Chain.{Chain, chain-same, chain-test, chain-must}
 use Rattle.law.proofs.Sizes.{all-at, sized-range}
 use Rattle.law.proofs.Sample.{Returns, covariance-moved}
 
@@ -60,7 +62,7 @@ module _ (k : ℕ) (small : k ≤ maxPower) (r : List Float) (sizes : All (Sized
   abbrev y : Matrix
   y = at (map (shift (pos k)) r) n
 
-  pub returns : Shape r n T → Returns k n T 982 1034 1114 (at r n) (at (map (shift (pos k)) r) n)
+  pub returns : Shape r n T → Returns k n T returnGrain returnLeast returnMost (at r n) (at (map (shift (pos k)) r) n)
   returns s = record {
     assets = s .assets;
     few = s .few;
@@ -86,8 +88,8 @@ module _ (k : ℕ) (small : k ≤ maxPower) (r : List Float) (sizes : All (Sized
       chain-test (ltb maxSide n || ltb maxPeriods T) TooLarge refl (λ e₂.
       chain-test (ltb T 2) (TooFewPeriods T) refl (λ e₃.
       chain-test (not (eqb (length r) (T * n)) || ltb (length slice) needed) WrongLength (ap₂ (λ (u v : ℕ). not (eqb u (T * n)) || ltb v needed) (length-map r (shift (pos k))) e) (λ e₄.
-      let large = neither (ltb maxSide n) (ltb maxPeriods T) e₂ in
-      let long = neither (not (eqb (length r) (T * n))) (ltb (length slice) needed) e₄ in
+      let large = or-eq-false-eq-eq-false-and-eq-false (ltb maxSide n) (ltb maxPeriods T) .0 e₂ in
+      let long = or-eq-false-eq-eq-false-and-eq-false (not (eqb (length r) (T * n))) (ltb (length slice) needed) .0 e₄ in
       let s : Shape r n T = record {
         assets = (let z = eqb-false n 0 e₁ in omega arith);
         few = ltb-false maxSide n (large .0);

@@ -22,11 +22,12 @@ use Rattle.estimators.specs.declared.Refusal.{Refusal}
 use Rattle.estimators.specs.declared.Refusal.the-variants.{CovarianceNotFinite, Singular}
 use Rattle.estimators.specs.declared.Answer.{Answer}
 use Rattle.estimators.specs.declared.Answer.the-variants.{Refused, Covariance, Intensity, Mean, Shrunk}
+use Rattle.estimators.proofs.Firsts.{pass-test, pass-cons, pass-append}
 use Rattle.law.specs.Law as Law
 use Rattle.law.specs.Law.{Question, ask}
 use Rattle.law.proofs.Calls.{averages, estimated, covariances, ofAnswer, covariance-is}
-use Rattle.law.proofs.Chain.{pass-test, pass-must}
-use Rattle.law.proofs.Passing.{pass-cons, pass-append, pass-opening, Accepted}
+use Rattle.law.proofs.Chain.{pass-must}
+use Rattle.law.proofs.Passing.{pass-opening, Accepted}
 
 -- ---- the answer slice
 pub record Kept (needed : ℕ) (old : List Float) (w : Answered) : Type 0 where

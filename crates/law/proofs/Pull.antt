@@ -39,7 +39,8 @@ use Rattle.estimators.specs.BayesStein.{singular, commonExponent, gathered, pro
 use borrow.Author.Tests.{ne-eqb}
 use Rattle.leaves.proofs.Zero.{not-above}
 use Rattle.leaves.proofs.Laws.{room→fits}
-use Rattle.law.specs.Law.{AtLeast, maxPower, meanRange}
+use Rattle.law.specs.Law.{AtLeast, maxPower, meanRange, returnRange}
+use Rattle.law.proofs.Bits.{returnGrain, returnLeast, returnMost}
 use Rattle.law.proofs.Sizes.{pow2-val, at-least}
 use Rattle.law.proofs.Sample.{Returns}
 use Rattle.law.proofs.Scaled.{scaled-fits, nan-scaled, sign-scaled, scaled-range, lead}
@@ -190,7 +191,7 @@ ratio-small limit (suc n) a p few short test x y hy F =
     projected : (x : List Float) (e : ℕ) → e < suc n → T (fits binary64 (nth (project (suc n) (decompose limit (suc n) a) (nth x)) e))
     projected x e l = unfold project in rw (nth-tab (suc n) (λ e. sumTo (suc n) (λ i. at (decompose limit (suc n) a .vectors) (suc n) i e ⊗ nth x i)) e nan l) (sum-fits (suc n) (λ i. at (decompose limit (suc n) a .vectors) (suc n) i e ⊗ nth x i))
 
-module _ {k n P : ℕ} {x y : Matrix} (small : k ≤ maxPower) (r : Returns k n P 982 1034 1114 x y) (tops : (i : ℕ) → i < n → over (exps P n y i) ≤ 40) (limit : ℕ) (p : Passed limit n (found P n x) (sizeOf P n x)) where
+module _ {k n P : ℕ} {x y : Matrix} (small : k ≤ maxPower) (r : Returns k n P returnGrain returnLeast returnMost x y) (tops : (i : ℕ) → i < n → over (exps P n y i) ≤ returnRange) (limit : ℕ) (p : Passed limit n (found P n x) (sizeOf P n x)) where
   abbrev m' : Moments
   m' = found P n x
 
@@ -336,7 +337,7 @@ module _ {k n P : ℕ} {x y : Matrix} (small : k ≤ maxPower) (r : Returns k n 
         let j = exps P n x i in
         let z = (one ⊖ α) ⊗ nth (m' .mean) i in
         record {
-          range = scaled-range 1088 j 40 41 q (c .0) (c .1) (lit≤ tt) (lit≤ tt);
+          range = scaled-range 1088 j returnRange (suc returnRange) q (c .0) (c .1) (lit≤ tt) (lit≤ tt);
           copy = ap (pow2Scaled z) (grows small r i l (p .above i l)) ∙ scaled-copy j (pos k) z (q .fit) (fits-move 1088 z q j (omega arith) (omega arith)) (fits-move 1088 z q (j +ℤ pos k) (unfold over under in omega (arith, plus j (pos k), one-side (j +ℤ pos k))) (unfold over under in omega (arith, plus j (pos k), one-side (j +ℤ pos k))));
         }
 

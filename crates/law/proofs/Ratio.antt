@@ -9,7 +9,7 @@ use native.Mathlib.Nat.{le-refl, le-add-right, sub-le, sub-le-sub-left, le-trans
 use native.Mathlib.Omega.{arith}
 use mathlib.Core.Bool.{Bool, true, false, cond}
 use lib.Dec.{T, ltb, eqb·suc-zero, lit≤, lit<}
-use lib.IntN.{ℤ, pos}
+use lib.IntN.{pos}
 use lib.Arith.{add-le-cancel-left, add-lt-cancel-left}
 use lib.Pow.{pow-add, pow-pos, pow-mono}
 use lib.Ieee.{Float, nan, inf, fin, binary64, fits, mul, div, unlike, lt, le, size, below}
@@ -21,7 +21,7 @@ use borrow.Author.Tests.{lt-ltb, le-ltb, ltb-true, ltb-false}
 use Rattle.leaves.specs.Numbers.{_⊕_, _⊗_, _⊘_, ε, count, isFinite, larger, smaller}
 use Rattle.leaves.specs.Loops.{loop, sumTo, minTo, maxTo}
 use Rattle.leaves.proofs.Rounding.{near, Near, near-most, near-error, near-held, held-small, held-times}
-use Rattle.leaves.proofs.Units.{val-pos, U, U-pos, Top, pow-under-Top, Val, zero-mag, sign, mag, val-mag, mag-val, mag-held, rounded, finite-mag, rounded-val, lt-val}
+use Rattle.leaves.proofs.Units.{val-pos, U, U-pos, Top, pow-under-Top, Val, zero-mag, sign, mag, val-mag, mag-val, mag-held, finite-fin, fin-val, fin-under-Top, rounded, finite-mag, rounded-val, lt-val}
 use Rattle.leaves.proofs.Arithmetic.{sumSign, total, total-le, add-finite, mul-finite, div-finite, add-rounded, mul-rounded, div-rounded}
 use Rattle.leaves.proofs.Range.{range-weaken, count-val}
 use Rattle.leaves.proofs.Operations.{still}
@@ -101,9 +101,6 @@ module _ (x y : Float) (fx : T (fits binary64 x)) (fy : T (fits binary64 y)) whe
   lt-key : T (number x) → T (number y) → lt x y ≡ ltb (key x) (key y)
   lt-key = go x y fx fy
     where
-      size-of : (s : Bool) (m : ℕ) (e : ℤ) → T (fits binary64 (fin s m e)) → mag (fin s m e) < Top
-      size-of s m e t = mag-held (fin s m e) t (unfold isFinite in tt) .1
-
       inside : (t : Bool) (b : ℕ) → b < Top → (0 < cond t (Top - b) (Top + b)) × (cond t (Top - b) (Top + b) < Top + Top)
       inside true b l = (omega arith, omega arith)
       inside false b l = (omega arith, omega arith)
@@ -122,13 +119,13 @@ module _ (x y : Float) (fx : T (fits binary64 x)) (fy : T (fits binary64 y)) whe
       go (inf true) (inf false) tx ty p q = unfold lt key in sym (lt-ltb 0 (Top + Top) (let t = pow-under-Top 0 (lit≤ tt) in omega arith))
       go (inf false) (inf true) tx ty p q = unfold lt key in sym (le-ltb (Top + Top) 0 zero-le)
       go (inf false) (inf false) tx ty p q = unfold lt key in sym (le-ltb (Top + Top) (Top + Top) (le-refl (Top + Top)))
-      go (inf true) (fin t n d) tx ty p q = unfold lt key in sym (lt-ltb 0 (cond t (Top - mag (fin t n d)) (Top + mag (fin t n d))) (inside t (mag (fin t n d)) (size-of t n d ty) .0))
-      go (inf false) (fin t n d) tx ty p q = unfold lt key in sym (le-ltb (Top + Top) (cond t (Top - mag (fin t n d)) (Top + mag (fin t n d))) (le-of-lt (inside t (mag (fin t n d)) (size-of t n d ty) .1)))
+      go (inf true) (fin t n d) tx ty p q = unfold lt key in sym (lt-ltb 0 (cond t (Top - mag (fin t n d)) (Top + mag (fin t n d))) (inside t (mag (fin t n d)) (fin-under-Top t n d ty) .0))
+      go (inf false) (fin t n d) tx ty p q = unfold lt key in sym (le-ltb (Top + Top) (cond t (Top - mag (fin t n d)) (Top + mag (fin t n d))) (le-of-lt (inside t (mag (fin t n d)) (fin-under-Top t n d ty) .1)))
       go (fin s m e) (inf true) tx ty p q = unfold lt key in sym (le-ltb (cond s (Top - mag (fin s m e)) (Top + mag (fin s m e))) 0 zero-le)
-      go (fin s m e) (inf false) tx ty p q = unfold lt key in sym (lt-ltb (cond s (Top - mag (fin s m e)) (Top + mag (fin s m e))) (Top + Top) (inside s (mag (fin s m e)) (size-of s m e tx) .1))
+      go (fin s m e) (inf false) tx ty p q = unfold lt key in sym (lt-ltb (cond s (Top - mag (fin s m e)) (Top + mag (fin s m e))) (Top + Top) (inside s (mag (fin s m e)) (fin-under-Top s m e tx) .1))
       go (fin s m e) (fin t n d) tx ty p q =
-          lt-val (fin s m e) (fin t n d) s t (mag (fin s m e)) (mag (fin t n d)) (unfold sign in mag-val (fin s m e) tx (unfold isFinite in tt)) (unfold sign in mag-val (fin t n d) ty (unfold isFinite in tt))
-          ∙ pair s t (mag (fin s m e)) (mag (fin t n d)) (size-of s m e tx) (size-of t n d ty) ∙ unfold key in refl
+          lt-val (fin s m e) (fin t n d) s t (mag (fin s m e)) (mag (fin t n d)) (fin-val s m e tx) (fin-val t n d ty)
+          ∙ pair s t (mag (fin s m e)) (mag (fin t n d)) (fin-under-Top s m e tx) (fin-under-Top t n d ty) ∙ unfold key in refl
 
 le-key : (x y : Float) → T (fits binary64 x) → T (fits binary64 y) → T (number x) → T (number y) → le x y ≡ false → key y < key x
 le-key x y fx fy p q h = ltb-true (key y) (key x) (sym (lt-key y x fy fx q p) ∙ le-or x y p q h)
@@ -226,19 +223,16 @@ module _ (n : ℕ) (few : suc n ≤ maxSide) (v : ℕ → Float) (fit : (e : ℕ
       a-most : suc n * 2 ^ 1022 ≤ U
       a-most = le-trans (mul-le-mul-right (2 ^ 1022) few) (unfold U in lit≤ tt)
 
-      finite-Λ : T (isFinite (fin s c e))
-      finite-Λ = unfold isFinite in tt
-
       B : ℕ
       B = near (suc n * 2 ^ 1022 * mag (fin s c e)) U
 
       B-most : near (suc n * 2 ^ 1022 * mag (fin s c e)) U ≤ mag (fin s c e)
-      B-most = near-most (suc n * 2 ^ 1022 * L) U L U-pos (mag-held Λ t finite-Λ .0) (le-trans (mul-le-mul-right L a-most) (le-of-eq (mul-comm U L)))
+      B-most = near-most (suc n * 2 ^ 1022 * L) U L U-pos (mag-held Λ t (finite-fin s c e) .0) (le-trans (mul-le-mul-right L a-most) (le-of-eq (mul-comm U L)))
 
       bar-val : Val (count (suc n) ⊗ ε ⊗ fin s c e) (unlike false s) (near (suc n * 2 ^ 1022 * mag (fin s c e)) U)
       bar-val =
-          let w : Val Λ s L = unfold sign in mag-val Λ t finite-Λ in
-          subst (λ (z : Float). Val z (unlike false s) B) (sym (mul-rounded (count (suc n) ⊗ ε) Λ false s a L (tiny (suc n) few) w)) (rounded-val (unlike false s) (a * L) U U-pos (lt-of-le-of-lt B-most (mag-held Λ t finite-Λ .1)))
+          let w = fin-val s c e t in
+          subst (λ (z : Float). Val z (unlike false s) B) (sym (mul-rounded (count (suc n) ⊗ ε) Λ false s a L (tiny (suc n) few) w)) (rounded-val (unlike false s) (a * L) U U-pos (lt-of-le-of-lt B-most (fin-under-Top s c e t)))
 
       bar-number : T (number (count (suc n) ⊗ ε ⊗ fin s c e))
       bar-number = val-number (count (suc n) ⊗ ε ⊗ fin s c e) (unlike false s) B bar-val
@@ -256,7 +250,7 @@ module _ (n : ℕ) (few : suc n ≤ maxSide) (v : ℕ → Float) (fit : (e : ℕ
       signed false i hi lo h =
           let k : key (fin s c e) ≡ Top + mag (fin s c e) = unfold key in ap (λ (b : Bool). cond b (Top - L) (Top + L)) i in
           let k' : key (count (suc n) ⊗ ε ⊗ fin s c e) ≡ Top + B = key-val bar (unlike false s) B bar-val ∙ ap (λ (b : Bool). cond (unlike false b) (Top - B) (Top + B)) i in
-          let l = mag-held Λ t finite-Λ .1 in
+          let l = fin-under-Top s c e t in
           let each : (j : ℕ) → j < suc n → T (isFinite (v j)) × (sign (v j) ≡ false) × (key (v j) ≡ Top + mag (v j)) = λ j q. between (v j) (fit j q) (nums j q) (lt-of-le-of-lt (le-add-right Top B) (lt-of-lt-of-le (lt-of-le-of-lt (le-of-eq (sym k')) h) (lo j q))) (lt-of-le-of-lt (le-trans (hi j q) (le-of-eq k)) (under Top L l)) in
           let more : (j : ℕ) → j < suc n → B < mag (v j) = λ j q. add-lt-cancel-left Top (lt-of-lt-of-le (lt-of-le-of-lt (le-of-eq (sym k')) h) (le-trans (lo j q) (le-of-eq (each j q .2)))) in
           let most : (j : ℕ) → j < suc n → mag (v j) ≤ L = λ j q. add-le-cancel-left Top (le-trans (le-of-eq (sym (each j q .2))) (le-trans (hi j q) (le-of-eq k))) in

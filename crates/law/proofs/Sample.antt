@@ -1,6 +1,6 @@
 -- What is computed from the returns column by column, for returns x and their copies y, each 2 ^ k times x: means, deviations, largest sizes, the sample covariance and the two semicovariances are
--- scaled exactly, because every sum, product and quotient on the way is a whole number of units and far from overflow. Exponents are of units of 2 ^ -1074: a return, of size 2 ^ -40 to 2 ^ 40, has
--- 2 ^ 1034 to 2 ^ 1114 units and is a multiple of 2 ^ 982. The same laws with k = 0 give the ranges of what is computed from one run's numbers. Assumes nothing.
+-- scaled exactly, because every sum, product and quotient on the way is a whole number of units and far from overflow. Exponents are of units of 2 ^ -1074:
+-- `Bits` has those of a return. The same laws with k = 0 give the ranges of what is computed from one run's numbers. Assumes nothing.
 use mathlib.Core.Path.{_≡_, ap, ap₂, _∙_}
 use Prim.Native.Nat.{ℕ, suc, _+_, _-_, _^_, _≤_, _<_, zero-le}
 use native.Mathlib.Nat.{le-trans, zero-add}

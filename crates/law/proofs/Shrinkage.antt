@@ -26,7 +26,7 @@ use Rattle.estimators.specs.declared.Regularization.the-variants.{Unregularized
 use Rattle.estimators.specs.declared.Field.the-variants.{RegularizationField}
 use Rattle.estimators.specs.declared.Refusal.the-variants.{BadSetting}
 use Rattle.law.specs.Law.{maxPower}
-use Rattle.law.proofs.Bits.{sideBits, side-bits}
+use Rattle.law.proofs.Bits.{sideBits, side-bits, intensityLeast, intensityGrain}
 use Rattle.law.proofs.Sample.{count-moved}
 use Rattle.law.proofs.Matrices.{trace-moved}
 
@@ -44,7 +44,7 @@ identity-moved i j = go (eqb i j)
 
 -- an intensity: 0, or from 2 ^ -40 to 1
 abbrev pub Intensity : Float → Type 0
-Intensity δ = Range 982 (2 ^ 1034) (2 ^ 1074) δ
+Intensity δ = Range intensityGrain (2 ^ intensityLeast) (2 ^ 1074) δ
 
 -- ---- an estimate of any kind; after shrinking; after regularizing
 abbrev pub Estimated : ℕ → Float → Float → Type 0
@@ -62,19 +62,19 @@ module _ (k : ℕ) (small : k ≤ maxPower + maxPower) (δ : Float) (d : Intensi
       → Shrunken k (mixed F δ n b i j) (mixed F δ n b' i j)
   unfolding mixed
   mixed-moved {h' = h'} F p u gp lp hp gu lu hu =
-      let rest : Moved 0 982 982 1075 (one ⊖ δ) (one ⊖ δ) = moved-sub (moved-weaken 982 1034 1074 (lit≤ tt) (lit≤ tt) (lit≤ tt) one-moved) (still 1034 1074 d) (lit≤ tt) in
+      let rest : Moved 0 intensityGrain intensityGrain 1075 (one ⊖ δ) (one ⊖ δ) = moved-sub (moved-weaken intensityGrain intensityLeast 1074 (lit≤ tt) (lit≤ tt) (lit≤ tt) one-moved) (still intensityLeast 1074 d) (lit≤ tt) in
       let q = rw (zero-add k) at (moved-mul rest (moved-weaken 97 97 1643 gu lu hu u) 5 5 1644 (lit≤ tt) (lit≤ tt) (lit≤ tt) (omega arith)) in
       moved-add (moved-weaken 5 5 1644 gp lp hp p) q (omega arith)
 
   pub correlation-mixed : Moved k 194 246 1644 (constantCorrelation n b i j) (constantCorrelation n b' i j) → Estimated k (b i j) (b' i j) → Shrunken k (mixed ConstantCorrelation δ n b i j) (mixed ConstantCorrelation δ n b' i j)
   unfolding pull
-  correlation-mixed t u = mixed-moved ConstantCorrelation (rw (zero-add k) at (moved-mul-normal (still 1034 1074 d) t 154 1644 (lit≤ tt) (lit≤ tt) (omega arith))) u (lit≤ tt) (lit≤ tt) (lit≤ tt) (lit≤ tt) (lit≤ tt) (lit≤ tt)
+  correlation-mixed t u = mixed-moved ConstantCorrelation (rw (zero-add k) at (moved-mul-normal (still intensityLeast 1074 d) t 154 1644 (lit≤ tt) (lit≤ tt) (omega arith))) u (lit≤ tt) (lit≤ tt) (lit≤ tt) (lit≤ tt) (lit≤ tt) (lit≤ tt)
 
   pub variance-mixed : 0 < n → n ≤ maxSide → ((i j : ℕ) → i < n → j < n → Estimated k (b i j) (b' i j)) → i < n → j < n → Shrunken k (mixed ConstantVariance δ n b i j) (mixed ConstantVariance δ n b' i j)
   unfolding pull averageVariance
   variance-mixed assets few each a c =
       let m = moved-over (trace-moved n b b' few (omega arith) (λ i l. each i i l l)) (count-moved sideBits n (lit≤ tt) (side-bits few)) (count-pos n assets (le-trans few (lit≤ tt))) 97 1527 (lit≤ tt) (lit≤ tt) (omega arith) in
-      let p = rw (zero-add k) at (moved-mul-normal (still 1034 1074 d) m 57 1527 (lit≤ tt) (lit≤ tt) (omega arith)) in
+      let p = rw (zero-add k) at (moved-mul-normal (still intensityLeast 1074 d) m 57 1527 (lit≤ tt) (lit≤ tt) (omega arith)) in
       mixed-moved ConstantVariance (rw (add-zero k) at (moved-mul p (identity-moved i j) 5 109 1527 (lit≤ tt) (lit≤ tt) (lit≤ tt) (omega arith))) (each i j a c) (lit≤ tt) (lit≤ tt) (lit≤ tt) (lit≤ tt) (lit≤ tt) (lit≤ tt)
 
 pub nan-mixed : (F : Target) (n : ℕ) (b : Matrix) (i j : ℕ) → mixed F nan n b i j ≡ nan

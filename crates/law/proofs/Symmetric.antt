@@ -1,23 +1,18 @@
--- The sample, weighted and both semi estimates are symmetric to the last bit: a product of two floats commutes, and both entries add the same products in the same order. Assumes nothing.
+-- The sample, weighted and both semi estimates are symmetric to the last bit, as column products are. Assumes nothing.
 use mathlib.Core.Path.{_≡_, ap, subst}
 use Prim.Native.Nat.{ℕ, _-_}
 use mathlib.Core.Bool.{false}
 use lib.Dec.{T}
 use lib.Ieee.{Float}
-use Rattle.leaves.specs.Numbers.{_⊗_, _⊘_, count}
-use Rattle.leaves.proofs.Loops.{sum-ext}
+use Rattle.leaves.specs.Numbers.{_⊘_, count}
 use Rattle.matrix.specs.Matrix.{Matrix}
-use Rattle.estimators.specs.Sample.{gram, covariance}
+use Rattle.estimators.specs.Sample.{covariance}
 use Rattle.estimators.specs.Weighted.{weightedCovariance}
 use Rattle.estimators.specs.Semi.{semicovariance, semicovarianceBelow}
 use Rattle.estimators.specs.Adjusted.{isGiven, base}
 use Rattle.estimators.specs.declared.Estimate.{Estimate}
 use Rattle.estimators.specs.declared.Estimate.the-variants.{Sample, Given, Weighted, Semi, SemiBelow}
-use Rattle.leaves.proofs.Commutative.{product-comm}
-
-pub gram-symmetric : (P : ℕ) (x : Matrix) (i j : ℕ) → gram P x i j ≡ gram P x j i
-unfolding gram
-gram-symmetric P x i j = sum-ext P (λ t. x t i ⊗ x t j) (λ t. x t j ⊗ x t i) (λ t l. product-comm (x t i) (x t j))
+use Rattle.estimators.proofs.GramSymmetric.{gram-symmetric}
 
 pub estimate-symmetric : (E : Estimate) → isGiven E ≡ false → (P : ℕ) (x g : Matrix) (i j : ℕ) → base E P x g i j ≡ base E P x g j i
 unfolding base covariance weightedCovariance semicovariance semicovarianceBelow

@@ -39,7 +39,7 @@ use Rattle.estimators.specs.declared.Refusal.the-variants.{BadSetting}
 use Rattle.estimators.specs.declared.Answer.the-variants.{Mean}
 use Rattle.law.specs.Law.{All, Sized, LongHalfLife, Alike, ask, maxPower, returnRange, maxHalfLives}
 use Rattle.law.specs.Law as Law
-use Rattle.law.proofs.Bits.{periodBits, period-bits}
+use Rattle.law.proofs.Bits.{periodBits, period-bits, returnGrain, returnLeast, returnMost}
 use Rattle.law.proofs.Numbers.{means-alike}
 use Rattle.law.proofs.Chain.{Chain, ends, chain-must, chained, parts, settled}
 use Rattle.law.proofs.Sample.{Returns, largest-moved, largest-above}
@@ -81,7 +81,7 @@ pub record Weighing (T : ℕ) (w : List Float) : Type 0 where
   pub plus : (t : ℕ) → t < T → sign (nth w t) ≡ false
   pub above : (t : ℕ) → t < T → 0 < mag (nth w t)
 
-module _ {k n T : ℕ} {x y : Matrix} (small : k ≤ maxPower) (r : Returns k n T 982 1034 1114 x y) (w : List Float) (W : Weighing T w) where
+module _ {k n T : ℕ} {x y : Matrix} (small : k ≤ maxPower) (r : Returns k n T returnGrain returnLeast returnMost x y) (w : List Float) (W : Weighing T w) where
   weight-moved : (t : ℕ) → t < T → Moved 0 950 950 1075 (nth w t) (nth w t)
   weight-moved t l = moved-weaken 950 950 1075 (lit≤ tt) (lit≤ tt) (lit≤ tt) (still 1002 1075 (W .range t l))
 
@@ -97,7 +97,7 @@ module _ {k n T : ℕ} {x y : Matrix} (small : k ≤ maxPower) (r : Returns k n 
     abbrev e : ℤ
     e = binaryExponent (largest T x i)
 
-    common : Scaling k 982 1034 1114 (largest T x i) (largest T y i)
+    common : Scaling k returnGrain returnLeast returnMost (largest T x i) (largest T y i)
     common = scaling (largest-moved r i a) (lit≤ tt) (lit≤ tt) (lit≤ tt) (lit≤ tt) (lit≤ tt) (lit≤ tt) (omega arith)
 
     average : Float
@@ -116,7 +116,7 @@ module _ {k n T : ℕ} {x y : Matrix} (small : k ≤ maxPower) (r : Returns k n 
     pub mean-moved : Moved k 712 712 1252 (weightedMean T w x i) (weightedMean T w y i)
     unfolding weightedMean average
     mean-moved = record {
-      range = scaled-range 1212 e 40 41 (average-moved .range) (common .small .0) (common .small .1) (lit≤ tt) (lit≤ tt);
+      range = scaled-range 1212 e returnRange (suc returnRange) (average-moved .range) (common .small .0) (common .small .1) (lit≤ tt) (lit≤ tt);
       copy = ap (λ (s : Float). pow2Scaled (s ⊘ sumTo T (nth w)) (binaryExponent (largest T y i)))
           (sum-ext T (λ t. nth w t ⊗ pow2Scaled (y t i) (negℤ (binaryExponent (largest T y i)))) (λ t. nth w t ⊗ pow2Scaled (x t i) (negℤ e)) (λ t l. ap (λ (z : Float). nth w t ⊗ z) (common .same (r .entries t i l a) (largest-above r t i l a))))
           ∙ scaled-back common average-moved (lit≤ tt) (lit≤ tt) (omega arith);
@@ -145,7 +145,7 @@ long-enough P two h t =
     go (suc P) two b t = is-true b (rw (ne-eqb (suc P) 0 (λ e. absurd (omega arith))) at t)
 
 -- ---- the weighted covariance
-pub covariance-moved : {k n T : ℕ} {x y : Matrix} → k ≤ maxPower → Returns k n T 982 1034 1114 x y → (h : Float) → LongHalfLife T h → accepted (logDecay h) ≡ true
+pub covariance-moved : {k n T : ℕ} {x y : Matrix} → k ≤ maxPower → Returns k n T returnGrain returnLeast returnMost x y → (h : Float) → LongHalfLife T h → accepted (logDecay h) ≡ true
     → (i j : ℕ) → i < n → j < n → Moved (k + k) 154 154 1522 (weightedCovariance T (logDecay h) x i j) (weightedCovariance T (logDecay h) y i j)
 unfolding weightedCovariance gram
 covariance-moved {k} {n} {T} {x} {y} small r h long ok i j a b =

@@ -25,7 +25,7 @@ use Rattle.leaves.proofs.Shift.{shift-value}
 use Rattle.leaves.proofs.Sqrts.{halved, whole, g, radicand-is, radicand-in, digits-of, result-room}
 use Rattle.leaves.proofs.SqrtLaws.{eighth, sqrt-near, sqrt-shift}
 use Rattle.leaves.proofs.Rounding.{Held, held-pow, held-grain}
-use Rattle.leaves.proofs.Units.{U, zero-mag, Val, sign, mag, val-mag, val-pos, val-finite, mag-val, mag-held, val-of}
+use Rattle.leaves.proofs.Units.{U, zero-mag, Val, sign, mag, val-mag, val-pos, val-finite, fin-val, mag-held, val-of}
 use Rattle.leaves.proofs.Range.{Range, range-size, range-value}
 use Rattle.leaves.proofs.Operations.{Moved, pow-le-U, U-le-pow}
 
@@ -222,8 +222,7 @@ root-nearest m e t =
     let v = root-val m e t in
     let s = val-mag (sqrt x) false (q m e t * 2 ^ p m e t) v in
     let c = sqrt-near m e t in
-    let w : Val x false (mag x) = unfold sign isFinite in mag-val x t tt in
-    let at = root-of m e t (mag x) w in
+    let at = root-of m e t (mag x) (fin-val false (suc m) e t) in
     record {
       fit = fits-root m e (fits→room false m e t);
       finite = val-finite (sqrt x) false (q m e t * 2 ^ p m e t) v;

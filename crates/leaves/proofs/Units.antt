@@ -123,6 +123,18 @@ mag-val x t f = let u = units-of x t f in rw (val-mag x (sign x) (u .count) (u .
 pub mag-held : (x : Float) → T (fits binary64 x) → T (isFinite x) → Held (mag x) × (mag x < Top)
 mag-held x t f = let u = units-of x t f in rw (val-mag x (sign x) (u .count) (u .val) .1) (u .held, u .below)
 
+-- a value that has digits is finite
+pub finite-fin : (s : Bool) (m : ℕ) (e : ℤ) → T (isFinite (fin s m e))
+unfolding isFinite
+finite-fin s m e = tt
+
+pub fin-val : (s : Bool) (m : ℕ) (e : ℤ) → T (fits binary64 (fin s m e)) → Val (fin s m e) s (mag (fin s m e))
+unfolding sign
+fin-val s m e t = mag-val (fin s m e) t (finite-fin s m e)
+
+pub fin-under-Top : (s : Bool) (m : ℕ) (e : ℤ) → T (fits binary64 (fin s m e)) → mag (fin s m e) < Top
+fin-under-Top s m e t = mag-held (fin s m e) t (finite-fin s m e) .1
+
 pub mag-neg : (x : Float) → mag (neg x) ≡ mag x
 unfolding mag neg
 mag-neg nan = refl

@@ -10,10 +10,10 @@ use lib.IntN.{pos}
 use lib.Ieee.{Float, nan, inf, fin, binary64, unlike, add, mul, div, fits}
 use lib.Ieee.Fits.{add-fits}
 use borrow.Author.Tests.{lt-ltb}
-use Rattle.leaves.specs.Numbers.{_⊕_, _⊗_, _⊘_, zero⁺, one, isFinite}
+use Rattle.leaves.specs.Numbers.{_⊕_, _⊗_, _⊘_, zero⁺, one}
 use Rattle.leaves.specs.Root.{sqrt}
 use Rattle.leaves.proofs.Rounding.{near, near-error}
-use Rattle.leaves.proofs.Units.{U, U-pos, Top, Val, rounded, sign, mag, val-mag, zero-val, val-finite, mag-val, lt-val, rounded-val, rounded-cases}
+use Rattle.leaves.proofs.Units.{U, U-pos, Top, Val, rounded, sign, mag, val-mag, zero-val, val-finite, finite-fin, mag-val, lt-val, rounded-val, rounded-cases}
 use Rattle.leaves.proofs.Arithmetic.{add-rounded, mul-rounded, div-rounded}
 use Rattle.leaves.proofs.Signs.{same-signs}
 use Rattle.leaves.proofs.SqrtNearest.{Nearest, nearest-of}
@@ -166,4 +166,4 @@ pub angle : (t : Float) → T (fits binary64 t) → Angle (cosine t) (t ⊗ cosi
 angle nan h = inl (unfold mul add sqrt div in refl)
 angle (inf true) h = inr (inl (unfold mul add sqrt div in refl))
 angle (inf false) h = inr (inl (unfold mul add sqrt div in refl))
-angle (fin s m e) h = inr (inr (finite-angle (fin s m e) (sign (fin s m e)) (mag (fin s m e)) (mag-val (fin s m e) h (unfold isFinite in tt))))
+angle (fin s m e) h = inr (inr (finite-angle (fin s m e) (sign (fin s m e)) (mag (fin s m e)) (mag-val (fin s m e) h (finite-fin s m e))))
