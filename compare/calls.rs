@@ -81,10 +81,10 @@ fn all_bits(numbers: &[f64], first: usize) -> Vec<u64> {
     filled.chain(kept.iter().map(|x| x.to_bits())).collect()
 }
 
-/// Numbers that stand for no kind: the engine says 16, whatever else is wrong, and writes no answer.
+/// Numbers that stand for no kind: the engine says 100, whatever else is wrong, and writes no answer.
 fn unknown_kinds(random: &Random) -> usize {
     let unknown = Flat {
-        number: 16,
+        number: 100,
         numbers: [0.0; 2],
         wholes: [0; 2],
     };

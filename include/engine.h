@@ -41,7 +41,7 @@ extern "C" {
    12  the given matrix has a negative eigenvalue      numbers[0]: that value
    13  the given matrix is not decomposed within the sweep limit
    14  trace 0; a mean's decomposition fails, or its correlation is not finite or singular
-   16  a number that stands for no kind: this interface only, before all other causes
+  100  a number that stands for no kind: this interface only, before all other causes
 
    (15 is the exam program's: a malformed paper.) */
 

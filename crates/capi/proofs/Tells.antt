@@ -1,4 +1,4 @@
--- What the exports hand out is what the calls answer, or 16 where a kind is unknown. Assumes nothing.
+-- What the exports hand out is what the calls answer, or `unknownKind`. Assumes nothing.
 use mathlib.Core.Path.{_≡_}
 use mathlib.Core.Bool.{Bool, true, false}
 use mathlib.Core.List.{List}
@@ -7,7 +7,7 @@ use Rattle.leaves.specs.Numbers.{zero⁺}
 use Rattle.estimators.specs.Calls.{Answered, answered}
 use Rattle.estimators.specs.declared.Answer.{Answer}
 use Rattle.capi.specs.Report.{reported, reportOf}
-use Rattle.capi.specs.Calls.{left, told, whenKnown}
+use Rattle.capi.specs.Calls.{left, told, unknownKind, whenKnown}
 use Rattle.capi.specs.declared.report.Report.{Report}
 
 module _ {p q : Report} (handed : p ≡ q) where
@@ -18,6 +18,6 @@ module _ {p q : Report} (handed : p ≡ q) where
   unfolding whenKnown
   tells-known old h e f = rw h (tells e f)
 
-  pub tells-unknown : {old : List Float} {b : Bool} (x : Answered) → b ≡ false → q ≡ reported 16 zero⁺ zero⁺ 0 0 → left p old ≡ whenKnown b old x
+  pub tells-unknown : {old : List Float} {b : Bool} (x : Answered) → b ≡ false → q ≡ reported unknownKind zero⁺ zero⁺ 0 0 → left p old ≡ whenKnown b old x
   unfolding whenKnown
   tells-unknown x h e = rw (h, handed, e)

@@ -21,14 +21,17 @@ left report slice = record { report = report; slice = slice }
 abbrev pub told : Answered → Left
 told a = left (reportOf (a .answer)) (a .slice)
 
--- 16: a number that stands for no kind, before all other causes
+-- a number that stands for no kind is refused with this one, before all other causes
+abbrev pub unknownKind : ℕ
+unknownKind = 100
+
 unfoldable pub whenKnown : Bool → List Float → Answered → Left
 whenKnown true slice a = told a
-whenKnown false slice a = left (reported 16 zero⁺ zero⁺ 0 0) slice
+whenKnown false slice a = left (reported unknownKind zero⁺ zero⁺ 0 0) slice
 
 unfoldable pub engineAdjustedCovariance : List Float → ℕ → ℕ → ℕ → Float → ℕ → Float → ℕ → Float → ℕ → List Float → ℕ → List Float → Left
-engineAdjustedCovariance r n T estimate x shrinkage y regularization z limit given side slice =
-    whenKnown (known estimate shrinkage regularization) slice (adjustedCovariance r n T (settingsOf estimate x shrinkage y regularization z limit) given side slice)
+engineAdjustedCovariance r n T estimate estimateValue shrinkage shrinkageValue regularization regularizationValue limit given side slice =
+    whenKnown (known estimate shrinkage regularization) slice (adjustedCovariance r n T (settingsOf estimate estimateValue shrinkage shrinkageValue regularization regularizationValue limit) given side slice)
 
 -- it takes no answer slice
 unfoldable pub engineLedoitWolf : List Float → ℕ → ℕ → ℕ → Report

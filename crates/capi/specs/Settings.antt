@@ -26,9 +26,9 @@ unfoldable pub regularizationOf : ℕ → Float → Regularization
 regularizationOf kind x = cond (eqb kind 0) Unregularized (Ridge x)
 
 abbrev pub settingsOf : ℕ → Float → ℕ → Float → ℕ → Float → ℕ → Settings
-settingsOf estimate x shrinkage y regularization z limit = record {
-  estimate = estimateOf estimate x;
-  shrinkage = shrinkageOf shrinkage y;
-  regularization = regularizationOf regularization z;
+settingsOf estimate estimateValue shrinkage shrinkageValue regularization regularizationValue limit = record {
+  estimate = estimateOf estimate estimateValue;
+  shrinkage = shrinkageOf shrinkage shrinkageValue;
+  regularization = regularizationOf regularization regularizationValue;
   limit = limit;
 }

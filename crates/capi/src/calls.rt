@@ -10,21 +10,21 @@ use crate::settings::known;
 use crate::settings::settings_of;
 use estimators::calls;
 
-// A number that stands for no kind, before all other causes.
-const UNKNOWN_KIND: u32 = 16;
+// A number that stands for no kind, before all other causes: the definitions' `unknownKind`.
+const UNKNOWN_KIND: u32 = 100;
 
-// x, y and z are the values that the kinds of estimate, shrinkage and regularization may have.
+// A value is read where its kind has one.
 #[no_mangle]
 pub extern "C" fn engine_adjusted_covariance(
     returns: &[f64],
     assets: usize,
     periods: usize,
     estimate: u32,
-    x: f64,
+    estimate_value: f64,
     shrinkage: u32,
-    y: f64,
+    shrinkage_value: f64,
     regularization: u32,
-    z: f64,
+    regularization_value: f64,
     limit: usize,
     given: &[f64],
     side: usize,
@@ -32,12 +32,20 @@ pub extern "C" fn engine_adjusted_covariance(
     numbers: &mut [f64; 2],
     wholes: &mut [usize; 2],
 ) -> u32
-    ensures { λ r. ⌜ Calls.left (Flat.handed r (now (numbers .exit)) (now (wholes .exit))) (now (answer .exit)) ≡ Calls.engineAdjustedCovariance (now (returns .entry)) assets periods estimate x shrinkage y regularization z limit (now (given .entry)) side (now (answer .entry)) ⌝ }
+    ensures { λ r. ⌜ Calls.left (Flat.handed r (now (numbers .exit)) (now (wholes .exit))) (now (answer .exit)) ≡ Calls.engineAdjustedCovariance (now (returns .entry)) assets periods estimate «estimate_value» shrinkage «shrinkage_value» regularization «regularization_value» limit (now (given .entry)) side (now (answer .entry)) ⌝ }
 {
     if !known(estimate, shrinkage, regularization) {
         return hand_out(reported(UNKNOWN_KIND, 0.0, 0.0, 0, 0), numbers, wholes);
     }
-    let settings = settings_of(estimate, x, shrinkage, y, regularization, z, limit);
+    let settings = settings_of(
+        estimate,
+        estimate_value,
+        shrinkage,
+        shrinkage_value,
+        regularization,
+        regularization_value,
+        limit,
+    );
     let told = calls::adjusted_covariance(returns, assets, periods, settings, given, side, answer);
     hand_out(report_of(told), numbers, wholes)
 }

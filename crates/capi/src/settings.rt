@@ -59,19 +59,19 @@ fn regularization_of(kind: u32, value: f64) -> Regularization
 
 pub(crate) fn settings_of(
     estimate: u32,
-    x: f64,
+    estimate_value: f64,
     shrinkage: u32,
-    y: f64,
+    shrinkage_value: f64,
     regularization: u32,
-    z: f64,
+    regularization_value: f64,
     limit: usize,
 ) -> Settings
-    ensures { λ r. ⌜ r ≡ Flat.settingsOf estimate x shrinkage y regularization z limit ⌝ }
+    ensures { λ r. ⌜ r ≡ Flat.settingsOf estimate «estimate_value» shrinkage «shrinkage_value» regularization «regularization_value» limit ⌝ }
 {
     Settings {
-        estimate: estimate_of(estimate, x),
-        shrinkage: shrinkage_of(shrinkage, y),
-        regularization: regularization_of(regularization, z),
+        estimate: estimate_of(estimate, estimate_value),
+        shrinkage: shrinkage_of(shrinkage, shrinkage_value),
+        regularization: regularization_of(regularization, regularization_value),
         limit,
     }
 }

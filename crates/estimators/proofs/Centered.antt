@@ -3,19 +3,18 @@
 use mathlib.Core.Path.{_≡_, sym, ap, _∙_}
 use mathlib.Core.List.{List, []}
 use Prim.Native.Nat.{ℕ, _<_}
-use mathlib.Core.Bool.{true, false}
 use lib.IntN.{ℤ, negℤ}
 use lib.ListN.{length}
-use lib.Ieee.{Float, binary64, lt}
+use lib.Ieee.{Float, binary64}
 use lib.Ieee.Fits.{sub-fits}
-use Rattle.leaves.specs.Numbers.{_⊖_, _⊗_, _⊘_, count, zero⁺, clamp01}
+use Rattle.leaves.specs.Numbers.{_⊖_, _⊗_, _⊘_, count, zero⁺}
 use Rattle.leaves.specs.Loops.{amaxTo, tab, nth}
 use Rattle.leaves.specs.Scaling.{binaryExponent, pow2Scaled}
 use Rattle.leaves.proofs.Loops.{sum-ext, amax-ext, length-tab}
 use Rattle.matrix.specs.Matrix.{Matrix, at, rows, amax, trace, total, sumOver, every, Symmetric}
 use Rattle.matrix.proofs.Stored.{rows-at, rows-ext}
 use Rattle.estimators.specs.Sample.{mean, deviation, gram, scaled, volatility}
-use Rattle.estimators.specs.LedoitWolf.{apart, averageCorrelation, variation, covariation, targetVariation, error, distance, intensityOf, ledoitWolf, secondMoments}
+use Rattle.estimators.specs.LedoitWolf.{apart, averageCorrelation, variation, covariation, targetVariation, error, distance, intensityBy, intensityOf, ledoitWolf, secondMoments}
 use Rattle.estimators.specs.Rows.{inUnit, formed, rowsOf}
 use Rattle.estimators.specs.declared.Target.{Target}
 use Rattle.estimators.specs.declared.Target.the-variants.{ConstantVariance, ConstantCorrelation}
@@ -60,7 +59,7 @@ module _ (T n : ℕ) (z z′ : Matrix) (alike : (t i : ℕ) → t < T → i < n 
 
     intensity-ext : (F : Target) → intensityOf F T n z s ≡ intensityOf F T n z′ s
     unfolding intensityOf
-    intensity-ext F = ap (λ (e : Float). elim (lt zero⁺ (distance F n s)) [ true ↦ clamp01 (e ⊘ count T ⊘ distance F n s) | false ↦ zero⁺ ]) (error-ext F)
+    intensity-ext F = ap (λ (e : Float). intensityBy e T (distance F n s)) (error-ext F)
 
 -- ---- δ, from any such numbers
 pub from-centered : (F : Target) (T n : ℕ) (x z : Matrix) (e : ℤ) {d : Float} → e ≡ binaryExponent (amax T n (deviation T x)) → ((t i : ℕ) → t < T → i < n → z t i ≡ pow2Scaled (deviation T x t i) (negℤ e))

@@ -12,10 +12,10 @@ use lib.Seq.{length-take-le, getD-set-same, getD-set-other}
 use lib.Ieee.{Float, nan}
 use Rattle.leaves.specs.Numbers.{_⊕_, _⊗_, zero⁺}
 use Rattle.leaves.specs.Loops.{tab, nth}
-use Rattle.leaves.proofs.Loops.{row, loop-ext, amax-ext, length-tab, tab-ext, tab-is}
+use Rattle.leaves.proofs.Loops.{row, loop-ext, amax-ext, length-tab, nth-tab, tab-ext, tab-is}
 use Rattle.matrix.specs.Matrix.{Matrix, at, rows, trace, amax, sumOver, every, total, squares}
 use Rattle.matrix.proofs.Stored.{entry-at, length-rows, rows-nth}
-use Rattle.estimators.proofs.Stored.{tab-nth, replaced, row-replaced, passed, passed-more, nth-stored, at-stored}
+use Rattle.estimators.proofs.Stored.{replaced, row-replaced, passed, passed-more, nth-stored, at-stored}
 use Rattle.matrix.proofs.Alike.{trace-alike}
 
 pub amax-rows : (f : Matrix) (n : ℕ) → amax n n (at (rows n n f) n) ≡ amax n n f
@@ -42,7 +42,7 @@ set-tab f n i v h = tab-is nan (set (tab n f) i v) n (λ j. cond (eqb i j) v (f 
   where
     go : (k : ℕ) → k < n → (b : Bool) → eqb i k ≡ b → nth (set (tab n f) i v) k ≡ cond b v (f k)
     go k b true e = let same : i ≡ k = eqb-true i k e in ap (λ (j : ℕ). nth (set (tab n f) i v) j) (sym same) ∙ getD-set-same (tab n f) i v nan (omega (arith, length-tab f n))
-    go k b false e = getD-set-other (tab n f) i k v nan (λ same. eqb-false i k e (sym same)) ∙ tab-nth f n k b
+    go k b false e = getD-set-other (tab n f) i k v nan (λ same. eqb-false i k e (sym same)) ∙ nth-tab n f k nan b
 
 -- a matrix made of a stored one, number by number, and another
 pub entrywise : (n : ℕ) (f : Matrix) (g : Float → Float → Float) (xs : List Float) {l out : List Float} → l ≡ rows n n f → out ≡ tab (length l) (λ k. g (nth xs k) (nth l k)) → out ≡ rows n n (λ i j. g (at xs n i j) (f i j))

@@ -16,8 +16,7 @@ use Rattle.matrix.proofs.Stored.{length-rows}
 use Rattle.estimators.specs.Refusals.{Check, passes, refuses, first}
 use Rattle.estimators.specs.Given.{averagedOf}
 use Rattle.estimators.specs.Adjusted.{isGiven, base, intensity, isAdjusted, baseOf, adjustedOf}
-use Rattle.estimators.specs.Order.{opening, ofGiven, ofSettings, adjustedOrder, noVariance, byReturns, bySettings, byAnswer, byEstimate}
-use Rattle.estimators.specs.Opening.{Shaped}
+use Rattle.estimators.specs.Order.{opening, ofGiven, ofSettings, adjustedOrder, noVariance, byReturns, bySettings, byAnswer, byEstimate, Shaped}
 use Rattle.estimators.specs.Calls.{answered, settle, adjustedCovariance}
 use Rattle.estimators.specs.Estimated.{finished, estimated, decompositionBy, ofGivenBy}
 use Rattle.estimators.specs.declared.Estimate.{Estimate}

@@ -1,27 +1,24 @@
 -- A power of two as two factors: multiplied by both, every number, NaN too, is scaled as by `pow2Scaled`. Assumes nothing.
-use mathlib.Core.Path.{_≡_, refl, sym, ap, _∙_, subst}
+use mathlib.Core.Path.{_≡_, ap, _∙_, subst}
 use mathlib.Core.Logic.{⊎-elim}
 use mathlib.Core.List.{List}
 use Prim.Native.Nat.{ℕ, _+_, _≤_, _<_}
 use native.Mathlib.Omega.{arith}
-use mathlib.Core.Bool.{true, false}
-use lib.Dec.{T, lit<}
-use lib.Signed.{ltZ}
-use lib.IntN.{ℤ, pos, negsuc, negℤ, natAbs, _+ℤ_, _-ℤ_}
+use mathlib.Core.Bool.{false}
+use lib.Dec.{T}
+use lib.IntN.{ℤ, pos, negℤ, natAbs, _+ℤ_, _-ℤ_}
 use lib.ListN.{length, getD, set, length-set}
 use lib.Seq.{getD-set-same, getD-set-other}
 use lib.Ieee.{Float, nan, fin, binary64, fits}
-use lib.Ieee.Digits.{size-le}
 use lib.Ieee.Fits.{mul-fits}
 use Rattle.leaves.specs.Numbers.{_⊗_, one}
 use Rattle.leaves.specs.Loops.{nth}
-use Rattle.leaves.specs.Inner.{cut}
 use Rattle.leaves.specs.Shift.{shift}
-use Rattle.leaves.specs.Scaling.{pow2, pow2Scaled}
-use Rattle.leaves.proofs.Whole.{over, under, one-side, plus, minus, same, lt-yes, lt-no, le-or-lt}
-use Rattle.leaves.proofs.Laws.{room→fits, mul-pow2}
+use Rattle.leaves.specs.Scaling.{pow2, pow2Scaled, cut}
+use Rattle.leaves.proofs.Whole.{over, under, one-side, plus, minus, same, le-or-lt}
+use Rattle.leaves.proofs.Laws.{mul-pow2}
 use Rattle.leaves.proofs.Shift.{shift-zero}
-use Rattle.leaves.proofs.Scale.{cut-range, scale-last, scaled-exact}
+use Rattle.leaves.proofs.Scale.{cut-range, pow2-fits, scale-last, scaled-exact}
 use Rattle.leaves.proofs.ScaleSteps.{scale-step}
 use Rattle.estimators.specs.Held.{maxExponent}
 use Rattle.estimators.specs.Powers.{Factored, Units}
@@ -31,9 +28,6 @@ use Rattle.estimators.proofs.Exponents.{size-is}
 
 cut-none : (k : ℤ) → over k ≤ 1023 → under k ≤ 1022 → cut k ≡ k
 cut-none k h l = same (cut k) k (omega (arith, cut-range k .top, cut-range k .bottom))
-
-power-fits : (k : ℤ) → over k ≤ 1023 → under k ≤ 1022 → T (fits binary64 (pow2 k))
-power-fits k h l = room→fits false 0 k (record { odd = refl; digits = omega (arith, size-le 1 1 (lit< tt)); low = omega arith; high = omega (arith, size-le 1 1 (lit< tt)) })
 
 from-zero : (k : ℤ) → pos 0 +ℤ k ≡ k
 unfolding over under
@@ -45,47 +39,32 @@ shift-one k = ap (fin false 1) (from-zero k)
 
 power : (k : ℤ) → over k ≤ 1023 → under k ≤ 1022 → pow2Scaled one k ≡ pow2 k
 unfolding over under
-power k h l = scaled-exact one k (power-fits (pos 0) (omega arith) (omega arith)) (rw (shift-one k) (power-fits k h l)) ∙ shift-one k
+power k h l = scaled-exact one k (pow2-fits (pos 0) (omega arith) (omega arith)) (rw (shift-one k) (pow2-fits k h (omega arith))) ∙ shift-one k
 
 -- ---- the factors
 
 times-one : (x : Float) → T (fits binary64 x) → x ⊗ one ≡ x
 times-one x t = mul-pow2 x (pos 0) t (rw (shift-zero x) t) ∙ shift-zero x
 
-module _ (k : ℤ) (size : natAbs k ≤ maxExponent) where
-  -- one that is a normal number
-  pub one-factor : (near : Float) → ltZ k (negsuc 1021) ≡ false → ltZ (pos 1023) k ≡ false → near ≡ pow2Scaled one k → Factored near one k
-  unfolding over under
-  one-factor near above below e x =
-      let h : over k ≤ 1023 = omega (arith, lt-no (pos 1023) k below, one-side k) in
-      let l : under k ≤ 1022 = omega (arith, lt-no k (negsuc 1021) above, one-side k) in
-      ap (λ (y : Float). x ⊗ y ⊗ one) (e ∙ power k h l) ∙ times-one (x ⊗ pow2 k) (mul-fits binary64 x (pow2 k)) ∙ scale-last x k (cut-none k h l)
+nothing-left : (k : ℤ) → k -ℤ k ≡ pos 0
+unfolding over under
+nothing-left k = same (k -ℤ k) (pos 0) (omega (arith, minus k k, one-side (k -ℤ k)))
 
-  -- the part of k that is cut off, and what is left
-  two-factors : (j : ℤ) (near far : Float) → cut k ≡ j → (j ≡ k → ⊥) → near ≡ pow2Scaled one j → far ≡ pow2Scaled one (k -ℤ j) → Factored near far k
-  two-factors j near far ej ne e e′ x =
-      let t = cut-range k .top in
-      let b = cut-range k .bottom in
-      let o = ap over ej in
-      let u = ap under ej in
-      let hj : over j ≤ 1023 = omega arith in
-      let lj : under j ≤ 1022 = omega arith in
-      let hk : over (k -ℤ j) ≤ 1023 = omega (arith, minus k j, one-side (k -ℤ j), one-side k, one-side j, size-is k) in
-      let lk : under (k -ℤ j) ≤ 1022 = omega (arith, minus k j, one-side (k -ℤ j), one-side k, one-side j, size-is k) in
-      (λ i. x ⊗ (e ∙ power j hj lj) i ⊗ (e′ ∙ power (k -ℤ j) hk lk) i)
-      ∙ scale-last (x ⊗ pow2 j) (k -ℤ j) (cut-none (k -ℤ j) hk lk)
-      ∙ ap (λ (j : ℤ). pow2Scaled (x ⊗ pow2 j) (k -ℤ j)) (sym ej)
-      ∙ scale-step x k (λ h. ne (sym ej ∙ h))
-
-  pub low-factors : (near far : Float) → ltZ k (negsuc 1021) ≡ true → near ≡ pow2Scaled one (negsuc 1021) → far ≡ pow2Scaled one (k +ℤ pos 1022) → Factored near far k
-  unfolding cut
-  low-factors near far test e e′ =
-      two-factors (negsuc 1021) near far (rw test) (λ h. absurd (omega (arith, lt-yes k (negsuc 1021) test, ap over h, ap under h))) e e′
-
-  pub high-factors : (near far : Float) → ltZ k (negsuc 1021) ≡ false → ltZ (pos 1023) k ≡ true → near ≡ pow2Scaled one (pos 1023) → far ≡ pow2Scaled one (k -ℤ pos 1023) → Factored near far k
-  unfolding cut
-  high-factors near far above test e e′ =
-      two-factors (pos 1023) near far (rw (above, test)) (λ h. absurd (omega (arith, lt-yes (pos 1023) k test, ap over h, ap under h))) e e′
+-- the part of k that is kept, and what is left of it
+pub factored : (k : ℤ) → natAbs k ≤ maxExponent → (near far : Float) → near ≡ pow2Scaled one (cut k) → far ≡ pow2Scaled one (k -ℤ cut k) → Factored near far k
+factored k size near far e e′ x =
+    let j = cut k in
+    let t = cut-range k .top in
+    let b = cut-range k .bottom in
+    let hj : over j ≤ 1023 = omega arith in
+    let lj : under j ≤ 1022 = omega arith in
+    let hk : over (k -ℤ j) ≤ 1023 = omega (arith, minus k j, one-side (k -ℤ j), one-side k, one-side j, size-is k) in
+    let lk : under (k -ℤ j) ≤ 1022 = omega (arith, minus k j, one-side (k -ℤ j), one-side k, one-side j, size-is k) in
+    (λ i. x ⊗ (e ∙ power j hj lj) i ⊗ (e′ ∙ power (k -ℤ j) hk lk) i)
+    ∙ ⊎-elim (λ l. whole (same j k (omega arith))) (λ l. scale-last (x ⊗ pow2 j) (k -ℤ j) (cut-none (k -ℤ j) hk lk) ∙ scale-step x k (λ h. absurd (omega (arith, ap over h, ap under h)))) (le-or-lt (over k + under k) (over j + under j))
+  where
+    whole : cut k ≡ k → x ⊗ pow2 (cut k) ⊗ pow2 (k -ℤ cut k) ≡ pow2Scaled x k
+    whole h = ap (λ (j : ℤ). x ⊗ pow2 j ⊗ pow2 (k -ℤ j)) h ∙ ap (λ (z : ℤ). x ⊗ pow2 k ⊗ pow2 z) (nothing-left k) ∙ times-one (x ⊗ pow2 k) (mul-fits binary64 x (pow2 k)) ∙ scale-last x k h
 
 -- ---- a list of factors, one column more
 

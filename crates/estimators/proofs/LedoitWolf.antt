@@ -1,27 +1,23 @@
 -- The intensity of Ledoit and Wolf, put together from the numbers that the code has. Assumes nothing.
-use mathlib.Core.Path.{_≡_, refl, _∙_}
-use mathlib.Core.Bool.{Bool, true, false, cond}
+use mathlib.Core.Path.{_≡_, _∙_}
 use mathlib.Core.List.{List}
 use Prim.Native.Nat.{ℕ}
-use lib.Ieee.{Float, lt}
-use Rattle.leaves.specs.Numbers.{_⊖_, _⊗_, _⊘_, count, zero⁺, clamp01}
+use lib.Ieee.{Float, nan}
+use Rattle.leaves.specs.Numbers.{_⊖_, _⊗_, _⊘_}
 use Rattle.leaves.specs.Loops.{tab, nth}
+use Rattle.leaves.proofs.Loops.{nth-tab}
 use Rattle.matrix.specs.Matrix.{Matrix, at, rows, trace, total, sumOver}
 use Rattle.estimators.specs.Sample.{volatility}
-use Rattle.estimators.specs.LedoitWolf.{apart, averageCorrelation, variation, covariation, targetVariation, error, distance, intensityOf}
+use Rattle.estimators.specs.LedoitWolf.{apart, averageCorrelation, variation, covariation, targetVariation, error, distance, intensityBy, intensityOf}
 use Rattle.estimators.specs.declared.Target.{Target}
 use Rattle.estimators.specs.declared.Target.the-variants.{ConstantVariance, ConstantCorrelation}
-use Rattle.estimators.proofs.Stored.{tab-nth, at-stored}
+use Rattle.estimators.proofs.Stored.{at-stored}
 use Rattle.estimators.proofs.Entries.{sum-over-ext, total-stored, trace-stored}
 
 -- δ, from the error and γ
-pub intensity-is : (F : Target) (T n : ℕ) (z s : Matrix) {γ e r : Float} → γ ≡ distance F n s → e ≡ error F T n z s → r ≡ cond (lt zero⁺ γ) (clamp01 (e ⊘ count T ⊘ γ)) zero⁺ → r ≡ intensityOf F T n z s
+pub intensity-is : (F : Target) (T n : ℕ) (z s : Matrix) {γ e r : Float} → γ ≡ distance F n s → e ≡ error F T n z s → r ≡ intensityBy e T γ → r ≡ intensityOf F T n z s
 unfolding intensityOf
-intensity-is F T n z s eγ ee er = er ∙ (λ t. cond (lt zero⁺ (eγ t)) (clamp01 (ee t ⊘ count T ⊘ eγ t)) zero⁺) ∙ pick (lt zero⁺ (distance F n s)) (clamp01 (error F T n z s ⊘ count T ⊘ distance F n s))
-  where
-    pick : (b : Bool) (x : Float) → cond b x zero⁺ ≡ (elim b [ true ↦ x | false ↦ zero⁺ ])
-    pick true x = refl
-    pick false x = refl
+intensity-is F T n z s eγ ee er = er ∙ (λ t. intensityBy (ee t) T (eγ t))
 
 module _ (T n : ℕ) (z s : Matrix) {π : List Float} (eπ : π ≡ rows n n (variation T z s)) {all : Float} (ea : all ≡ total n (at π n)) where
   pub variance-error : all ≡ error ConstantVariance T n z s
@@ -39,4 +35,4 @@ module _ (T n : ℕ) (z s : Matrix) {π : List Float} (eπ : π ≡ rows n n (va
       summed : sumOver n apart (λ i j. averageCorrelation n s ⊗ v j ⊘ v i ⊗ at θ n i j) (trace n (variation T z s)) ≡ targetVariation T n z s
       summed =
           sum-over-ext n apart (λ i j. averageCorrelation n s ⊗ v j ⊘ v i ⊗ at θ n i j) (λ i j. averageCorrelation n s ⊗ volatility s j ⊘ volatility s i ⊗ covariation T z s i j) (trace n (variation T z s))
-          (λ i j hi hj t. averageCorrelation n s ⊗ tab-nth (volatility s) n j hj t ⊘ tab-nth (volatility s) n i hi t ⊗ at-stored n (covariation T z s) eθ i j hi hj t)
+          (λ i j hi hj t. averageCorrelation n s ⊗ nth-tab n (volatility s) j nan hj t ⊘ nth-tab n (volatility s) i nan hi t ⊗ at-stored n (covariation T z s) eθ i j hi hj t)

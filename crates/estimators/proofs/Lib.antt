@@ -6,6 +6,7 @@ pub mod Passes
 pub mod Mirror
 pub mod Halves
 pub mod Firsts
+pub mod Shapes
 pub mod Opened
 pub mod Estimated
 pub mod LedoitWolfCall

@@ -25,8 +25,7 @@ use Rattle.estimators.specs.Moments.{Moments, moments}
 use Rattle.estimators.specs.Shrinking.{Shrinking, shrunkBy}
 use Rattle.estimators.specs.JamesStein.{jamesStein}
 use Rattle.estimators.specs.BayesStein.{gathered, exponentsOf, largestIn, correlations, bayesStein}
-use Rattle.estimators.specs.Order.{sweepLimit, badHalfLife, weightedOrder, jamesSteinOrder, bayesSteinOrder, byReturns, byCorrelations, byDecomposition}
-use Rattle.estimators.specs.Opening.{Shaped}
+use Rattle.estimators.specs.Order.{sweepLimit, badHalfLife, weightedOrder, jamesSteinOrder, bayesSteinOrder, byReturns, byCorrelations, byDecomposition, Shaped}
 use Rattle.estimators.specs.Calls.{answered, settle, exponentiallyWeightedMean, jamesSteinMean, bayesSteinMean}
 use Rattle.estimators.specs.Stein.{jamesSteinOf, bayesSteinOf, bayesSteinFrom}
 use Rattle.estimators.specs.declared.Refusal.{Refusal}

@@ -1,45 +1,23 @@
--- Laws of the calls' opening, 1 to 6: what holds where shapes and lengths pass, and what a call answers, by the answers that the code has of its
--- checks. A call looks only at as much of the answer slice as its answer fills. Assumes nothing.
+-- Laws of the calls' opening, 1 to 6: what a call answers, by the answers that the code has of its checks. A call looks only at as much of the answer
+-- slice as its answer fills. Assumes nothing.
 use mathlib.Core.Path.{_≡_, sym, ap, _∙_}
-use mathlib.Core.Bool.{not, _||_}
-use mathlib.Mathlib.Data.Bool.Basic.{or-eq-false-eq-eq-false-and-eq-false}
-use mathlib.Core.List.{List, [], _∷_, _++_, append-nil}
-use Prim.Native.Nat.{ℕ, _*_, _≤_}
+use mathlib.Core.List.{List, [], _∷_, _++_}
+use Prim.Native.Nat.{ℕ, _≤_}
 use native.Mathlib.Omega.{arith}
-use borrow.Author.Tests.{eq-eqb, ne-eqb, le-ltb, eqb-true, eqb-false, ltb-false, not-false}
-use lib.Dec.{eqb, ltb}
-use lib.ListN.{length, take, drop, take-append-drop, drop-of-length-le}
+use lib.ListN.{length, take, drop, take-append-drop}
 use lib.Seq.{length-take-le}
 use lib.Ieee.{Float}
 use Rattle.leaves.specs.Loops.{tab, fill}
-use Rattle.matrix.specs.Limits.{maxSide}
+use Rattle.leaves.proofs.Loops.{fill-whole}
 use Rattle.matrix.specs.Matrix.{at}
 use Rattle.estimators.specs.Refusals.{Check, passes, refuses, first}
-use Rattle.estimators.specs.Order.{maxPeriods, opening, notFinite, byShape, byReturns}
-use Rattle.estimators.specs.Opening.{Shaped}
+use Rattle.estimators.specs.Order.{opening, byShape, byReturns, Shaped}
 use Rattle.estimators.specs.Calls.{Answered, answered, settle}
 use Rattle.estimators.specs.declared.Refusal.{Refusal}
 use Rattle.estimators.specs.declared.Answer.{Answer}
 use Rattle.estimators.specs.declared.Answer.the-variants.{Refused}
-use Rattle.estimators.proofs.Firsts.{first-passes, first-then, first-with}
-
-pub shape-passes : (l n T m room : ℕ) {k : Check} → k ≡ passes → k ≡ first (byShape l n T m room) → Shaped l n T × (m ≤ room)
-shape-passes l n T m room pass e =
-    let a = first-passes (eqb n 0) _ _ (sym e ∙ pass) in
-    let b = first-passes (ltb maxSide n || ltb maxPeriods T) _ _ (a .1) in
-    let c = first-passes (ltb T 2) _ _ (b .1) in
-    let d = first-passes (not (eqb l (T * n)) || ltb room m) _ _ (c .1) in
-    let large = or-eq-false-eq-eq-false-and-eq-false _ _ .0 (b .0) in
-    let long = or-eq-false-eq-eq-false-and-eq-false _ _ .0 (d .0) in
-    let some = eqb-false n 0 (a .0) in
-    ((omega (arith, some), ltb-false _ _ (large .0), ltb-false _ _ (c .0), ltb-false _ _ (large .1), eqb-true _ _ (not-false _ (long .0))), ltb-false _ _ (long .1))
-
--- where shapes and lengths pass, the returns are looked at next
-pub opened : (r : List Float) (n T m : ℕ) (slice : List Float) (rest : List Check) → Shaped (length r) n T → m ≤ length slice
-    → first (opening r n T m slice ++ rest) ≡ first (byReturns T n (at r n) ++ rest)
-unfolding first opening notFinite
-opened r n T m slice rest (some, small, two, few, long) fits =
-    rw (opening, ne-eqb n 0 (λ e. omega (arith, some, e)), le-ltb maxSide n small, le-ltb maxPeriods T few, le-ltb T 2 two, eq-eqb (length r) (T * n) long, le-ltb (length slice) m fits)
+use Rattle.estimators.proofs.Shapes.{opened}
+use Rattle.estimators.proofs.Firsts.{first-then, first-with}
 
 -- ---- by the first check that refuses
 
@@ -54,17 +32,13 @@ module _ (slice : List Float) (accepted : Answered) {k : Check} where
 
 -- ---- the answer of m numbers, in a slice of just as many, and in a longer one
 
-pub fill-all : (m : ℕ) (f : ℕ → Float) (s : List Float) → length s ≤ m → fill m f s ≡ tab m f
-unfolding fill
-fill-all m f s h = ap (λ (r : List Float). tab m f ++ r) (drop-of-length-le s {i = m} h) ∙ append-nil (tab m f)
-
 settle-part : (k : Check) (a b : Answer) (m : ℕ) (f : ℕ → Float) (slice p : List Float) → m ≤ length slice
     → answered b p ≡ settle k (take m slice) (answered a (fill m f (take m slice))) → answered b (p ++ drop m slice) ≡ settle k slice (answered a (fill m f slice))
 unfolding settle fill
 settle-part passes a b m f slice p fits e =
     let long = length-take-le m slice fits in
     ap (λ (x : Answered). answered (x .answer) (x .slice ++ drop m slice)) e
-    ∙ ap (λ (l : List Float). answered a (l ++ drop m slice)) (fill-all m f (take m slice) (omega (arith, long)))
+    ∙ ap (λ (l : List Float). answered a (l ++ drop m slice)) (fill-whole f m (take m slice) (omega (arith, long)))
 settle-part (refuses c) a b m f slice p fits e =
     ap (λ (x : Answered). answered (x .answer) (x .slice ++ drop m slice)) e ∙ ap (answered (Refused c)) (take-append-drop m slice)
 
@@ -89,7 +63,7 @@ module _ (r : List Float) (n T m : ℕ) (slice : List Float) (rest : List Check)
   pub shaped : {k : Check} → Shaped (length r) n T → length slice ≡ m → k ≡ first (byReturns T n (at r n) ++ rest) → settle k slice (answered a (tab m f)) ≡ answerOf slice
   shaped {k} shape long e =
       ap (λ (k : Check). settle k slice (answered a (tab m f))) (e ∙ sym (opened r n T m slice rest shape (omega (arith, long))))
-      ∙ ap (λ (l : List Float). settle (first (opening r n T m slice ++ rest)) slice (answered a l)) (sym (fill-all m f slice (omega (arith, long))))
+      ∙ ap (λ (l : List Float). settle (first (opening r n T m slice ++ rest)) slice (answered a l)) (sym (fill-whole f m slice (omega (arith, long))))
 
 -- ---- after the shape: the checks of the returns and of one setting, as the code joins them, then `rest`
 

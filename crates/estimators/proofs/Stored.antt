@@ -26,9 +26,6 @@ getD-stored {A} n f d e k h = ap (λ (l : List A). getD l k d) e ∙ nth-tab n f
 pub nth-stored : (n : ℕ) (f : ℕ → Float) {l : List Float} → l ≡ tab n f → (k : ℕ) → k < n → nth l k ≡ f k
 nth-stored n f e k h = getD-stored n f nan e k h
 
-pub tab-nth : (f : ℕ → Float) (n k : ℕ) → k < n → nth (tab n f) k ≡ f k
-tab-nth f n k h = nth-tab n f k nan h
-
 -- a list made of a list, number by number
 pub tab-then : (l : List Float) (n : ℕ) (f : ℕ → Float) (g : ℕ → Float → Float) → l ≡ tab n f → tab n (λ k. g k (nth l k)) ≡ tab n (λ k. g k (f k))
 tab-then l n f g e = tab-ext (λ k. g k (nth l k)) (λ k. g k (f k)) n (λ k b. ap (g k) (nth-stored n f e k b))

@@ -37,9 +37,12 @@ target ConstantCorrelation n s i j = constantCorrelation n s i j
 
 -- ---- the intensity, from T periods of centered returns z with the second moments s
 
+abbrev pub distance² : Float → Float → Float
+distance² x y = (x ⊖ y) ⊗ (x ⊖ y)
+
 -- π ᵢⱼ, the variance of √T sᵢⱼ
 unfoldable pub variation : ℕ → Matrix → Matrix → Matrix
-variation T z s i j = sumTo T (λ t. let d = z t i ⊗ z t j ⊖ s i j in d ⊗ d) ⊘ count T
+variation T z s i j = sumTo T (λ t. distance² (z t i ⊗ z t j) (s i j)) ⊘ count T
 
 -- θ ᵢⱼ, the covariance of √T sᵢᵢ and √T sᵢⱼ
 unfoldable pub covariation : ℕ → Matrix → Matrix → Matrix
@@ -60,11 +63,12 @@ error ConstantCorrelation T n z s = total n (variation T z s) ⊖ targetVariatio
 unfoldable pub distance : Target → ℕ → Matrix → Float
 distance F n s = squares n (λ i j. s i j ⊖ target F n s i j)
 
--- δ
+-- δ, by the error and γ: 0 where there is no distance to go
+unfoldable pub intensityBy : Float → ℕ → Float → Float
+intensityBy error T γ = elim (lt zero⁺ γ) [ true ↦ clamp01 (error ⊘ count T ⊘ γ) | false ↦ zero⁺ ]
+
 unfoldable pub intensityOf : Target → ℕ → ℕ → Matrix → Matrix → Float
-intensityOf F T n z s =
-    let γ = distance F n s in
-    elim (lt zero⁺ γ) [ true ↦ clamp01 (error F T n z s ⊘ count T ⊘ γ) | false ↦ zero⁺ ]
+intensityOf F T n z s = intensityBy (error F T n z s) T (distance F n s)
 
 -- s, stored by rows
 abbrev pub secondMoments : ℕ → ℕ → Matrix → List Float

@@ -7,6 +7,7 @@ pub mod Weighted
 pub mod Semi
 pub mod Given
 pub mod LedoitWolf
+pub mod Settings
 pub mod Adjusted
 pub mod Moments
 pub mod Held

@@ -1,8 +1,5 @@
--- Document 01, "Causes", the beginning of the paragraph "Order": the room that an answer needs, and the shapes that are let pass. Definitions only.
-use mathlib.Core.Path.{_≡_}
-use Prim.Native.Nat.{ℕ, _*_, _<_, _≤_}
-use Rattle.matrix.specs.Limits.{maxSide}
-use Rattle.estimators.specs.Order.{maxPeriods}
+-- Document 01, "Causes", number 4: the room that an answer needs. What only the contracts of this crate's inner functions cite. Definitions only.
+use Prim.Native.Nat.{ℕ, _*_}
 use Rattle.estimators.specs.declared.opening.Filled.{Filled}
 use Rattle.estimators.specs.declared.opening.Filled.the-variants.{Table, Vector, Nothing}
 
@@ -11,7 +8,3 @@ abbrev pub needed : Filled → ℕ → ℕ
 needed Table n = n * n
 needed Vector n = n
 needed Nothing n = 0
-
--- what `byShape` lets pass, but for the answer's room
-abbrev pub Shaped : ℕ → ℕ → ℕ → Type 0
-Shaped length n T = (0 < n) × (n ≤ maxSide) × (2 ≤ T) × (T ≤ maxPeriods) × (length ≡ T * n)

@@ -1,5 +1,6 @@
 -- Document 01, "Causes", the paragraph "Order": which refusals a call looks for, in their order. Definitions only.
-use Prim.Native.Nat.{ℕ, _*_}
+use Prim.Native.Nat.{ℕ, _*_, _<_, _≤_}
+use mathlib.Core.Path.{_≡_}
 use mathlib.Core.Bool.{Bool, true, false, not, _&&_, _||_}
 use mathlib.Core.List.{List, [], _∷_, _++_}
 use lib.Dec.{eqb, ltb}
@@ -8,12 +9,12 @@ use lib.Ieee.{Float, le, eq}
 use Rattle.leaves.specs.Numbers.{_⊗_, zero⁺, one, isFinite}
 use Rattle.leaves.specs.Loops.{firstTo}
 use Rattle.matrix.specs.Limits.{maxSide, maxSweeps}
-use Rattle.matrix.specs.Matrix.{Matrix, at, amax, trace, averaged, firstEntry, allFinite}
-use Rattle.matrix.specs.Jacobi.{Decomposition}
+use Rattle.matrix.specs.Matrix.{Matrix, at, amax, trace, averaged, firstNotFinite, allFinite}
+use Rattle.matrix.specs.Jacobi.{Decomposition, smallestValue}
 use Rattle.estimators.specs.Refusals.{Check, passes, when, whenSome}
 use Rattle.estimators.specs.Sample.{covariance, largest, constantAsset}
 use Rattle.estimators.specs.Weighted.{logDecay, accepted}
-use Rattle.estimators.specs.Given.{asymmetry, smallest, indefinite}
+use Rattle.estimators.specs.Given.{asymmetry, indefinite}
 use Rattle.estimators.specs.BayesStein.{singular}
 use Rattle.estimators.specs.Adjusted.{isSample, isGiven, isAdjusted}
 use Rattle.estimators.specs.declared.Estimate.{Estimate}
@@ -34,7 +35,7 @@ maxPeriods = 4096
 
 -- 5, at the first row and column
 unfoldable pub notFinite : ℕ → ℕ → Matrix → Check
-notFinite m n a = whenSome (firstEntry m n (λ i j. not (isFinite (a i j)))) (λ p. NotFinite (p .0) (p .1))
+notFinite m n a = whenSome (firstNotFinite m n a) (λ p. NotFinite (p .0) (p .1))
 
 -- 1 to 4, by the lengths of the two slices
 abbrev pub byShape : ℕ → ℕ → ℕ → ℕ → ℕ → List Check
@@ -44,6 +45,10 @@ byShape length n T needed room =
     when (ltb T 2) (TooFewPeriods T) ∷
     when (not (eqb length (T * n)) || ltb room needed) WrongLength ∷
     []
+
+-- what `byShape` lets pass, but for the answer's room
+abbrev pub Shaped : ℕ → ℕ → ℕ → Type 0
+Shaped length n T = (0 < n) × (n ≤ maxSide) × (2 ≤ T) × (T ≤ maxPeriods) × (length ≡ T * n)
 
 -- 5, sample 6
 abbrev pub byReturns : ℕ → ℕ → Matrix → List Check
@@ -67,7 +72,7 @@ byEntries n g = notFinite n n g ∷ whenSome (asymmetry n g) (λ p. Asymmetric (
 
 -- 13, 12, by the decomposition d of the averaged matrix a
 abbrev pub byValues : ℕ → Matrix → Decomposition → List Check
-byValues n a d = when (not (d .found)) NotDecomposed ∷ when (indefinite n d) (Indefinite (smallest n d ⊗ amax n n a)) ∷ []
+byValues n a d = when (not (d .found)) NotDecomposed ∷ when (indefinite n d) (Indefinite (smallestValue n d ⊗ amax n n a)) ∷ []
 
 abbrev pub byNumbers : ℕ → Matrix → Decomposition → List Check
 byNumbers n g d = byEntries n g ++ byValues n (averaged g) d

@@ -9,6 +9,7 @@ use lib.Ieee.{Float}
 use Rattle.leaves.specs.Numbers.{_⊕_, _⊖_, _⊗_, min0}
 use Rattle.leaves.specs.Loops.{nth}
 use Rattle.matrix.specs.Matrix.{Matrix, at}
+use Rattle.estimators.specs.LedoitWolf.{distance²}
 use Rattle.estimators.specs.declared.rows.Row.{Row}
 use Rattle.estimators.specs.declared.rows.Row.the-variants.{Plain, Times, Deviation, Shortfall, Weighted, Scaled}
 use Rattle.estimators.specs.declared.tables.Term.{Term}
@@ -42,9 +43,6 @@ unfoldable pub factor : Term → Matrix → (ℕ → Float) → ℕ → Float
 factor Product s y i = y i
 factor Square s y i = y i
 factor Cube s y i = (y i ⊗ y i ⊖ s i i) ⊗ y i
-
-abbrev pub distance² : Float → Float → Float
-distance² x s = (x ⊖ s) ⊗ (x ⊖ s)
 
 unfoldable pub joined : Term → Float → Float → Float → Float
 joined Product a x s = a ⊗ x

@@ -1,17 +1,14 @@
 // The shrinkage intensity of Ledoit and Wolf: from the second moments s of the centered returns and the tables of π and θ, all n × n, and
 // from the returns (covariance.rs, `ledoit_wolf`).
 ghost use mathlib.Core.Path.{_≡_};
-ghost use mathlib.Core.Bool.{cond};
 ghost use Prim.Native.Nat.{ℕ, _*_, _≤_, _<_};
 ghost use lib.IntN.{natAbs};
 ghost use lib.ListN.{length};
-ghost use lib.Ieee.{lt};
-ghost use Rattle.leaves.specs.Numbers.{_⊖_, _⊗_, _⊘_, count, zero⁺, clamp01};
+ghost use Rattle.leaves.specs.Numbers.{_⊖_, _⊗_, _⊘_};
 ghost use Rattle.leaves.specs.Loops.{tab, nth};
 ghost use Rattle.leaves.specs.Scaling.{binaryExponent};
 ghost use Rattle.matrix.specs.Limits.{maxSide};
-ghost use Rattle.matrix.specs.Matrix.{Matrix, at, rows, trace, amax, sumOver, squares, Symmetric};
-ghost use Rattle.matrix.specs.Inner.{sumRow};
+ghost use Rattle.matrix.specs.Matrix.{Matrix, at, rows, trace, amax, sumOver, squares, Symmetric, sumRow};
 ghost use Rattle.estimators.specs.Held.{maxExponent};
 ghost use Rattle.estimators.specs.Sample as Sample;
 ghost use Rattle.estimators.specs.LedoitWolf as LedoitWolf;
@@ -67,7 +64,7 @@ fn target_variation(r: f64, sd: &[f64], pi: &[f64], theta: &[f64], n: usize) -> 
 
 // δ, in [0, 1], from the estimation error and γ.
 fn intensity(error: f64, periods: usize, distance: f64) -> f64
-    ensures { λ r. ⌜ r ≡ cond (lt zero⁺ distance) (clamp01 (error ⊘ count periods ⊘ distance)) zero⁺ ⌝ }
+    ensures { λ r. ⌜ r ≡ LedoitWolf.intensityBy error periods distance ⌝ }
 {
     if 0.0 < distance {
         let t = std::num::nearest_u64_to_f64(periods as u64);

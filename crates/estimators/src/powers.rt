@@ -6,6 +6,7 @@ ghost use lib.ListN.{length};
 ghost use Rattle.estimators.specs.Held.{maxExponent};
 ghost use Rattle.estimators.specs.Gather.{Exponents};
 ghost use Rattle.estimators.specs.Powers.{Factored, Units};
+use leaves::scaling::cut;
 use leaves::scaling::pow2_scaled;
 
 pub(crate) struct Power {
@@ -18,21 +19,10 @@ pub(crate) fn factors(k: i32) -> Power
     requires { ⌜ natAbs k ≤ maxExponent ⌝ }
     ensures { λ r. ⌜ Factored (r .near) (r .far) k ⌝ }
 {
-    if k < -1022 {
-        return Power {
-            near: pow2_scaled(1.0, -1022),
-            far: pow2_scaled(1.0, k + 1022),
-        };
-    }
-    if k > 1023 {
-        return Power {
-            near: pow2_scaled(1.0, 1023),
-            far: pow2_scaled(1.0, k - 1023),
-        };
-    }
+    let step = cut(k);
     Power {
-        near: pow2_scaled(1.0, k),
-        far: 1.0,
+        near: pow2_scaled(1.0, step),
+        far: pow2_scaled(1.0, k - step),
     }
 }
 

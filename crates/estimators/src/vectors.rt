@@ -4,7 +4,7 @@ ghost use Prim.Native.Nat.{ℕ, _+_, _≤_};
 ghost use lib.ListN.{length};
 ghost use Rattle.leaves.specs.Numbers.{_⊕_, _⊖_, _⊗_, _⊘_, abs, larger};
 ghost use Rattle.leaves.specs.Loops.{tab, nth};
-ghost use Rattle.estimators.specs.Rows.{distance²};
+ghost use Rattle.estimators.specs.LedoitWolf.{distance²};
 
 pub(crate) fn fill(x: f64, out: &mut [f64])
     ensures { λ _. ⌜ now (out .exit) ≡ tab (length (now (out .entry))) (λ (k : ℕ). x) ⌝ }

@@ -4,6 +4,6 @@ fn main() {
     let mut paper = io::large_buffer();
     let n = io::read_full(libc::STDIN_FILENO, &mut paper);
     let mut text = [0u8; paper::TEXT];
-    let k = paper::mark(&paper[..n], &mut text);
+    let k = paper::mark_whole(&paper[..n], &mut text);
     io::write_all(libc::STDOUT_FILENO, &text[..k]);
 }

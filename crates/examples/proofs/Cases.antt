@@ -9,6 +9,8 @@ use Rattle.leaves.specs.Numbers.{count, zero⁺, half, one, two}
 use Rattle.leaves.specs.Scaling.{binaryExponent, pow2, pow2Scaled}
 use Rattle.leaves.specs.Root.{sqrt}
 use Rattle.examples.proofs.Evaluated.{evaluated}
+use Rattle.matrix.specs.Limits.{maxSweeps}
+use Rattle.estimators.specs.Settings.{settings}
 use Rattle.estimators.specs.Refusals.{passes, refuses}
 use Rattle.estimators.specs.Weighted.{logDecay, weights}
 use Rattle.estimators.specs.Order.{badHalfLife}
@@ -34,12 +36,12 @@ blank = zero⁺ ∷ zero⁺ ∷ zero⁺ ∷ zero⁺ ∷ []
 
 abbrev two-assets : List Float → Shrinkage → Regularization → Answered
 two-assets r shrinkage regularization =
-    adjustedCovariance r 2 2 (record { estimate = Sample; shrinkage = shrinkage; regularization = regularization; limit = 100 }) [] 0 blank
+    adjustedCovariance r 2 2 (settings Sample shrinkage regularization maxSweeps) [] 0 blank
 
 -- one asset, returns 1, 3, and a given variance
 abbrev one-asset : Float → Regularization → ℕ → Answered
 one-asset g regularization limit =
-    adjustedCovariance (one ∷ count 3 ∷ []) 1 2 (record { estimate = Given; shrinkage = Unshrunk; regularization = regularization; limit = limit }) (g ∷ []) 1 (zero⁺ ∷ [])
+    adjustedCovariance (one ∷ count 3 ∷ []) 1 2 (settings Given Unshrunk regularization limit) (g ∷ []) 1 (zero⁺ ∷ [])
 
 abbrev plain : Float → Float → Float → Float → Answered
 plain a b c d = answered (Covariance zero⁺ 0 0) (a ∷ b ∷ c ∷ d ∷ [])
@@ -54,7 +56,7 @@ pub record TwelveCases : Type 0 where
   pub case-7 : two-assets rows Unshrunk (Ridge one) ≡ plain (count 3) (count 4) (count 4) (count 9)
   pub case-8 : two-assets rows (Fixed half) Unregularized ≡ answered (Covariance half 0 0) (fin false 7 (negsuc 0) ∷ two ∷ two ∷ fin false 13 (negsuc 0) ∷ [])
   pub case-9 : (two-assets equal Unshrunk Unregularized ≡ answered (Refused (ZeroVariance 0)) blank) × (two-assets equal Unshrunk (Ridge zero⁺) ≡ answered (Refused (ZeroVariance 0)) blank) × (two-assets equal (Fixed half) Unregularized ≡ answered (Refused Singular) blank)
-  pub case-10 : (one-asset (neg one) Unregularized 100 ≡ answered (Refused (Indefinite (neg one))) (zero⁺ ∷ [])) × (one-asset zero⁺ Unregularized 100 ≡ answered (Refused (ZeroVariance 0)) (zero⁺ ∷ [])) × (one-asset zero⁺ (Ridge one) 100 ≡ answered (Covariance zero⁺ 0 0) (one ∷ []))
+  pub case-10 : (one-asset (neg one) Unregularized maxSweeps ≡ answered (Refused (Indefinite (neg one))) (zero⁺ ∷ [])) × (one-asset zero⁺ Unregularized maxSweeps ≡ answered (Refused (ZeroVariance 0)) (zero⁺ ∷ [])) × (one-asset zero⁺ (Ridge one) maxSweeps ≡ answered (Covariance zero⁺ 0 0) (one ∷ []))
   pub case-11 : (one-asset one Unregularized 0 ≡ answered (Refused NotDecomposed) (zero⁺ ∷ [])) × (one-asset one Unregularized 1 ≡ answered (Covariance zero⁺ 0 0) (one ∷ []))
   pub case-12 : jamesSteinMean (one ∷ count 3 ∷ []) 1 2 100 (zero⁺ ∷ []) ≡ answered (Shrunk zero⁺ two 0 0) (two ∷ [])
 

@@ -1,7 +1,6 @@
 -- What a computed case unfolds: a declaration that says `unfolding evaluated` unfolds every definition named here.
 use Prim.Native.Nat.{ℕ}
-use mathlib.Core.List.{List, map}
-use lib.Ieee.{Float, binary64, add, sub, mul, div, neg, lt, le, eq, ne, isNan, fits, ofInt, ofBits, size, round}
+use lib.Ieee.{add, sub, mul, div, neg, lt, le, eq, ne, isNan, fits, ofInt, ofBits, size, round}
 use Rattle.leaves.specs.Numbers.{isFinite, abs, signum, clamp01, max0, min0, larger, smaller}
 use Rattle.leaves.specs.Loops.{loop, sumTo, amaxTo, maxTo, minTo, firstTo, tab, fill}
 use Rattle.leaves.specs.Scaling.{binaryExponent, times, pow2Scaled}
@@ -16,7 +15,7 @@ use Rattle.estimators.specs.Sample.{mean, deviation, gram, covariance, largest,
 use Rattle.estimators.specs.Weighted.{logDecay, accepted, weights, weightedMean, denominator, weightedCovariance}
 use Rattle.estimators.specs.Semi.{shortfall, semicovariance, semicovarianceBelow}
 use Rattle.estimators.specs.Given.{asymmetry, decomposeGiven, indefinite}
-use Rattle.estimators.specs.LedoitWolf.{averageVariance, averageCorrelation, constantCorrelation, target, variation, covariation, targetVariation, error, distance, intensityOf, ledoitWolf}
+use Rattle.estimators.specs.LedoitWolf.{averageVariance, averageCorrelation, constantCorrelation, target, variation, covariation, targetVariation, error, distance, intensityBy, intensityOf, ledoitWolf}
 use Rattle.estimators.specs.Adjusted.{decompositionOf, base, intensity, pull, mixed, shrunk, regularized, adjusted, isAdjusted}
 use Rattle.estimators.specs.Moments.{moments}
 use Rattle.estimators.specs.JamesStein.{grandMean, unevenness, decomposeUneven, spread, jamesSteinIntensity, towards}
@@ -25,5 +24,5 @@ use Rattle.estimators.specs.Order.{notFinite, opening, sweepLimit, ofGiven, bad
 use Rattle.estimators.specs.Calls.{settle, adjustedCovariance, ledoitWolfIntensity, exponentiallyWeightedMean, jamesSteinMean, bayesSteinMean}
 
 unfoldable pub evaluated : ℕ
-unfolding add sub mul div neg lt le eq ne isNan fits ofInt ofBits size round isFinite abs signum clamp01 max0 min0 larger smaller loop sumTo amaxTo maxTo minTo firstTo tab fill binaryExponent times pow2Scaled root sticky halfExponent radicand shift sqrt floor horner nearestPower reduced exp expM1 rows trace amax sumOver total squares firstEntry allFinite tangent turn turnColumns turnRows rotated rotateBy rotate sweep afterSweeps offDiagonal test sweeping start swept scaledBack unturned decompose first mean deviation gram covariance largest constantAsset scaled logDecay accepted weights weightedMean denominator weightedCovariance shortfall semicovariance semicovarianceBelow asymmetry decomposeGiven indefinite averageVariance averageCorrelation constantCorrelation target variation covariation targetVariation error distance intensityOf ledoitWolf decompositionOf base intensity pull mixed shrunk regularized adjusted isAdjusted moments grandMean unevenness decomposeUneven spread jamesSteinIntensity towards singular commonExponent gathered project form bayesSteinPull pulled notFinite opening sweepLimit ofGiven badRegularization badShrinkage badHalfLife badEstimate notTheSample noCorrelation noVariance ofSettings adjustedOrder ledoitWolfOrder weightedOrder jamesSteinOrder bayesSteinOrder settle adjustedCovariance ledoitWolfIntensity exponentiallyWeightedMean jamesSteinMean bayesSteinMean
+unfolding add sub mul div neg lt le eq ne isNan fits ofInt ofBits size round isFinite abs signum clamp01 max0 min0 larger smaller loop sumTo amaxTo maxTo minTo firstTo tab fill binaryExponent times pow2Scaled root sticky halfExponent radicand shift sqrt floor horner nearestPower reduced exp expM1 rows trace amax sumOver total squares firstEntry allFinite tangent turn turnColumns turnRows rotated rotateBy rotate sweep afterSweeps offDiagonal test sweeping start swept scaledBack unturned decompose first mean deviation gram covariance largest constantAsset scaled logDecay accepted weights weightedMean denominator weightedCovariance shortfall semicovariance semicovarianceBelow asymmetry decomposeGiven indefinite averageVariance averageCorrelation constantCorrelation target variation covariation targetVariation error distance intensityBy intensityOf ledoitWolf decompositionOf base intensity pull mixed shrunk regularized adjusted isAdjusted moments grandMean unevenness decomposeUneven spread jamesSteinIntensity towards singular commonExponent gathered project form bayesSteinPull pulled notFinite opening sweepLimit ofGiven badRegularization badShrinkage badHalfLife badEstimate notTheSample noCorrelation noVariance ofSettings adjustedOrder ledoitWolfOrder weightedOrder jamesSteinOrder bayesSteinOrder settle adjustedCovariance ledoitWolfIntensity exponentiallyWeightedMean jamesSteinMean bayesSteinMean
 evaluated = 0

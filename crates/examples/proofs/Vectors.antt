@@ -3,31 +3,22 @@
 use Prim.Native.Nat.{ℕ}
 use mathlib.Core.Path.{_≡_, refl}
 use mathlib.Core.List.{List, [], _∷_, map}
-use lib.Ieee.{Float, binary64, ofBits}
+use lib.Ieee.{Float}
+use Rattle.leaves.specs.Numbers.{float as f}
 use Rattle.examples.proofs.Evaluated.{evaluated}
+use Rattle.estimators.specs.Settings.{settings}
 use Rattle.estimators.specs.Calls.{answered, adjustedCovariance, ledoitWolfIntensity, exponentiallyWeightedMean, jamesSteinMean, bayesSteinMean}
-use Rattle.estimators.specs.declared.Settings.{Settings}
-use Rattle.estimators.specs.declared.Estimate.{Estimate}
 use Rattle.estimators.specs.declared.Estimate.the-variants.{Sample, Given, Weighted, Semi, SemiBelow}
-use Rattle.estimators.specs.declared.Shrinkage.{Shrinkage}
 use Rattle.estimators.specs.declared.Shrinkage.the-variants.{Unshrunk, Fixed, LedoitWolf}
 use Rattle.estimators.specs.declared.Target.the-variants.{ConstantVariance, ConstantCorrelation}
-use Rattle.estimators.specs.declared.Regularization.{Regularization}
 use Rattle.estimators.specs.declared.Regularization.the-variants.{Unregularized, Ridge}
 use Rattle.estimators.specs.declared.Field.the-variants.{RegularizationField, ShrinkageField, HalfLifeField, ThresholdField, SweepLimitField}
 use Rattle.estimators.specs.declared.Refusal.the-variants.{NoAssets, TooLarge, TooFewPeriods, WrongLength, NotFinite, CovarianceNotFinite, BadSetting, NotTheSample, ZeroVariance, WrongSide, Asymmetric, Indefinite, NotDecomposed, Singular}
 use Rattle.estimators.specs.declared.Answer.the-variants.{Refused, Covariance, Intensity, Mean, Shrunk}
 
 -- numbers by their bits
-abbrev f : ℕ → Float
-f bits = ofBits binary64 bits
-
 abbrev fs : List ℕ → List Float
 fs bits = map f bits
-
-abbrev settings : Estimate → Shrinkage → Regularization → ℕ → Settings
-settings estimate shrinkage regularization limit =
-    record { estimate = estimate; shrinkage = shrinkage; regularization = regularization; limit = limit }
 
 -- the sample covariance of two assets
 v01 : adjustedCovariance (fs (0x3F847AE147AE147B ∷ 0xBF947AE147AE147B ∷ 0xBF70624DD2F1A9FC ∷ 0x3F8EB851EB851EB8 ∷ 0x3F7CAC083126E979 ∷ 0x3F689374BC6A7EFA ∷ [])) 2 3 (settings Sample Unshrunk Unregularized 100) (fs ([])) 0 (fs (0x401E000000000000 ∷ 0x401E000000000000 ∷ 0x401E000000000000 ∷ 0x401E000000000000 ∷ 0x401E000000000000 ∷ [])) ≡ answered (Covariance (f 0x0000000000000000) 0 0) (fs (0x3F0C7C7F1E34E604 ∷ 0xBF1E30B444876024 ∷ 0xBF1E30B444876024 ∷ 0x3F34BB315240CDDE ∷ 0x401E000000000000 ∷ []))

@@ -29,11 +29,12 @@ use Rattle.matrix.proofs.Stored.{entry-at, rows-at, by-cell}
 use Rattle.matrix.proofs.Alike.{finite-same, finite-all}
 use Rattle.estimators.specs.Refusals.{Check, passes, when, first}
 use Rattle.estimators.specs.Sample.{covariance, largest, constantAsset}
-use Rattle.estimators.specs.LedoitWolf.{constantCorrelation, intensityOf, ledoitWolf}
+use Rattle.estimators.specs.LedoitWolf.{constantCorrelation, intensityBy, intensityOf, ledoitWolf}
 use Rattle.estimators.specs.Adjusted.{isSample, isGiven, decompositionOf, base, intensity, shrunk, regularized, isAdjusted}
 use Rattle.estimators.specs.Adjusted as Spec
 use Rattle.estimators.specs.Order.{opening, badRegularization, badShrinkage, badEstimate, notTheSample, noCorrelation, noVariance, ofSettings, ledoitWolfOrder, adjustedOrder}
 use Rattle.estimators.specs.Calls.{answered, settle, ledoitWolfIntensity, adjustedCovariance}
+use Rattle.estimators.specs.Settings.{settings}
 use Rattle.estimators.specs.declared.Estimate.{Estimate}
 use Rattle.estimators.specs.declared.Target.{Target}
 use Rattle.estimators.specs.declared.Target.the-variants.{ConstantVariance, ConstantCorrelation}
@@ -55,7 +56,6 @@ use Rattle.law.proofs.Matrices.{trace-moved, rows-moved}
 use Rattle.law.proofs.Opening.{Shape, returns, sample-moved, opening-chain}
 use Rattle.law.proofs.LedoitWolf.{ledoitWolf-same, correlation-same}
 use Rattle.law.proofs.Correlation.{sign-variance, sign-largest, above-zero, target-moved}
-use Rattle.law.proofs.Settings.{sets}
 use Rattle.law.proofs.Given.{average}
 use Rattle.law.proofs.Shrinkage.{Estimated, Shrunken, Adjusted, correlation-mixed, variance-mixed, nan-mixed, Regularized}
 use Rattle.law.proofs.Shrinkage as Shrinking
@@ -77,7 +77,7 @@ module _ (r : List Float) (n P : ℕ) (opens : (ds : List Check) → first (open
   answers F e = ap (λ (c : Check). settle c [] (answered (Intensity (ledoitWolf F P n (at r n))) []) .answer) (opens (noCorrelation (LedoitWolf F) P n (at r n) ∷ []) ∙ ap (λ (c : Check). first (c ∷ [])) e)
 
   ledoitWolf-known : (F : Target) → AtLeast intensityRange (ledoitWolf F P n (at r n)) → (ledoitWolf F P n (at r n) ≡ nan) ⊎ Shrinking.Intensity (ledoitWolf F P n (at r n))
-  unfolding ledoitWolf intensityOf
+  unfolding ledoitWolf intensityOf intensityBy
   ledoitWolf-known F a = go (lt zero⁺ _) _ (div-fits binary64 _ _) a
     where
       go : (b : Bool) (w : Float) → lib.Dec.T (fits binary64 w) → AtLeast intensityRange (elim b [ true ↦ clamp01 w | false ↦ zero⁺ ])
@@ -136,7 +136,7 @@ module _ (k : ℕ) (small : k ≤ maxPower) (r : List Float) (sizes : All (Sized
         let is' : (i j : ℕ) → i < n → j < n → b' i j ≡ covariance P y i j = λ i j l m. rows-at (base E' P y G') n n i j l m ∙ e .sampled q i j .1 in
         let moved : (i j : ℕ) → i < n → j < n → Moved (k + k) 698 750 1192 (b i j) (b' i j) = λ i j l m. subst₂ (Moved (k + k) 698 750 1192) (sym (is i j l m)) (sym (is' i j l m)) (sample-moved k small r sizes n P s i j l m) in
         let plus : (i : ℕ) → i < n → sign (b i i) ≡ false = λ i l. ap sign (is i i l l) ∙ sign-variance P x i in
-        target-moved k n small (s .assets) (s .few) b b' moved plus
+        target-moved k n small (s .0) (s .1) b b' moved plus
         (λ i l. above-zero (b i i) (largest P x i) (moved-sqrt (moved i i l l) (sign-not-below (b i i) (plus i l)) 860 1133 (lit≤ tt) (lit≤ tt) .range)
         (tolerance-moved (returns k small r sizes n P s) (lit≤ tt) (lit≤ tt) (omega arith) i l .range) (plus i l) (sign-largest P x i)
         (ap (λ (v : Float). le (sqrt v) (1e-10 ⊗ largest P x i)) (is i i l l) ∙ first-all (λ i. le (sqrt (covariance P x i i)) (1e-10 ⊗ largest P x i)) n nothing i l))
@@ -144,8 +144,8 @@ module _ (k : ℕ) (small : k ≤ maxPower) (r : List Float) (sizes : All (Sized
     shrunk-moved : (S : Shrinkage) → Shrinking.Intensity δ → notTheSample S E ≡ passes → noCorrelation S P n (at r n) ≡ passes → (i j : ℕ) → i < n → j < n → Shrunken (k + k) (shrunk S δ n b i j) (shrunk S δ n b' i j)
     unfolding shrunk notTheSample noCorrelation
     shrunk-moved Unshrunk d e₄ e₅ i j l m = moved-weaken 5 5 1645 (lit≤ tt) (lit≤ tt) (lit≤ tt) (estimated i j l m)
-    shrunk-moved (Fixed f) d e₄ e₅ i j l m = variance-mixed (k + k) double δ d n b b' i j (s .assets) (s .few) estimated l m
-    shrunk-moved (LedoitWolf ConstantVariance) d e₄ e₅ i j l m = variance-mixed (k + k) double δ d n b b' i j (s .assets) (s .few) estimated l m
+    shrunk-moved (Fixed f) d e₄ e₅ i j l m = variance-mixed (k + k) double δ d n b b' i j (s .0) (s .1) estimated l m
+    shrunk-moved (LedoitWolf ConstantVariance) d e₄ e₅ i j l m = variance-mixed (k + k) double δ d n b b' i j (s .0) (s .1) estimated l m
     shrunk-moved (LedoitWolf ConstantCorrelation) d e₄ e₅ i j l m = correlation-mixed (k + k) double δ d n b b' i j (correlated (pass-must (isSample E) NotTheSample e₄) (pass-some (constantAsset n (covariance P x) (largest P x)) ZeroVariance e₅) i j l m) (estimated i j l m)
 
   shrunk-nan : (S : Shrinkage) → (S ≡ Unshrunk → ⊥) → (m : Matrix) (i j : ℕ) → shrunk S nan n m i j ≡ nan
@@ -185,7 +185,7 @@ module _ (k : ℕ) (small : k ≤ maxPower) (r : List Float) (sizes : All (Sized
       → Chain Done (when (not (allFinite n n a)) CovarianceNotFinite ∷ when (eq (trace n a) zero⁺) Singular ∷ []) (when (not (allFinite n n a')) CovarianceNotFinite ∷ when (eq (trace n a') zero⁺) Singular ∷ [])
   last-checks e₃ e₆ e₄ e₅ (inr d) =
       let moved : Done = rows-moved n n (regularized H (shrunk S δ n b)) (regularized H' (shrunk S δ n b')) (λ i j l m. h .entries (shrunk S δ n b) (shrunk S δ n b') i j (shrunk-moved e₃ e₆ S d e₄ e₅ i j l m)) in
-      let t = trace-moved n a a' (s .few) (omega arith) (λ i l. moved i i l l) in
+      let t = trace-moved n a a' (s .1) (omega arith) (λ i l. moved i i l l) in
       chain-must (allFinite n n a) CovarianceNotFinite (finite-same n n a' a (λ i j l m. ap isFinite (moved i j l m .copy) ∙ isFinite-shift (pos (k + k)) (a i j))) (λ e₈.
       chain-test (eq (trace n a) zero⁺) Singular (ap₂ eq (t .copy) (sym (shift-zero⁺ (pos (k + k)))) ∙ eq-shift (pos (k + k)) (trace n a) zero⁺) (λ e₉. ends moved))
   last-checks e₃ e₆ e₄ e₅ (inl q) =
@@ -193,9 +193,9 @@ module _ (k : ℕ) (small : k ≤ maxPower) (r : List Float) (sizes : All (Sized
       let f : (i j : ℕ) → i < n → j < n → a i j ≡ nan = λ i j l m. rows-at (regularized H (shrunk S δ n b)) n n i j l m ∙ h .nans (shrunk S δ n b) i j (void b i j) .0 in
       let f' : (i j : ℕ) → i < n → j < n → a' i j ≡ nan = λ i j l m. rows-at (regularized H' (shrunk S δ n b')) n n i j l m ∙ h .nans (shrunk S δ n b') i j (void b' i j) .1 in
       chain-must (allFinite n n a) CovarianceNotFinite (finite-same n n a' a (λ i j l m. ap isFinite (f' i j l m ∙ sym (f i j l m)))) (λ e₈.
-      not-finite-nan (sym (ap isFinite (f 0 0 (s .assets) (s .assets))) ∙ finite-all n n a e₈ 0 0 (s .assets) (s .assets)))
+      not-finite-nan (sym (ap isFinite (f 0 0 (s .0) (s .0))) ∙ finite-all n n a e₈ 0 0 (s .0) (s .0)))
 
-  pub settings-chain : Chain Done (ofSettings (sets E S H limit) δ P n side x b a) (ofSettings (sets E' S H' limit) δ P n side y b' a')
+  pub settings-chain : Chain Done (ofSettings (settings E S H limit) δ P n side x b a) (ofSettings (settings E' S H' limit) δ P n side y b' a')
   unfolding ofSettings
   settings-chain =
       chain-same (badRegularization H) (h .bad) (λ e₁.
@@ -222,7 +222,7 @@ module _ (k : ℕ) (small : k ≤ maxPower) (r : List Float) (sizes : All (Sized
   δ r = intensity S P n (at r n)
 
   abbrev d : Estimate → Regularization → List Float → Decomposition
-  d E H g = decompositionOf (sets E S H limit) side (average side g)
+  d E H g = decompositionOf (settings E S H limit) side (average side g)
 
   abbrev estimate : Estimate → List Float → List Float → List Float
   estimate E r g = rows n n (base E P (at r n) (average side g))
@@ -230,8 +230,8 @@ module _ (k : ℕ) (small : k ≤ maxPower) (r : List Float) (sizes : All (Sized
   abbrev adjusted : Float → Estimate → Regularization → List Float → List Float → List Float
   adjusted δ E H r g = rows n n (regularized H (shrunk S δ n (at (estimate E r g) n)))
 
-  abbrev settings : Float → Estimate → Regularization → List Float → List Float → List Check
-  settings δ E H r g = ofSettings (sets E S H limit) δ P n side (at r n) (at (estimate E r g) n) (at (adjusted δ E H r g) n)
+  abbrev asked : Float → Estimate → Regularization → List Float → List Float → List Check
+  asked δ E H r g = ofSettings (settings E S H limit) δ P n side (at r n) (at (estimate E r g) n) (at (adjusted δ E H r g) n)
 
   intensity-same : Shape r n P → δ r' ≡ δ r
   intensity-same s = go S
@@ -243,18 +243,18 @@ module _ (k : ℕ) (small : k ≤ maxPower) (r : List Float) (sizes : All (Sized
 
   order : (slice slice' : List Float) → length slice' ≡ length slice
       → Chain (Outcome k n (δ r) (δ r') (d E H g) (d E' H' g') (at (adjusted (δ r) E H r g) n) (at (adjusted (δ r') E' H' r' g') n))
-      (adjustedOrder r n P (sets E S H limit) g side slice (d E H g) (δ r) (at (estimate E r g) n) (at (adjusted (δ r) E H r g) n))
-      (adjustedOrder r' n P (sets E' S H' limit) g' side slice' (d E' H' g') (δ r') (at (estimate E' r' g') n) (at (adjusted (δ r') E' H' r' g') n))
+      (adjustedOrder r n P (settings E S H limit) g side slice (d E H g) (δ r) (at (estimate E r g) n) (at (adjusted (δ r) E H r g) n))
+      (adjustedOrder r' n P (settings E' S H' limit) g' side slice' (d E' H' g') (δ r') (at (estimate E' r' g') n) (at (adjusted (δ r') E' H' r' g') n))
   unfolding adjustedOrder
   order slice slice' e =
       chain-append (opening-chain k small r sizes n P (n * n) slice slice' e (λ s opens.
       estimate-chain k small r sizes n P s side limit S H H' E E' g g' copied q q' given (λ based same.
-      subst (λ (z : Float). Chain (Outcome k n (δ r) z (d E H g) (d E' H' g') (at (adjusted (δ r) E H r g) n) (at (adjusted z E' H' r' g') n)) (settings (δ r) E H r g) (settings z E' H' r' g')) (sym (intensity-same s))
+      subst (λ (z : Float). Chain (Outcome k n (δ r) z (d E H g) (d E' H' g') (at (adjusted (δ r) E H r g) n) (at (adjusted z E' H' r' g') n)) (asked (δ r) E H r g) (asked z E' H' r' g')) (sym (intensity-same s))
       (chain-map (λ moved. record { intensity = refl; decomposition = same; entries = moved })
       (settings-chain k small r sizes n P s side limit S H H' h E E' (average side g) (average side g') based (δ r) (intensity-known r n P opens S E shrinks))))))
 
   pub covariance-law : (slice slice' : List Float) → length slice' ≡ length slice
-      → Alike (pos k) (parts n (ask r n P (Law.adjusted (sets E S H limit) g side) slice)) (parts n (ask r' n P (Law.adjusted (sets E' S H' limit) g' side) slice'))
+      → Alike (pos k) (parts n (ask r n P (Law.adjusted (settings E S H limit) g side) slice)) (parts n (ask r' n P (Law.adjusted (settings E' S H' limit) g' side) slice'))
   unfolding adjustedCovariance Spec.adjusted
   covariance-law slice slice' e =
       let a = adjusted (δ r) E H r g in

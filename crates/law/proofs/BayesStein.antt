@@ -89,7 +89,7 @@ module _ (k : ℕ) (small : k ≤ maxPower) (r : List Float) (sizes : All (Sized
           let R = returns k small r sizes n P s in
           let f = exps P n (at r' n) in
           let same = found-same small R in
-          let s' : Shape r' n P = record { assets = s .assets; few = s .few; periods = s .periods; most = s .most; full = length-map r (shift (pos k)) ∙ s .full } in
+          let s' : Shape r' n P = (s .0, s .1, s .2, s .3, length-map r (shift (pos k)) ∙ s .4) in
           let tops : (i : ℕ) → i < n → over (exps P n (at r' n) i) ≤ returnRange = λ i l. rw (exps-at P n (at r' n) i l) (column (lit≤ {m = 0} tt) (returns 0 (lit≤ tt) r' sizes' n P s') i l .small .0) in
           let c' = subst (λ (m : Moments). AtLeast meanRange (pull limit n m f .target)) same c in
           record {

@@ -7,7 +7,7 @@ use lib.Dec.{lit≤}
 use lib.Pow.{pow-add}
 use Rattle.matrix.specs.Limits.{maxSide}
 use Rattle.estimators.specs.Order.{maxPeriods}
-use Rattle.law.specs.Law.{returnRange, intensityRange}
+use Rattle.law.specs.Law.{returnRange, covarianceRange, meanRange, intensityRange}
 
 abbrev pub sideBits : ℕ
 sideBits = 5
@@ -38,7 +38,28 @@ returnMost = 1074 + returnRange
 abbrev pub returnGrain : ℕ
 returnGrain = returnLeast - 52
 
--- an intensity, of a size up to 1
+-- a return over a power of two near the largest, of a size below 2
+abbrev pub unitGrain : ℕ
+unitGrain = returnGrain + 1074 - returnMost
+
+-- a given entry or a regularization
+abbrev pub covarianceLeast : ℕ
+covarianceLeast = 1074 - covarianceRange
+
+abbrev pub covarianceMost : ℕ
+covarianceMost = 1074 + covarianceRange
+
+abbrev pub covarianceGrain : ℕ
+covarianceGrain = covarianceLeast - 52
+
+-- a number of a mean answer
+abbrev pub meanLeast : ℕ
+meanLeast = 1074 - meanRange
+
+abbrev pub meanGrain : ℕ
+meanGrain = meanLeast - 52
+
+-- an intensity that shrinks a covariance, of a size up to 1
 abbrev pub intensityLeast : ℕ
 intensityLeast = 1074 - intensityRange
 

@@ -11,7 +11,7 @@ use borrow.Author.Tests.{not-false}
 use Rattle.estimators.specs.Refusals.{Place, number, place, Check, passes, refuses, when, whenSome, first}
 use Rattle.estimators.specs.Calls.{Answered, settle}
 use Rattle.estimators.specs.declared.Refusal.{Refusal}
-use Rattle.estimators.proofs.Firsts.{pass-test}
+use Rattle.estimators.proofs.Firsts.{passes-not, pass-test}
 use Rattle.law.specs.Law.{compared, AnswerParts, answerParts, Alike}
 
 -- both checks pass, and P holds; or both refuse with the same refusal at the same place
@@ -66,6 +66,16 @@ chain-map f (next b h) = next b (λ e. chain-map f (h e))
 pub chain-append : {P : Type 0} {cs cs' ds ds' : List Check} → Chain (Chain P ds ds') cs cs' → Chain P (cs ++ ds) (cs' ++ ds')
 chain-append (ends p) = p
 chain-append (next b h) = next b (λ e. chain-append (h e))
+
+-- checks that are the same in both runs
+pub chain-equal : {P : Type 0} {ds ds' : List Check} (cs : List Check) {cs' : List Check} → cs' ≡ cs → (first cs ≡ passes → Chain P ds ds') → Chain P (cs ++ ds) (cs' ++ ds')
+unfolding first
+chain-equal {P} {ds} {ds'} cs e h = subst (λ (bs : List Check). Chain P (cs ++ ds) (bs ++ ds')) (sym e) (go cs h)
+  where
+    go : (cs : List Check) → (first cs ≡ passes → Chain P ds ds') → Chain P (cs ++ ds) (cs ++ ds')
+    go [] h = h refl
+    go (passes ∷ cs) h = chain-same passes refl (λ e. go cs h)
+    go (refuses c ∷ cs) h = chain-same (refuses c) refl (λ e. absurd (passes-not (sym e)))
 
 pub chained : {P : Type 0} {cs cs' : List Check} → Chain P cs cs' → Both P (first cs) (first cs')
 unfolding first

@@ -33,7 +33,7 @@ use Rattle.estimators.specs.Moments.{Moments, moments}
 use Rattle.estimators.specs.BayesStein.{Pull, bayesSteinPull, exponentsOf, largestIn, correlations}
 use borrow.Author.Tests.{ne-eqb}
 use Rattle.law.specs.Law.{maxPower, returnRange}
-use Rattle.law.proofs.Bits.{returnGrain, returnLeast, returnMost}
+use Rattle.law.proofs.Bits.{returnGrain, returnLeast, returnMost, unitGrain}
 use Rattle.law.proofs.Sizes.{plus-val, le-no}
 use Rattle.law.proofs.Sample.{Returns, entries-as, mean-moved, covariance-moved, largest-moved, largest-above, tenth-moved, tenth-above}
 use Rattle.law.proofs.Scaled.{sign-scaled, Scaling, scaling, scaled-least, exponent-within, exponent-null}
@@ -96,8 +96,8 @@ module _ {k n P : ℕ} {x y : Matrix} (small : k ≤ maxPower) (r : Returns k n 
   entry-is t i a b = ap (λ (e : ℤ). pow2Scaled (x t i) (negℤ e)) (exps-at P n x i b)
 
   -- below 2 in size
-  units : Returns 0 n P 942 942 1075 (scaled (exps P n x) x) (scaled (exps P n x) x)
-  units = entries-as r (λ t i a b. still 942 1075 (subst (Range 942 (2 ^ 942) (2 ^ 1075)) (sym (entry-is t i a b)) (column i b .moved (r .entries t i a b) (largest-above r t i a b) .range)))
+  units : Returns 0 n P unitGrain unitGrain 1075 (scaled (exps P n x) x) (scaled (exps P n x) x)
+  units = entries-as r (λ t i a b. still unitGrain 1075 (subst (Range unitGrain (2 ^ unitGrain) (2 ^ 1075)) (sym (entry-is t i a b)) (column i b .moved (r .entries t i a b) (largest-above r t i a b) .range)))
 
   abbrev m : Moments
   m = found P n x
@@ -127,14 +127,14 @@ module _ {k n P : ℕ} {x y : Matrix} (small : k ≤ maxPower) (r : Returns k n 
     A-range : Range returnGrain (2 ^ returnLeast) (2 ^ returnMost) (largest P x i)
     A-range = largest-moved r i a .range
 
-    size-range : Range 942 (2 ^ 942) (2 ^ 1075) (sizeOf P n x i)
+    size-range : Range unitGrain (2 ^ unitGrain) (2 ^ 1075) (sizeOf P n x i)
     size-range = rw (exps-at P n x i a) (column i a .moved (largest-moved r i a) (le-refl (mag A)) .range)
 
     size-plus : sign (sizeOf P n x i) ≡ false
     size-plus = sign-scaled A (negℤ (exps P n x i)) (sign-largest P x i)
 
     tolerance-range : Range 856 (2 ^ 908) (2 ^ 1042) (1e-10 ⊗ sizeOf P n x i)
-    tolerance-range = moved-mul tenth-moved (still 942 1075 size-range) 856 908 1042 (lit≤ tt) (lit≤ tt) (lit≤ tt) (lit≤ tt) .range
+    tolerance-range = moved-mul tenth-moved (still unitGrain 1075 size-range) 856 908 1042 (lit≤ tt) (lit≤ tt) (lit≤ tt) (lit≤ tt) .range
 
     v-above : 0 < mag (sqrt (Σ n (found P n x) i i))
     v-above = above-zero (Σ n m i i) (sizeOf P n x i) (v-range i a) tolerance-range (variance-plus i a) size-plus h
@@ -161,7 +161,7 @@ module _ {k n P : ℕ} {x y : Matrix} (small : k ≤ maxPower) (r : Returns k n 
             let one-still : s .still ≡ 1 = alone (s .still) (binaryExponent A) (s .few) (s .exponent) in
             let null : (t : ℕ) → t < P → mag (x t i) ≡ 0 = λ t l. le-antisymm (le-trans (largest-above r t i l a) (le-of-eq z)) zero-le in
             let w : Matrix = λ t j. scaled (exps P n x) x t i in
-            let R : Returns 1 n P 942 942 1075 w w = entries-as r (λ t j l b. rw (entry-is t i l a) (subst (λ (c : ℕ). Moved c 942 942 1075 (pow2Scaled (x t i) (negℤ (binaryExponent (largest P x i)))) (pow2Scaled (x t i) (negℤ (binaryExponent (largest P x i))))) one-still
+            let R : Returns 1 n P unitGrain unitGrain 1075 w w = entries-as r (λ t j l b. rw (entry-is t i l a) (subst (λ (c : ℕ). Moved c unitGrain unitGrain 1075 (pow2Scaled (x t i) (negℤ (binaryExponent (largest P x i)))) (pow2Scaled (x t i) (negℤ (binaryExponent (largest P x i))))) one-still
             (s .moved (doubled (x t i) (r .entries t i l a .range) (null t l)) (largest-above r t i l a)))) in
             let e : covariance P w i i ≡ shift (pos 2) (covariance P w i i) = covariance-moved R 878 (lit≤ tt) (lit≤ tt) 682 (lit≤ tt) 618 (lit≤ tt) 1102 (lit≤ tt) (lit≤ tt) i i a a .copy in
             let f : covariance P u i i ≡ shift (pos 2) (covariance P u i i) = same-column e in

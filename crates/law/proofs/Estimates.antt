@@ -24,6 +24,7 @@ use Rattle.estimators.specs.Sample.{covariance, largest, constantAsset}
 use Rattle.estimators.specs.Weighted.{logDecay, accepted}
 use Rattle.estimators.specs.Adjusted.{isSample, isGiven, decompositionOf, base}
 use Rattle.estimators.specs.Order.{badHalfLife, badEstimate, noVariance, ofGiven}
+use Rattle.estimators.specs.Settings.{settings}
 use Rattle.estimators.specs.declared.Estimate.{Estimate}
 use Rattle.estimators.specs.declared.Estimate.the-variants.{Sample, Given, Weighted, Semi, SemiBelow}
 use Rattle.estimators.specs.declared.Shrinkage.{Shrinkage}
@@ -38,7 +39,6 @@ use Rattle.law.proofs.Sizes.{sized-fits}
 use Rattle.law.proofs.Sample.{Returns, semicovariance-moved, semicovarianceBelow-moved, constant-same}
 use Rattle.law.proofs.Opening.{Shape, sized-moved, returns, sample-moved}
 use Rattle.law.proofs.Weighted as Weighted
-use Rattle.law.proofs.Settings.{sets}
 use Rattle.law.proofs.Given.{average, average-moved, decomposition-same, given-chain}
 use Rattle.law.proofs.Shrinkage.{Estimated}
 
@@ -126,8 +126,8 @@ module _ (k : ℕ) (small : k ≤ maxPower) (n P side : ℕ) (x y : Matrix) (g :
 -- ---- the checks of a given matrix, and after them what is known of the estimate
 pub estimate-chain : {Q : Type 0} (k : ℕ) (small : k ≤ maxPower) (r : List Float) (sizes : All (Sized returnRange) r) (n P : ℕ) (s : Shape r n P) (side limit : ℕ) (S : Shrinkage) (H H' : Regularization) (E E' : Estimate) (g g' : List Float)
     → CopiedEstimate (pos k) E E' → EstimateInRange P E → EstimateInRange P E' → (isGiven E ≡ true → All (Sized covarianceRange) g × (g' ≡ map (shift (pos (k + k))) g))
-    → (Based k n P side E E' (at r n) (at (map (shift (pos k)) r) n) (average side g) (average side g') → decompositionOf (sets E' S H' limit) side (average side g') ≡ decompositionOf (sets E S H limit) side (average side g) → Q)
-    → Chain Q (ofGiven (sets E S H limit) g side (decompositionOf (sets E S H limit) side (average side g))) (ofGiven (sets E' S H' limit) g' side (decompositionOf (sets E' S H' limit) side (average side g')))
+    → (Based k n P side E E' (at r n) (at (map (shift (pos k)) r) n) (average side g) (average side g') → decompositionOf (settings E' S H' limit) side (average side g') ≡ decompositionOf (settings E S H limit) side (average side g) → Q)
+    → Chain Q (ofGiven (settings E S H limit) g side (decompositionOf (settings E S H limit) side (average side g))) (ofGiven (settings E' S H' limit) g' side (decompositionOf (settings E' S H' limit) side (average side g')))
 unfolding ofGiven decompositionOf
 estimate-chain k small r sizes n P s side limit S H H' E E' g g' sample q q' known then = ends (then (from-sample k small r sizes n P s side (average side g) (average side g')) refl)
 estimate-chain k small r sizes n P s side limit S H H' E E' g g' semi q q' known then = ends (then (from-semi k small r sizes n P s side (average side g) (average side g')) refl)
@@ -137,6 +137,6 @@ estimate-chain k small r sizes n P s side limit S H H' E E' g g' (semiBelow {x =
 estimate-chain {Q} k small r sizes n P s side limit S H H' E E' g g' given q q' known then =
     let m = known refl in
     let y = map (shift (pos (k + k))) g in
-    subst (λ (g' : List Float). (Based k n P side Given Given (at r n) (at (map (shift (pos k)) r) n) (average side g) (average side g') → decompositionOf (sets Given S H' limit) side (average side g') ≡ decompositionOf (sets Given S H limit) side (average side g) → Q)
-    → Chain Q (ofGiven (sets Given S H limit) g side (decompositionOf (sets Given S H limit) side (average side g))) (ofGiven (sets Given S H' limit) g' side (decompositionOf (sets Given S H' limit) side (average side g')))) (sym (m .1))
+    subst (λ (g' : List Float). (Based k n P side Given Given (at r n) (at (map (shift (pos k)) r) n) (average side g) (average side g') → decompositionOf (settings Given S H' limit) side (average side g') ≡ decompositionOf (settings Given S H limit) side (average side g) → Q)
+    → Chain Q (ofGiven (settings Given S H limit) g side (decompositionOf (settings Given S H limit) side (average side g))) (ofGiven (settings Given S H' limit) g' side (decompositionOf (settings Given S H' limit) side (average side g')))) (sym (m .1))
     (λ then. given-chain (k + k) (omega arith) side limit g (m .0) S S H H' (λ full. then (from-given k small n P side (at r n) (at (map (shift (pos k)) r) n) g (m .0) full) (decomposition-same (k + k) (omega arith) side limit g (m .0) full))) then

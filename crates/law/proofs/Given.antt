@@ -21,21 +21,22 @@ use Rattle.leaves.proofs.Range.{sized, range-sized, count-pos}
 use Rattle.leaves.proofs.Operations.{Moved, still, moved-weaken, moved-abs, moved-add, moved-sub, moved-mul, moved-over}
 use Rattle.matrix.specs.Limits.{maxSide}
 use Rattle.matrix.specs.Matrix.{Matrix, at, amax, averaged}
-use Rattle.matrix.specs.Jacobi.{Decomposition, unturned}
+use Rattle.matrix.specs.Jacobi.{Decomposition, smallestValue, unturned}
 use Rattle.matrix.proofs.Alike.{first-entry-alike, decompose-alike}
-use Rattle.estimators.specs.Given.{asymmetry, smallest, indefinite, decomposeGiven, averagedOf}
+use Rattle.estimators.specs.Given.{asymmetry, indefinite, decomposeGiven, averagedOf}
 use Rattle.estimators.specs.Order.{notFinite, sweepLimit, ofGiven}
+use Rattle.estimators.specs.Settings.{settings}
 use Rattle.estimators.specs.declared.Estimate.the-variants.{Given}
 use Rattle.estimators.specs.declared.Shrinkage.{Shrinkage}
 use Rattle.estimators.specs.declared.Regularization.{Regularization}
 use Rattle.estimators.specs.declared.Refusal.the-variants.{NoAssets, TooLarge, WrongSide, Asymmetric, Indefinite, NotDecomposed}
 use Rattle.law.specs.Law.{All, Sized, maxPower, covarianceRange}
+use Rattle.law.proofs.Bits.{covarianceGrain, covarianceMost}
 use Rattle.law.proofs.Chain.{Chain, ends, chain-same, chain-when, chain-test, chain-must, chain-some}
 use Rattle.law.proofs.Sizes.{all-at, two-is}
 use Rattle.law.proofs.Sample.{count-moved}
 use Rattle.law.proofs.Matrices.{amax-moved, rows-moved}
 use Rattle.law.proofs.Opening.{at-copy, sized-moved, entries-same}
-use Rattle.law.proofs.Settings.{sets}
 
 trillionth-moved : Moved 0 982 1034 1035 1e-12 1e-12
 unfolding ofBits sized fits isFinite mag U
@@ -50,10 +51,10 @@ module _ (k : ℕ) (small : k ≤ maxPower + maxPower) (side limit : ℕ) (g : L
   g' = map (shift (pos k)) g
 
   module _ (full : length g ≡ side * side) where
-    given-moved : (i j : ℕ) → i < side → j < side → Moved k 942 942 1154 (at g side i j) (at g' side i j)
+    given-moved : (i j : ℕ) → i < side → j < side → Moved k covarianceGrain covarianceGrain covarianceMost (at g side i j) (at g' side i j)
     given-moved i j a b =
         let in-g : i * side + j < length g = lt-of-lt-of-le (cell i side j side a b) (le-of-eq (sym full)) in
-        moved-weaken 942 942 1154 (lit≤ tt) (lit≤ tt) (lit≤ tt) (sized-moved k covarianceRange (lit≤ tt) (at g side i j) (at g' side i j) (all-at (Sized covarianceRange) g (i * side + j) sizes in-g) (at-copy (pos k) g side i j))
+        moved-weaken covarianceGrain covarianceGrain covarianceMost (lit≤ tt) (lit≤ tt) (lit≤ tt) (sized-moved k covarianceRange (lit≤ tt) (at g side i j) (at g' side i j) (all-at (Sized covarianceRange) g (i * side + j) sizes in-g) (at-copy (pos k) g side i j))
 
     pub average-moved : (i j : ℕ) → i < side → j < side → Moved k 889 941 1155 (average side g i j) (average side (map (shift (pos k)) g) i j)
     average-moved = rows-moved side side (averaged (at g side)) (averaged (at g' side)) (λ i j a b. rw (← two-is)
@@ -81,7 +82,7 @@ module _ (k : ℕ) (small : k ≤ maxPower + maxPower) (side limit : ℕ) (g : L
         (decompose-alike limit side (λ i j. y i j ⊘ amax side side y) (λ i j. x i j ⊘ amax side side x) (λ i j a b. ap₂ _⊘_ (average-moved i j a b .copy) scale ∙ div-alike (pos k) (x i j) (amax side side x)))
 
   pub given-chain : {P : Type 0} (S S' : Shrinkage) (H H' : Regularization) → (length g ≡ side * side → P)
-      → Chain P (ofGiven (sets Given S H limit) g side (decomposeGiven limit side (average side g))) (ofGiven (sets Given S' H' limit) (map (shift (pos k)) g) side (decomposeGiven limit side (average side (map (shift (pos k)) g))))
+      → Chain P (ofGiven (settings Given S H limit) g side (decomposeGiven limit side (average side g))) (ofGiven (settings Given S' H' limit) (map (shift (pos k)) g) side (decomposeGiven limit side (average side (map (shift (pos k)) g))))
   unfolding ofGiven
   given-chain S S' H H' then =
       let d = decomposeGiven limit side (average side g) in
@@ -94,5 +95,5 @@ module _ (k : ℕ) (small : k ≤ maxPower + maxPower) (side limit : ℕ) (g : L
       chain-same (notFinite side side (at g side)) (entries-same k g side side) (λ e₅.
       chain-some (asymmetry side (at g side)) (λ p. Asymmetric (p .0) (p .1)) (asymmetry-same full) (λ e₆.
       chain-must (d .found) NotDecomposed (ap (λ (z : Decomposition). z .found) (decomposition-same full)) (λ e₇.
-      chain-when (indefinite side d) (Indefinite (smallest side d ⊗ amax side side (averaged (at g side)))) (Indefinite (smallest side d' ⊗ amax side side (averaged (at g' side))))
+      chain-when (indefinite side d) (Indefinite (smallestValue side d ⊗ amax side side (averaged (at g side)))) (Indefinite (smallestValue side d' ⊗ amax side side (averaged (at g' side))))
       (ap (indefinite side) (decomposition-same full)) refl refl (λ e₈. ends (then full)))))))))

@@ -13,7 +13,7 @@ use Rattle.matrix.specs.Matrix.{Matrix, at}
 use Rattle.matrix.specs.Jacobi.{Decomposition}
 use Rattle.estimators.specs.Refusals.{Check, passes, refuses, first}
 use Rattle.estimators.specs.Moments.{Moments, moments}
-use Rattle.estimators.specs.LedoitWolf.{intensityOf, ledoitWolf}
+use Rattle.estimators.specs.LedoitWolf.{intensityBy, intensityOf, ledoitWolf}
 use Rattle.estimators.specs.Adjusted.{decompositionOf, intensity}
 use Rattle.estimators.specs.JamesStein.{jamesSteinIntensity}
 use Rattle.estimators.specs.Order.{opening, ofGiven, badShrinkage, ofSettings}
@@ -62,7 +62,7 @@ clamped x = go (lt x zero⁺) refl (lt one x) refl
 
 -- ---- the three intensities, and a fixed one that passes its check
 ledoitWolf-share : (F : Target) (P n : ℕ) (x : Matrix) → Share (ledoitWolf F P n x)
-unfolding ledoitWolf intensityOf
+unfolding ledoitWolf intensityOf intensityBy
 ledoitWolf-share F P n x = go (lt zero⁺ _) _
   where
     go : (b : Bool) (w : Float) → Share (elim b [ true ↦ clamp01 w | false ↦ zero⁺ ])

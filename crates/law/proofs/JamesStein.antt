@@ -9,8 +9,9 @@ use native.Mathlib.Omega.{arith}
 use mathlib.Core.Bool.{Bool, true, false, cond}
 use mathlib.Core.List.{List, _++_, map}
 use lib.Dec.{T, lit≤}
-use lib.IntN.{ℤ, pos, negℤ, _+ℤ_}
+use lib.IntN.{pos, negℤ, _+ℤ_}
 use lib.ListN.{length}
+use lib.Pow.{pow-mono}
 use lib.Ieee.{Float, nan, inf, fin, binary64, fits, eq, lt, mul}
 use Rattle.leaves.specs.Numbers.{_⊕_, _⊖_, _⊗_, _⊘_, zero⁺, one, two, isFinite, clamp01}
 use Rattle.leaves.specs.Loops.{maxTo, fill, nth}
@@ -18,7 +19,8 @@ use Rattle.leaves.specs.Scaling.{binaryExponent, pow2Scaled}
 use Rattle.leaves.specs.Shift.{shift}
 use Rattle.leaves.proofs.Nan.{nan-add}
 use Rattle.leaves.proofs.Loops.{nth-tab}
-use Rattle.leaves.proofs.Units.{Val, sign, mag, val-mag, mag-val, finite-fin}
+use Rattle.leaves.proofs.Units.{Val, sign, mag, val-mag, mag-val, zero-mag, finite-fin}
+use Rattle.leaves.proofs.Zero.{no, is-below}
 use Rattle.leaves.proofs.Shift.{shift-nan}
 use Rattle.leaves.proofs.Range.{Range, range-zero, range-size, count-pos}
 use Rattle.leaves.proofs.Operations.{Moved, still, moved-weaken, moved-add, moved-sub, moved-mul, moved-over}
@@ -35,7 +37,7 @@ use Rattle.estimators.specs.declared.Refusal.the-variants.{Singular}
 use Rattle.estimators.specs.declared.Answer.the-variants.{Shrunk}
 use Rattle.law.specs.Law.{All, Sized, AtLeast, Alike, ask, maxPower, returnRange, meanRange}
 use Rattle.law.specs.Law as Law
-use Rattle.law.proofs.Bits.{sideBits, side-bits, returnGrain, returnLeast, returnMost}
+use Rattle.law.proofs.Bits.{sideBits, side-bits, returnGrain, returnLeast, returnMost, unitGrain, meanGrain, meanLeast}
 use Rattle.law.proofs.Chain.{Chain, ends, chain-same, chain-must, chained, parts, settled}
 use Rattle.law.proofs.Sizes.{at-least, lt-no, one-val}
 use Rattle.law.proofs.Sample.{Returns, entries-as, count-moved, mean-moved}
@@ -62,8 +64,8 @@ unit-range l h (fin s m e) t a b c =
     sign-case true v b c = zero-case m v b
       where
         zero-case : (m : ℕ) → Val (fin true m e) (sign (fin true m e)) (mag (fin true m e)) → lt (fin true m e) zero⁺ ≡ false → mag (fin true m e) ≤ 2 ^ 1074
-        zero-case zero v b = le-trans (le-of-eq (Rattle.leaves.proofs.Units.zero-mag true e)) zero-le
-        zero-case (suc m) v b = Rattle.leaves.proofs.Zero.no (Rattle.leaves.proofs.Zero.is-below m e) b
+        zero-case zero v b = le-trans (le-of-eq (zero-mag true e)) zero-le
+        zero-case (suc m) v b = no (is-below m e) b
 
 pub clamped-range : (l : ℕ) → l ≤ 1022 → (x : Float) → T (fits binary64 x) → AtLeast l (clamp01 x) → (clamp01 x ≡ nan) ⊎ Range (1022 - l) (2 ^ (1022 - l + 52)) (2 ^ 1074) (clamp01 x)
 unfolding clamp01
@@ -72,7 +74,7 @@ clamped-range l h x t a = go (lt x zero⁺) refl (lt one x) refl a
     one-range : Range (1022 - l) (2 ^ (1022 - l + 52)) (2 ^ 1074) one
     one-range =
         let i = val-mag one false (2 ^ 1074) one-val .1 in
-        range-size (1022 - l) (2 ^ 1074) one (unfold fits in tt) (unfold isFinite in tt) (inr (le-trans (lib.Pow.pow-mono {i = 1022 - l + 52} {j = 1074} (omega arith)) (le-of-eq (sym i)))) (le-of-eq i)
+        range-size (1022 - l) (2 ^ 1074) one (unfold fits in tt) (unfold isFinite in tt) (inr (le-trans (pow-mono {i = 1022 - l + 52} {j = 1074} (omega arith)) (le-of-eq (sym i)))) (le-of-eq i)
 
     go : (u : Bool) → lt x zero⁺ ≡ u → (v : Bool) → lt one x ≡ v → AtLeast l (cond u zero⁺ (cond v one x))
         → (cond u zero⁺ (cond v one x) ≡ nan) ⊎ Range (1022 - l) (2 ^ (1022 - l + 52)) (2 ^ 1074) (cond u zero⁺ (cond v one x))
@@ -80,7 +82,9 @@ clamped-range l h x t a = go (lt x zero⁺) refl (lt one x) refl a
     go false b true c a = inr one-range
     go false b false c a = unit-range l h x t a b c
 
--- ---- what is not a number
+-- one that shrinks a mean
+abbrev pub MeanIntensity : Float → Type 0
+MeanIntensity α = Range meanGrain (2 ^ meanLeast) (2 ^ 1074) α
 
 -- ---- what is found from the moments alone
 abbrev pub centre : ℕ → Moments → Float
@@ -95,7 +99,7 @@ pull limit n m = jamesSteinIntensity n m (centre n m) (taken limit n m)
 abbrev moved : ℕ → ℕ → Moments → ℕ → Float
 moved limit n m i = towards (pull limit n m) (centre n m) (nth (m .mean) i)
 
-pull-range : (limit n : ℕ) (m : Moments) → AtLeast meanRange (pull limit n m) → (pull limit n m ≡ nan) ⊎ Range 622 (2 ^ 674) (2 ^ 1074) (pull limit n m)
+pull-range : (limit n : ℕ) (m : Moments) → AtLeast meanRange (pull limit n m) → (pull limit n m ≡ nan) ⊎ MeanIntensity (pull limit n m)
 unfolding jamesSteinIntensity
 pull-range limit n m a = go (eq (unevenness n (nth (m .mean)) (centre n m)) zero⁺) a
   where
@@ -106,8 +110,8 @@ pull-range limit n m a = go (eq (unevenness n (nth (m .mean)) (centre n m)) zero
     z = pow2Scaled ((trace n (at (m .covariance) n) ⊖ two ⊗ maxTo n (nth (taken limit n m .values))) ⊘ (m .periods ⊗ spread n (nth (m .mean)) (centre n m) (binaryExponent (unevenness n (nth (m .mean)) (centre n m)))))
         (negℤ (binaryExponent (unevenness n (nth (m .mean)) (centre n m)) +ℤ binaryExponent (unevenness n (nth (m .mean)) (centre n m))))
 
-    go : (b : Bool) → AtLeast meanRange (elim b [ true ↦ zero⁺ | false ↦ clamp01 z ]) → ((elim b [ true ↦ zero⁺ | false ↦ clamp01 z ]) ≡ nan) ⊎ Range 622 (2 ^ 674) (2 ^ 1074) (elim b [ true ↦ zero⁺ | false ↦ clamp01 z ])
-    go true a = inr (range-zero 622 (2 ^ 674) (2 ^ 1074))
+    go : (b : Bool) → AtLeast meanRange (elim b [ true ↦ zero⁺ | false ↦ clamp01 z ]) → ((elim b [ true ↦ zero⁺ | false ↦ clamp01 z ]) ≡ nan) ⊎ MeanIntensity (elim b [ true ↦ zero⁺ | false ↦ clamp01 z ])
+    go true a = inr (range-zero meanGrain (2 ^ meanLeast) (2 ^ 1074))
     go false a = clamped-range meanRange (lit≤ tt) z (scaled-fits _ _) a
 
 -- ---- returns over the power of two of the largest
@@ -125,7 +129,7 @@ module _ {k n P : ℕ} {x y : Matrix} (small : k ≤ maxPower) (r : Returns k n 
   abbrev u : Matrix
   u = scaled (λ i. binaryExponent (amax P n x)) x
 
-  units : Returns (common .still) n P 942 942 1075 (scaled (λ i. binaryExponent (amax P n x)) x) (scaled (λ i. binaryExponent (amax P n x)) x)
+  units : Returns (common .still) n P unitGrain unitGrain 1075 (scaled (λ i. binaryExponent (amax P n x)) x) (scaled (λ i. binaryExponent (amax P n x)) x)
   unfolding scaled
   units = entries-as r (λ t i a b. common .moved (r .entries t i a b) (amax-above P n x y (r .entries) t i a b))
 
@@ -143,13 +147,13 @@ module _ {k n P : ℕ} {x y : Matrix} (small : k ≤ maxPower) (r : Returns k n 
       moved-over (moved-sum (common .still) 878 1087 n sideBits (side-bits (r .few)) (lit≤ tt) (omega arith) 930 (nth (m .mean)) (nth (m .mean)) μ-moved) (count-moved sideBits n (lit≤ tt) (side-bits (r .few))) (count-pos n (r .assets) (le-trans (r .few) (lit≤ tt)))
       821 1092 (lit≤ tt) (lit≤ tt) (omega arith)
 
-  towards-moved : (α : Float) → Range 622 (2 ^ 674) (2 ^ 1074) α → (i : ℕ) → i < n → Moved (common .still) 369 369 1094 (towards α (centre n (found P n x)) (nth (found P n x .mean) i)) (towards α (centre n (found P n x)) (nth (found P n x .mean) i))
+  towards-moved : (α : Float) → MeanIntensity α → (i : ℕ) → i < n → Moved (common .still) 369 369 1094 (towards α (centre n (found P n x)) (nth (found P n x .mean) i)) (towards α (centre n (found P n x)) (nth (found P n x .mean) i))
   unfolding towards
   towards-moved α a i l =
       let few = common .few in
       let μ = μ-moved i l in
       let d = moved-sub (moved-weaken 821 821 1092 (lit≤ tt) (lit≤ tt) (lit≤ tt) centre-moved) (moved-weaken 821 821 1092 (lit≤ tt) (lit≤ tt) (lit≤ tt) μ) (omega arith) in
-      let p = rw (zero-add (common .still)) at (moved-mul (still 674 1074 a) d 369 369 1093 (lit≤ tt) (lit≤ tt) (lit≤ tt) (omega arith)) in
+      let p = rw (zero-add (common .still)) at (moved-mul (still meanLeast 1074 a) d 369 369 1093 (lit≤ tt) (lit≤ tt) (lit≤ tt) (omega arith)) in
       moved-add (moved-weaken 369 369 1093 (lit≤ tt) (lit≤ tt) (lit≤ tt) μ) p (omega arith)
 
   -- a number found from the moments, scaled back
@@ -171,7 +175,7 @@ module _ {k n P : ℕ} {x y : Matrix} (small : k ≤ maxPower) (r : Returns k n 
         means = λ i l. let b = one i l (pull-range limit n m a) in (b .0, ap (λ (m : Moments). pow2Scaled (moved limit n m i) (binaryExponent (amax P n y))) same ∙ b .1);
       }
     where
-      one : (i : ℕ) → i < n → (pull limit n (found P n x) ≡ nan) ⊎ Range 622 (2 ^ 674) (2 ^ 1074) (pull limit n (found P n x))
+      one : (i : ℕ) → i < n → (pull limit n (found P n x) ≡ nan) ⊎ MeanIntensity (pull limit n (found P n x))
           → T (fits binary64 (pow2Scaled (moved limit n (found P n x) i) (binaryExponent (amax P n x)))) × (pow2Scaled (moved limit n (found P n x) i) (binaryExponent (amax P n y)) ≡ shift (pos k) (pow2Scaled (moved limit n (found P n x) i) (binaryExponent (amax P n x))))
       one i l (inr q) = back (towards-moved (pull limit n m) q i l) (lit≤ tt) (lit≤ tt)
       one i l (inl q) = nothing (moved limit n m i) (unfold towards mul in (ap (λ (z : Float). nth (m .mean) i ⊕ z ⊗ (centre n m ⊖ nth (m .mean) i)) q ∙ nan-add (nth (m .mean) i) nan (inr refl)))

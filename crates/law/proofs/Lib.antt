@@ -8,7 +8,6 @@ pub mod Sizes
 pub mod Opening
 pub mod Matrices
 pub mod LedoitWolf
-pub mod Settings
 pub mod Given
 pub mod Correlation
 pub mod Shrinkage

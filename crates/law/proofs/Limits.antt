@@ -19,6 +19,7 @@ use Rattle.estimators.specs.JamesStein.{unevenness, decomposeUneven}
 use Rattle.estimators.specs.Adjusted.{decompositionOf, adjusted}
 use Rattle.estimators.specs.Order.{opening, sweepLimit, ofGiven, ofSettings}
 use Rattle.estimators.specs.Calls.{adjustedCovariance, jamesSteinMean, bayesSteinMean}
+use Rattle.estimators.specs.Settings.{settings}
 use Rattle.estimators.specs.declared.Field.the-variants.{SweepLimitField}
 use Rattle.estimators.specs.declared.Estimate.{Estimate}
 use Rattle.estimators.specs.declared.Estimate.the-variants.{Sample, Given, Weighted, Semi, SemiBelow}
@@ -29,7 +30,6 @@ use Rattle.estimators.specs.declared.Refusal.the-variants.{BadSetting, NotDecom
 use Rattle.estimators.proofs.Firsts.{pass-cons, pass-append}
 use Rattle.law.specs.Law as Law
 use Rattle.law.specs.Law.{Question, ask}
-use Rattle.law.proofs.Settings.{sets}
 use Rattle.law.proofs.Columns.{C, found, taken}
 use Rattle.law.proofs.Chain.{pass-must}
 use Rattle.law.proofs.Passing.{Accepted, all-pass}
@@ -99,13 +99,13 @@ module _ (r : List Float) (n P : ℕ) (slice : List Float) where
 
 -- ---- the adjusted covariance
 abbrev pub limited : Settings → ℕ → Settings
-limited s limit = sets (s .estimate) (s .shrinkage) (s .regularization) limit
+limited s limit = settings (s .estimate) (s .shrinkage) (s .regularization) limit
 
 after : {c c' : Check} {cs : List Check} → c' ≡ c → (c' ∷ cs) ≡ (c ∷ cs)
 after {cs = cs} e = ap (λ (c : Check). c ∷ cs) e
 
 module _ (S : Shrinkage) (H : Regularization) (given : List Float) (side : ℕ) where
-  given-checks : (E : Estimate) (limit limit′ : ℕ) (d : Decomposition) → sweepLimit limit′ ≡ sweepLimit limit → ofGiven (sets E S H limit′) given side d ≡ ofGiven (sets E S H limit) given side d
+  given-checks : (E : Estimate) (limit limit′ : ℕ) (d : Decomposition) → sweepLimit limit′ ≡ sweepLimit limit → ofGiven (settings E S H limit′) given side d ≡ ofGiven (settings E S H limit) given side d
   unfolding ofGiven
   given-checks Sample limit limit′ d e = refl
   given-checks Given limit limit′ d e = after e
@@ -113,8 +113,8 @@ module _ (S : Shrinkage) (H : Regularization) (given : List Float) (side : ℕ) 
   given-checks Semi limit limit′ d e = refl
   given-checks (SemiBelow threshold) limit limit′ d e = refl
 
-  given-same : (E : Estimate) (limit limit′ : ℕ) (g : Matrix) → limit ≤ limit′ → first (ofGiven (sets E S H limit) given side (decompositionOf (sets E S H limit) side g)) ≡ passes
-      → decompositionOf (sets E S H limit′) side g ≡ decompositionOf (sets E S H limit) side g
+  given-same : (E : Estimate) (limit limit′ : ℕ) (g : Matrix) → limit ≤ limit′ → first (ofGiven (settings E S H limit) given side (decompositionOf (settings E S H limit) side g)) ≡ passes
+      → decompositionOf (settings E S H limit′) side g ≡ decompositionOf (settings E S H limit) side g
   unfolding ofGiven decompositionOf
   given-same Sample limit limit′ g l h = refl
   given-same Given limit limit′ g l h =

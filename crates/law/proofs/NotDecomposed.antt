@@ -12,14 +12,15 @@ use Rattle.leaves.specs.Numbers.{_⊗_, zero⁺, one, isFinite}
 use Rattle.leaves.specs.Loops.{firstTo}
 use Rattle.matrix.specs.Limits.{maxSide, maxSweeps}
 use Rattle.matrix.specs.Matrix.{Matrix, at, amax, trace, averaged, firstEntry, allFinite}
-use Rattle.matrix.specs.Jacobi.{Decomposition, unturned}
+use Rattle.matrix.specs.Jacobi.{Decomposition, smallestValue, unturned}
 use Rattle.estimators.specs.Refusals.{number, Check, passes, refuses, when, whenSome, first}
 use Rattle.estimators.specs.Sample.{covariance, largest, constantAsset}
 use Rattle.estimators.specs.Weighted.{logDecay, accepted}
-use Rattle.estimators.specs.Given.{asymmetry, decomposeGiven, smallest, indefinite}
+use Rattle.estimators.specs.Given.{asymmetry, decomposeGiven, indefinite}
 use Rattle.estimators.specs.Adjusted.{isSample, isGiven, decompositionOf, intensity, isAdjusted}
 use Rattle.estimators.specs.Order.{maxPeriods, notFinite, opening, sweepLimit, ofGiven, badRegularization, badShrinkage, badHalfLife, badEstimate, notTheSample, noCorrelation, noVariance, ofSettings}
 use Rattle.estimators.specs.Calls.{Answered, settle, adjustedCovariance}
+use Rattle.estimators.specs.Settings.{settings}
 use Rattle.estimators.specs.declared.Estimate.{Estimate}
 use Rattle.estimators.specs.declared.Estimate.the-variants.{Sample, Given, Weighted, Semi, SemiBelow}
 use Rattle.estimators.specs.declared.Target.the-variants.{ConstantVariance, ConstantCorrelation}
@@ -33,7 +34,6 @@ use Rattle.estimators.specs.declared.Refusal.{Refusal}
 use Rattle.estimators.specs.declared.Refusal.the-variants.{NoAssets, TooLarge, TooFewPeriods, WrongLength, NotFinite, CovarianceNotFinite, BadSetting, NotTheSample, ZeroVariance, WrongSide, Asymmetric, Indefinite, NotDecomposed, Singular}
 use Rattle.estimators.specs.declared.Answer.{Answer}
 use Rattle.estimators.specs.declared.Answer.the-variants.{Refused, Covariance, Intensity, Mean, Shrunk}
-use Rattle.law.proofs.Settings.{sets}
 use Rattle.law.proofs.Diagonal.{Diagonal, given-diagonal}
 use Rattle.law.proofs.Calls.{averages, estimated, covariances, ofAnswer, covariance-is}
 
@@ -85,11 +85,11 @@ opening-avoids r n P needed slice = (
   ),
 )
 
-given-avoids : (E : Estimate) (S : Shrinkage) (H : Regularization) (limit : ℕ) (g : List Float) (side : ℕ) (d : Decomposition) → (isGiven E ≡ true → d .found ≡ true) → AllAvoid (ofGiven (sets E S H limit) g side d)
+given-avoids : (E : Estimate) (S : Shrinkage) (H : Regularization) (limit : ℕ) (g : List Float) (side : ℕ) (d : Decomposition) → (isGiven E ≡ true → d .found ≡ true) → AllAvoid (ofGiven (settings E S H limit) g side d)
 unfolding ofGiven
 given-avoids Sample S H limit g side d h = tt
 given-avoids Given S H limit g side d h =
-    (limit-avoids limit, (test (eqb side 0) NoAssets refl, (test (ltb maxSide side) TooLarge refl, (test (not (eqb (length g) (side * side))) (WrongSide side) refl, (finite side side (at g side), (search (asymmetry side (at g side)) (λ p. Asymmetric (p .0) (p .1)) (λ p. refl), (decided (d .found) (h refl), (test (indefinite side d) (Indefinite (smallest side d ⊗ amax side side (averaged (at g side)))) refl, tt))))))))
+    (limit-avoids limit, (test (eqb side 0) NoAssets refl, (test (ltb maxSide side) TooLarge refl, (test (not (eqb (length g) (side * side))) (WrongSide side) refl, (finite side side (at g side), (search (asymmetry side (at g side)) (λ p. Asymmetric (p .0) (p .1)) (λ p. refl), (decided (d .found) (h refl), (test (indefinite side d) (Indefinite (smallestValue side d ⊗ amax side side (averaged (at g side)))) refl, tt))))))))
   where
     decided : (b : Bool) → b ≡ true → Avoids (when (not b) NotDecomposed)
     decided true e = tt

@@ -1,33 +1,31 @@
 -- The checks that open every call, of returns in range and of the same returns times 2 ^ k: the shapes and lengths are equal, and returns in range, with their covariance, are finite. So both runs
 -- refuse alike, or both go on with returns of the granted sizes, the second's each 2 ^ k times the first's. Assumes nothing.
 use mathlib.Core.Path.{_≡_, refl, sym, ap, ap₂, _∙_}
-use Prim.Native.Nat.{ℕ, _+_, _-_, _*_, _≤_, _<_}
+use Prim.Native.Nat.{ℕ, _+_, _-_, _*_, _≤_, _<_, zero-le}
 use native.Mathlib.Nat.{le-of-eq, lt-of-lt-of-le}
 use native.Mathlib.Omega.{arith}
-use mathlib.Core.Bool.{true, false, not, _||_}
-use mathlib.Mathlib.Data.Bool.Basic.{or-eq-false-eq-eq-false-and-eq-false}
+use mathlib.Core.Bool.{true, not}
 use mathlib.Core.List.{List, [], _++_, map}
 use mathlib.Core.Option.{Option}
-use lib.Dec.{T, eqb, ltb, lit≤}
+use lib.Dec.{lit≤}
 use lib.IntN.{ℤ, pos}
 use lib.ListN.{length, getD, length-map, List·getD-map}
 use lib.Ieee.{Float, nan}
-use borrow.Author.Tests.{ltb-false, eqb-true, eqb-false, eq-eqb, not-false}
 use Rattle.leaves.specs.Numbers.{isFinite}
 use Rattle.leaves.specs.Shift.{shift}
 use Rattle.leaves.proofs.Loops.{cell}
 use Rattle.leaves.proofs.Shift.{isFinite-shift, shift-nan}
 use Rattle.leaves.proofs.Operations.{Moved}
-use Rattle.matrix.specs.Limits.{maxSide}
 use Rattle.matrix.specs.Matrix.{Matrix, at, allFinite}
 use Rattle.matrix.proofs.Alike.{finite-same, first-entry-alike}
 use Rattle.estimators.specs.Refusals.{Check, passes, whenSome, first}
 use Rattle.estimators.specs.Sample.{covariance}
-use Rattle.estimators.specs.Order.{maxPeriods, notFinite, opening}
-use Rattle.estimators.specs.declared.Refusal.the-variants.{NoAssets, TooLarge, TooFewPeriods, WrongLength, NotFinite, CovarianceNotFinite}
+use Rattle.estimators.specs.Order.{notFinite, byShape, Shaped, opening}
+use Rattle.estimators.specs.declared.Refusal.the-variants.{NotFinite, CovarianceNotFinite}
+use Rattle.estimators.proofs.Shapes.{shape-passes, opened}
 use Rattle.law.specs.Law.{All, Sized, maxPower, returnRange}
 use Rattle.law.proofs.Bits.{returnGrain, returnLeast, returnMost}
-use Rattle.law.proofs.Chain.{Chain, chain-same, chain-test, chain-must}
+use Rattle.law.proofs.Chain.{Chain, chain-same, chain-must, chain-equal}
 use Rattle.law.proofs.Sizes.{all-at, sized-range}
 use Rattle.law.proofs.Sample.{Returns, covariance-moved}
 
@@ -45,12 +43,8 @@ entries-same k l m n = ap (λ (o : Option (ℕ × ℕ)). whenSome o (λ p. NotFi
     (first-entry-alike m n (λ i j. not (isFinite (at (map (shift (pos k)) l) n i j))) (λ i j. not (isFinite (at l n i j))) (λ i j a b. ap not (ap isFinite (at-copy (pos k) l n i j) ∙ isFinite-shift (pos k) (at l n i j))))
 
 -- ---- the shapes that are accepted
-pub record Shape (r : List Float) (n T : ℕ) : Type 0 where
-  pub assets : 0 < n
-  pub few : n ≤ maxSide
-  pub periods : 2 ≤ T
-  pub most : T ≤ maxPeriods
-  pub full : length r ≡ T * n
+abbrev pub Shape : List Float → ℕ → ℕ → Type 0
+Shape r n T = Shaped (length r) n T
 
 module _ (k : ℕ) (small : k ≤ maxPower) (r : List Float) (sizes : All (Sized returnRange) r) (n T : ℕ) where
   abbrev r' : List Float
@@ -63,13 +57,13 @@ module _ (k : ℕ) (small : k ≤ maxPower) (r : List Float) (sizes : All (Sized
   y = at (map (shift (pos k)) r) n
 
   pub returns : Shape r n T → Returns k n T returnGrain returnLeast returnMost (at r n) (at (map (shift (pos k)) r) n)
-  returns s = record {
-    assets = s .assets;
-    few = s .few;
-    periods = s .periods;
-    most = s .most;
+  returns (assets, few, periods, most, full) = record {
+    assets = assets;
+    few = few;
+    periods = periods;
+    most = most;
     entries = λ t i a b.
-        let in-r : t * n + i < length r = lt-of-lt-of-le (cell t T i n a b) (le-of-eq (sym (s .full))) in
+        let in-r : t * n + i < length r = lt-of-lt-of-le (cell t T i n a b) (le-of-eq (sym full)) in
         sized-moved k returnRange (lit≤ tt) (at r n t i) (at r' n t i) (all-at (Sized returnRange) r (t * n + i) sizes in-r) (at-copy (pos k) r n t i);
   }
 
@@ -84,23 +78,12 @@ module _ (k : ℕ) (small : k ≤ maxPower) (r : List Float) (sizes : All (Sized
       → (Shape r n T → ((ds : List Check) → first (opening r n T 0 [] ++ ds) ≡ first ds) → Chain P cs cs') → Chain P (opening r n T needed slice ++ cs) (opening (map (shift (pos k)) r) n T needed slice' ++ cs')
   unfolding opening first
   opening-chain needed slice slice' e then =
-      chain-test (eqb n 0) NoAssets refl (λ e₁.
-      chain-test (ltb maxSide n || ltb maxPeriods T) TooLarge refl (λ e₂.
-      chain-test (ltb T 2) (TooFewPeriods T) refl (λ e₃.
-      chain-test (not (eqb (length r) (T * n)) || ltb (length slice) needed) WrongLength (ap₂ (λ (u v : ℕ). not (eqb u (T * n)) || ltb v needed) (length-map r (shift (pos k))) e) (λ e₄.
-      let large = or-eq-false-eq-eq-false-and-eq-false (ltb maxSide n) (ltb maxPeriods T) .0 e₂ in
-      let long = or-eq-false-eq-eq-false-and-eq-false (not (eqb (length r) (T * n))) (ltb (length slice) needed) .0 e₄ in
-      let s : Shape r n T = record {
-        assets = (let z = eqb-false n 0 e₁ in omega arith);
-        few = ltb-false maxSide n (large .0);
-        periods = ltb-false T 2 e₃;
-        most = ltb-false maxPeriods T (large .1);
-        full = eqb-true (length r) (T * n) (not-false (eqb (length r) (T * n)) (long .0));
-      } in
-      chain-same (notFinite T n (at r n)) (entries-same k r T n) (λ e₅.
-      chain-must (allFinite n n (covariance T (at r n))) CovarianceNotFinite (covariance-same s) (λ e₆. then s (opens e₁ e₂ e₃ (s .full) e₅ e₆)))))))
+      let lengths = ap₂ (λ (l room : ℕ). byShape l n T needed room) (length-map r (shift (pos k))) e in
+      chain-equal (byShape (length r) n T needed (length slice)) lengths (λ e₁.
+      let s = shape-passes (length r) n T needed (length slice) e₁ refl .0 in
+      chain-same (notFinite T n (at r n)) (entries-same k r T n) (λ e₂.
+      chain-must (allFinite n n (covariance T (at r n))) CovarianceNotFinite (covariance-same s) (λ e₃. then s (opens s e₂ e₃))))
     where
       -- it passes too where no slice is asked for
-      opens : eqb n 0 ≡ false → (ltb maxSide n || ltb maxPeriods T) ≡ false → ltb T 2 ≡ false → length r ≡ T * n → notFinite T n (at r n) ≡ passes → allFinite n n (covariance T (at r n)) ≡ true
-          → (ds : List Check) → first (opening r n T 0 [] ++ ds) ≡ first ds
-      opens e₁ e₂ e₃ e e₅ e₆ ds = rw (e₁, e₂, e₃, e, eq-eqb (T * n) (T * n) refl, e₅, e₆)
+      opens : Shape r n T → notFinite T n (at r n) ≡ passes → allFinite n n (covariance T (at r n)) ≡ true → (ds : List Check) → first (opening r n T 0 [] ++ ds) ≡ first ds
+      opens s e₂ e₃ ds = opened r n T 0 [] ds s zero-le ∙ rw (e₂, e₃)

@@ -2,8 +2,8 @@
 -- covariance that is accepted is finite in every entry and has a trace other than 0. Assumes nothing.
 use mathlib.Core.Path.{_≡_, refl, sym, ap, _∙_, subst}
 use Prim.Native.Nat.{ℕ, _+_, _*_, _≤_, _<_}
-use mathlib.Core.Bool.{true, false}
-use mathlib.Core.List.{List, _++_}
+use mathlib.Core.Bool.{true, false, not}
+use mathlib.Core.List.{List, [], _∷_, _++_}
 use lib.ListN.{length, drop}
 use lib.Seq.{drop-at}
 use lib.Ieee.{Float, nan, eq}
@@ -13,9 +13,9 @@ use Rattle.leaves.proofs.Loops.{cell, length-tab, length-fill, fill-at}
 use Rattle.matrix.specs.Matrix.{Matrix, at, trace, allFinite}
 use Rattle.matrix.specs.Jacobi.{Decomposition}
 use Rattle.matrix.proofs.Alike.{trace-alike, finite-all}
-use Rattle.estimators.specs.Refusals.{Check, passes, refuses, first}
-use Rattle.estimators.specs.Adjusted.{decompositionOf, intensity, adjusted}
-use Rattle.estimators.specs.Order.{opening, ofGiven, ofSettings, adjustedOrder, weightedOrder, jamesSteinOrder, bayesSteinOrder}
+use Rattle.estimators.specs.Refusals.{Check, passes, refuses, when, first}
+use Rattle.estimators.specs.Adjusted.{decompositionOf, intensity, adjusted, isAdjusted}
+use Rattle.estimators.specs.Order.{opening, ofGiven, noVariance, bySettings, byAnswer, byEstimate, ofSettings, adjustedOrder, weightedOrder, jamesSteinOrder, bayesSteinOrder}
 use Rattle.estimators.specs.Calls.{Answered, answered, settle, adjustedCovariance, exponentiallyWeightedMean, jamesSteinMean, bayesSteinMean}
 use Rattle.estimators.specs.declared.Settings.{Settings}
 use Rattle.estimators.specs.declared.Refusal.{Refusal}
@@ -78,7 +78,7 @@ kept r n P (Law.weightedMean halfLife) old = opened-kept r n P n old _ _ _ (λ z
 kept r n P (Law.jamesStein limit) old = opened-kept r n P n old _ _ _ (λ z. z)
 kept r n P (Law.bayesStein limit) old = opened-kept r n P n old _ _ _ (λ z. z)
 
--- ---- demand 1
+-- ---- an accepted covariance can be used
 pub record Usable (n : ℕ) (x : List Float) : Type 0 where
   pub finite : (i j : ℕ) → i < n → j < n → isFinite (at x n i j) ≡ true
   pub traced : eq (trace n (at x n)) zero⁺ ≡ false
@@ -86,16 +86,10 @@ pub record Usable (n : ℕ) (x : List Float) : Type 0 where
 last-checks : (s : Settings) (δ : Float) (P n side : ℕ) (x b a : Matrix) → first (ofSettings s δ P n side x b a) ≡ passes → (allFinite n n a ≡ true) × (eq (trace n a) zero⁺ ≡ false)
 unfolding ofSettings
 last-checks s δ P n side x b a h =
-    let h₁ = pass-cons _ _ h in
-    let h₂ = pass-cons _ _ (h₁ .1) in
-    let h₃ = pass-cons _ _ (h₂ .1) in
-    let h₄ = pass-cons _ _ (h₃ .1) in
-    let h₅ = pass-cons _ _ (h₄ .1) in
-    let h₆ = pass-cons _ _ (h₅ .1) in
-    let h₇ = pass-cons _ _ (h₆ .1) in
-    let h₈ = pass-cons _ _ (h₇ .1) in
-    let h₉ = pass-cons _ _ (h₈ .1) in
-    (pass-must (allFinite n n a) CovarianceNotFinite (h₈ .0), pass-test (eq (trace n a) zero⁺) Singular (h₉ .0))
+    let own = pass-append (bySettings s P n side x) (byEstimate s δ P n x b a) h .1 in
+    let answer = pass-cons (noVariance (isAdjusted δ (s .regularization)) (s .estimate) P n x b) (byAnswer n a) own .1 in
+    let finite = pass-cons (when (not (allFinite n n a)) CovarianceNotFinite) (when (eq (trace n a) zero⁺) Singular ∷ []) answer in
+    (pass-must (allFinite n n a) CovarianceNotFinite (finite .0), pass-test (eq (trace n a) zero⁺) Singular (pass-cons (when (eq (trace n a) zero⁺) Singular) [] (finite .1) .0))
 
 usable : (n : ℕ) (a old : List Float) → allFinite n n (at a n) ≡ true → eq (trace n (at a n)) zero⁺ ≡ false → Usable n (fill (n * n) (nth a) old)
 usable n a old f t =

@@ -10,7 +10,7 @@ use mathlib.Core.List.{List}
 use lib.Dec.{T, lit≤}
 use lib.IntN.{ℤ, pos, negℤ, _+ℤ_, _-ℤ_}
 use lib.Pow.{pow-add, pow-pos, pow-mono}
-use lib.Ieee.{Float, nan, inf, fin, binary64, fits, le, lt, add, mul, size}
+use lib.Ieee.{Float, nan, inf, fin, binary64, fits, le, lt, add, mul}
 use lib.Ieee.Fits.{mul-fits, div-fits}
 use Rattle.leaves.specs.Numbers.{_⊕_, _⊖_, _⊗_, _⊘_, zero⁺, one, two, 1e-10, count, isFinite, max0}
 use Rattle.leaves.specs.Loops.{sumTo, nth}
@@ -27,6 +27,7 @@ use Rattle.leaves.proofs.Arithmetic.{mul-finite}
 use Rattle.leaves.proofs.Range.{Range, range-value, range-size}
 use Rattle.leaves.proofs.Operations.{Moved, still, moved-weaken, moved-add, moved-sub, moved-mul}
 use Rattle.leaves.proofs.Signs.{sign-mul, sign-count}
+use Rattle.leaves.proofs.Scale.{pow2-fits}
 use Rattle.leaves.proofs.PowersOfTwo.{range-move, scaled-moves, shift-null, exponent-range, fits-move, scaled-copy}
 use Rattle.matrix.specs.Limits.{maxSweeps, maxSide}
 use Rattle.matrix.specs.Matrix.{Matrix, at, amax}
@@ -35,19 +36,18 @@ use Rattle.matrix.proofs.Alike.{decompose-cases}
 use Rattle.matrix.proofs.Turn.{Limit}
 use Rattle.matrix.proofs.Vectors.{Small, vectors-small}
 use Rattle.estimators.specs.Moments.{Moments, moments}
-use Rattle.estimators.specs.BayesStein.{singular, commonExponent, gathered, project, form, bayesSteinPull, pulled}
+use Rattle.estimators.specs.BayesStein.{singular, commonExponent, gathered, project, form, ratioOf, distanceOf, intensityAt, bayesSteinPull, pulled}
 use borrow.Author.Tests.{ne-eqb}
 use Rattle.leaves.proofs.Zero.{not-above}
-use Rattle.leaves.proofs.Laws.{room→fits}
 use Rattle.law.specs.Law.{AtLeast, maxPower, meanRange, returnRange}
-use Rattle.law.proofs.Bits.{returnGrain, returnLeast, returnMost}
+use Rattle.law.proofs.Bits.{returnGrain, returnLeast, returnMost, meanGrain, meanLeast}
 use Rattle.law.proofs.Sizes.{pow2-val, at-least}
 use Rattle.law.proofs.Sample.{Returns}
 use Rattle.law.proofs.Scaled.{scaled-fits, nan-scaled, sign-scaled, scaled-range, lead}
 use Rattle.law.proofs.Shrinkage.{one-moved}
 use Rattle.law.proofs.Weighted.{sum-fits}
-use Rattle.law.proofs.JamesStein.{unit-range}
-use Rattle.law.proofs.Share.{max0-plus, intensityOf, share-unit}
+use Rattle.law.proofs.JamesStein.{unit-range, MeanIntensity}
+use Rattle.law.proofs.Share.{max0-plus, share-unit}
 use Rattle.law.proofs.Common.{LeZ, common-in, common-above, common-lower}
 use Rattle.law.proofs.Tied.{one-step, inf-scaled, tied}
 use Rattle.law.proofs.Ratio.{product-is, sum-finite, sum-most, ratio-most}
@@ -124,10 +124,6 @@ project-most limit n a few short z each e l F =
     vector x (inl z) f = absurd (unfold isFinite in subst (λ (y : Float). T (isFinite y)) z f)
     vector x (inr r) f = (r .fit, le-trans (r .most) (unfold Limit in le-refl Limit))
 
-pow2-fits : (j : ℤ) → over j ≤ 108 → under j ≤ 240 → T (fits binary64 (pow2 j))
-unfolding size
-pow2-fits j a b = room→fits false 0 j (record { odd = refl; digits = lit≤ tt; low = le-trans b (lit≤ tt); high = omega arith })
-
 -- ---- what a call that does not refuse has seen
 pub record Passed (limit n : ℕ) (m : Moments) (s : ℕ → Float) : Type 0 where
   pub limited : limit ≤ maxSweeps
@@ -153,24 +149,19 @@ ones n m e = gathered n (inverse n m) (λ i. negℤ (e i)) (aOf n m e)
 abbrev means : ℕ → Moments → List Float
 means n m = gathered n (share n m) (λ i. pos 0) (bOf n m)
 
-abbrev ratio : ℕ → Decomposition → List Float → List Float → Float
-ratio n d x y = form n d (project n d (nth x)) (project n d (nth y)) ⊘ form n d (project n d (nth x)) (project n d (nth x))
-
 abbrev distance : ℕ → Decomposition → Float → List Float → List Float → ℤ → Float
-distance n d P x y b =
-    let q = project n d (λ i. nth y i ⊖ ratio n d x y ⊗ nth x i) in
-    P ⊗ pow2Scaled (max0 (form n d q q)) (b +ℤ b)
+distance n d P x y b = P ⊗ pow2Scaled (max0 (distanceOf n d x y (ratioOf n d x y))) (b +ℤ b)
 
 pull-is : (limit n : ℕ) (m : Moments) (e : ℕ → ℤ) → let d = taken limit n m in
-    (pull limit n m e .intensity ≡ intensityOf n (distance n d (m .periods) (ones n m e) (means n m) (bOf n m))) × (pull limit n m e .target ≡ pow2Scaled (ratio n d (ones n m e) (means n m)) (bOf n m -ℤ aOf n m e))
+    (pull limit n m e .intensity ≡ intensityAt n (distance n d (m .periods) (ones n m e) (means n m) (bOf n m))) × (pull limit n m e .target ≡ pow2Scaled (ratioOf n d (ones n m e) (means n m)) (bOf n m -ℤ aOf n m e))
 unfolding bayesSteinPull
 pull-is limit n m e = (refl, refl)
 
 -- the intensity, not below 0 and not above 1
 distance-plus : (n : ℕ) (d : Decomposition) (P : Float) (x y : List Float) (b : ℤ) → sign P ≡ false → sign (distance n d P x y b) ≡ false
 distance-plus n d P x y b h =
-    let q = project n d (λ i. nth y i ⊖ ratio n d x y ⊗ nth x i) in
-    sign-mul P (pow2Scaled (max0 (form n d q q)) (b +ℤ b)) (h ∙ sym (sign-scaled (max0 (form n d q q)) (b +ℤ b) (max0-plus (form n d q q))))
+    let z = distanceOf n d x y (ratioOf n d x y) in
+    sign-mul P (pow2Scaled (max0 z) (b +ℤ b)) (h ∙ sym (sign-scaled (max0 z) (b +ℤ b) (max0-plus z)))
 
 pub pull-unit : (limit n : ℕ) (m : Moments) (e : ℕ → ℤ) → n ≤ maxSide → sign (m .periods) ≡ false → (lt (pull limit n m e .intensity) zero⁺ ≡ false) × (lt one (pull limit n m e .intensity) ≡ false)
 pull-unit limit n m e few h =
@@ -180,7 +171,7 @@ pull-unit limit n m e few h =
 -- the ratio of a decomposition that passes the test, for vectors below 2 in size
 ratio-small : (limit n : ℕ) (a : Matrix) → 0 < n → n ≤ maxSide → limit ≤ maxSweeps → singular n (decompose limit n a) ≡ false → (x y : List Float)
     → ((i : ℕ) → i < n → T (fits binary64 (nth y i)) × T (isFinite (nth y i)) × (mag (nth y i) ≤ 2 ^ 1075))
-    → T (isFinite (ratio n (decompose limit n a) x y)) → mag (ratio n (decompose limit n a) x y) ≤ 2 ^ 1983
+    → T (isFinite (ratioOf n (decompose limit n a) x y)) → mag (ratioOf n (decompose limit n a) x y) ≤ 2 ^ 1983
 unfolding form singular
 ratio-small limit zero a p few short test x y hy F = absurd (lt-irrefl 0 p)
 ratio-small limit (suc n) a p few short test x y hy F =
@@ -242,7 +233,7 @@ module _ {k n P : ℕ} {x y : Matrix} (small : k ≤ maxPower) (r : Returns k n 
       rw (nth-tab n (λ i. pow2Scaled (share n m' i) (pos 0 -ℤ b)) i nan l) (scaled-fits z j, q .0, q .1)
 
   abbrev R : Float
-  R = ratio n (taken limit n (found P n x)) (ones n (found P n x) (exps P n x)) (means n (found P n x))
+  R = ratioOf n (taken limit n (found P n x)) (ones n (found P n x) (exps P n x)) (means n (found P n x))
 
   R-small : T (isFinite R) → mag R ≤ 2 ^ 1983
   R-small = ratio-small limit n (C n m') (r .assets) (r .few) (p .limited) (p .regular) (ones n m' e) (means n m') means-small
@@ -269,7 +260,7 @@ module _ {k n P : ℕ} {x y : Matrix} (small : k ≤ maxPower) (r : Returns k n 
   target-is = pull-is limit n m' e .1
 
   target'-is : pull limit n (found P n x) (exps P n y) .target ≡ pow2Scaled R (S +ℤ pos k)
-  target'-is = pull-is limit n m' f .1 ∙ ap₂ (λ (o : List Float) (j : ℤ). pow2Scaled (ratio n d o (means n m')) j) ones-same S-moves
+  target'-is = pull-is limit n m' f .1 ∙ ap₂ (λ (o : List Float) (j : ℤ). pow2Scaled (ratioOf n d o (means n m')) j) ones-same S-moves
 
   endless : (s : Bool) → shift (pos k) (inf s) ≡ inf s
   endless s = unfold shift in refl
@@ -292,18 +283,18 @@ module _ {k n P : ℕ} {x y : Matrix} (small : k ≤ maxPower) (r : Returns k n 
   target-moved a b = target'-is ∙ scaled-moved R refl (subst (AtLeast meanRange) target-is a) (subst (AtLeast meanRange) target'-is b) ∙ ap (shift (pos k)) (sym target-is)
 
   -- a finite target's range: 0, or from 2 ^ -400, and not so large that it overflows in either run
-  target-range : AtLeast meanRange (pull limit n (found P n x) (exps P n x) .target) → T (isFinite (pull limit n (found P n x) (exps P n x) .target)) → Range 622 (2 ^ 674) (2 ^ (2091 - k)) (pull limit n (found P n x) (exps P n x) .target)
+  target-range : AtLeast meanRange (pull limit n (found P n x) (exps P n x) .target) → T (isFinite (pull limit n (found P n x) (exps P n x) .target)) → Range meanGrain (2 ^ meanLeast) (2 ^ (2091 - k)) (pull limit n (found P n x) (exps P n x) .target)
   target-range a F = rw target-is (go (subst (AtLeast meanRange) target-is a) (subst (λ (z : Float). T (isFinite z)) target-is F))
     where
-      go : AtLeast meanRange (pow2Scaled R S) → T (isFinite (pow2Scaled R S)) → Range 622 (2 ^ 674) (2 ^ (2091 - k)) (pow2Scaled R S)
+      go : AtLeast meanRange (pow2Scaled R S) → T (isFinite (pow2Scaled R S)) → Range meanGrain (2 ^ meanLeast) (2 ^ (2091 - k)) (pow2Scaled R S)
       go a F =
           let c = S-small in
           let e = one-step R S (le-trans (c .0) (lit≤ tt)) (le-trans (c .1) (lit≤ tt)) in
           let q = mul-finite R (pow2 S) (subst (λ (z : Float). T (isFinite z)) e F) in
           let w = pow2-val S (1074 + over S - under S) (omega arith) in
-          let most : mag (pow2Scaled R S) ≤ 2 ^ (2091 - k) = rw (e, product-is R (pow2 S) R-fits (pow2-fits S (c .0) (c .1)) (subst (λ (z : Float). T (isFinite z)) e F), val-mag (pow2 S) false (2 ^ (1074 + over S - under S)) w .1)
+          let most : mag (pow2Scaled R S) ≤ 2 ^ (2091 - k) = rw (e, product-is R (pow2 S) R-fits (pow2-fits S (le-trans (c .0) (lit≤ tt)) (le-trans (c .1) (lit≤ tt))) (subst (λ (z : Float). T (isFinite z)) e F), val-mag (pow2 S) false (2 ^ (1074 + over S - under S)) w .1)
           (near-most (mag R * 2 ^ (1074 + over S - under S)) U (2 ^ (2091 - k)) U-pos (held-pow (2091 - k)) (le-trans (mul-le-mul-right (2 ^ (1074 + over S - under S)) (R-small (q .0))) (powers (over S) (under S) room))) in
-          range-size 622 (2 ^ (2091 - k)) (pow2Scaled R S) (scaled-fits R S) F (at-least meanRange (lit≤ tt) (pow2Scaled R S) (mag-val (pow2Scaled R S) (scaled-fits R S) F) a) most
+          range-size meanGrain (2 ^ (2091 - k)) (pow2Scaled R S) (scaled-fits R S) F (at-least meanRange (lit≤ tt) (pow2Scaled R S) (mag-val (pow2Scaled R S) (scaled-fits R S) F) a) most
         where
           room : over S + k ≤ 108 + under S
           room = unfold over under in omega (arith, plus S (pos k), one-side (S +ℤ pos k), S'-small)
@@ -316,22 +307,22 @@ module _ {k n P : ℕ} {x y : Matrix} (small : k ≤ maxPower) (r : Returns k n 
   α = pull limit n (found P n x) (exps P n x) .intensity
 
   pub intensity-same : pull limit n (found P n x) (exps P n y) .intensity ≡ pull limit n (found P n x) (exps P n x) .intensity
-  intensity-same = pull-is limit n m' f .0 ∙ ap (λ (o : List Float). intensityOf n (distance n d (m' .periods) o (means n m') (bOf n m'))) ones-same ∙ sym (pull-is limit n m' e .0)
+  intensity-same = pull-is limit n m' f .0 ∙ ap (λ (o : List Float). intensityAt n (distance n d (m' .periods) o (means n m') (bOf n m'))) ones-same ∙ sym (pull-is limit n m' e .0)
 
-  intensity-range : AtLeast meanRange (pull limit n (found P n x) (exps P n x) .intensity) → (pull limit n (found P n x) (exps P n x) .intensity ≡ nan) ⊎ Range 622 (2 ^ 674) (2 ^ 1074) (pull limit n (found P n x) (exps P n x) .intensity)
+  intensity-range : AtLeast meanRange (pull limit n (found P n x) (exps P n x) .intensity) → (pull limit n (found P n x) (exps P n x) .intensity ≡ nan) ⊎ MeanIntensity (pull limit n (found P n x) (exps P n x) .intensity)
   intensity-range a =
       let u = pull-unit limit n m' e (r .few) (unfold moments in sign-count P) in
       unit-range meanRange (lit≤ tt) α (rw (pull-is limit n m' e .0) (div-fits binary64 (count n ⊕ two) _)) a (u .0) (u .1)
 
   -- ---- the means
   -- with a target that is finite, and with one that is not
-  module _ (i : ℕ) (l : i < n) (a : Range 622 (2 ^ 674) (2 ^ 1074) α) where
+  module _ (i : ℕ) (l : i < n) (a : MeanIntensity α) where
     abbrev t : Float
     t = pull limit n (found P n x) (exps P n x) .target
 
     part : Moved k 385 385 1128 (pow2Scaled ((one ⊖ α) ⊗ nth (found P n x .mean) i) (exps P n x i)) (pow2Scaled ((one ⊖ α) ⊗ nth (found P n x .mean) i) (exps P n y i))
     part =
-        let rest = moved-sub (moved-weaken 622 674 1074 (lit≤ tt) (lit≤ tt) (lit≤ tt) one-moved) (still 674 1074 a) (lit≤ tt) in
+        let rest = moved-sub (moved-weaken meanGrain meanLeast 1074 (lit≤ tt) (lit≤ tt) (lit≤ tt) one-moved) (still meanLeast 1074 a) (lit≤ tt) in
         let q = moved-mul rest (still 930 1087 (μ-range small r i l)) 426 426 1088 (lit≤ tt) (lit≤ tt) (lit≤ tt) (lit≤ tt) .range in
         let c = exponent-small small r i l (p .above i l) in
         let j = exps P n x i in
@@ -343,8 +334,8 @@ module _ {k n P : ℕ} {x y : Matrix} (small : k ≤ maxPower) (r : Returns k n 
 
     mean-finite : AtLeast meanRange t → T (isFinite t) → (t' : Float) → t' ≡ shift (pos k) t → pow2Scaled ((one ⊖ α) ⊗ nth (found P n x .mean) i) (exps P n y i) ⊕ α ⊗ t' ≡ shift (pos k) (pow2Scaled ((one ⊖ α) ⊗ nth (found P n x .mean) i) (exps P n x i) ⊕ α ⊗ t)
     mean-finite b F t' e =
-        let w : Moved k 622 674 (2091 - k) t t' = record { range = target-range b F; copy = e } in
-        let q = rw (zero-add k) at (moved-mul (still 674 1074 a) w 170 170 (2091 - k) (lit≤ tt) (lit≤ tt) (omega arith) (omega arith)) in
+        let w : Moved k meanGrain meanLeast (2091 - k) t t' = record { range = target-range b F; copy = e } in
+        let q = rw (zero-add k) at (moved-mul (still meanLeast 1074 a) w 170 170 (2091 - k) (lit≤ tt) (lit≤ tt) (omega arith) (omega arith)) in
         moved-add (moved-weaken 170 170 (2091 - k) (lit≤ tt) (lit≤ tt) (omega arith) part) q (omega arith) .copy
 
     mean-endless : (T (isFinite t) → ⊥) → (t' : Float) → t' ≡ shift (pos k) t → pow2Scaled ((one ⊖ α) ⊗ nth (found P n x .mean) i) (exps P n y i) ⊕ α ⊗ t' ≡ shift (pos k) (pow2Scaled ((one ⊖ α) ⊗ nth (found P n x .mean) i) (exps P n x i) ⊕ α ⊗ t)
@@ -384,7 +375,7 @@ module _ {k n P : ℕ} {x y : Matrix} (small : k ≤ maxPower) (r : Returns k n 
       decide true e = inl (rw e tt)
       decide false e = inr (λ f. subst T e f)
 
-      go : (α ≡ nan) ⊎ Range 622 (2 ^ 674) (2 ^ 1074) α → pow2Scaled ((one ⊖ α) ⊗ nth (found P n x .mean) i) (exps P n y i) ⊕ α ⊗ pull limit n (found P n x) (exps P n y) .target ≡ shift (pos k) (pow2Scaled ((one ⊖ α) ⊗ nth (found P n x .mean) i) (exps P n x i) ⊕ α ⊗ pull limit n (found P n x) (exps P n x) .target)
+      go : (α ≡ nan) ⊎ MeanIntensity α → pow2Scaled ((one ⊖ α) ⊗ nth (found P n x .mean) i) (exps P n y i) ⊕ α ⊗ pull limit n (found P n x) (exps P n y) .target ≡ shift (pos k) (pow2Scaled ((one ⊖ α) ⊗ nth (found P n x .mean) i) (exps P n x i) ⊕ α ⊗ pull limit n (found P n x) (exps P n x) .target)
       go (inr q) = elim (decide (isFinite t) refl) [ inl F ↦ mean-finite i l q b F (pull limit n m' f .target) (target-moved b c) | inr F ↦ mean-endless i l q F (pull limit n m' f .target) (target-moved b c) ]
       go (inl q) = nothing (pow2Scaled ((one ⊖ α) ⊗ nth (m' .mean) i) (exps P n y i)) (pull limit n m' f .target) ∙ sym (shift-nan (pos k)) ∙ ap (shift (pos k)) (sym (nothing (pow2Scaled ((one ⊖ α) ⊗ nth (m' .mean) i) (exps P n x i)) (pull limit n m' e .target)))
         where

@@ -17,6 +17,7 @@ use Rattle.leaves.proofs.Signs.{sign-div, sign-add, sign-count, sign-not-below}
 use borrow.Author.Tests.{le-ltb}
 use Rattle.leaves.proofs.Zero.{no, not-above}
 use Rattle.matrix.specs.Limits.{maxSide}
+use Rattle.estimators.specs.BayesStein.{intensityAt}
 use Rattle.law.proofs.Bits.{sideBits, side-bits}
 use Rattle.law.proofs.Sizes.{over-inf, plus-val, one-val, two-is, two-val}
 use Rattle.law.proofs.Sample.{count-moved}
@@ -64,12 +65,9 @@ max0-plus z = go (lt zero⁺ z) refl
     go true e = plus-of z e
     go false e = unfold sign in refl
 
--- ---- n + 2 over n + 2 + d
-abbrev pub intensityOf : ℕ → Float → Float
-intensityOf n z = (count n ⊕ two) ⊘ (count n ⊕ two ⊕ z)
-
-pub share-unit : (n : ℕ) (z : Float) → n ≤ maxSide → T (fits binary64 z) → sign z ≡ false → (lt (intensityOf n z) zero⁺ ≡ false) × (lt one (intensityOf n z) ≡ false)
-share-unit n z few t p = (sign-not-below (intensityOf n z) (sign-div X (X ⊕ z) (X-plus ∙ sym (sign-add X z X-plus p))), ratio-unit X z (X-moved .range) X-plus X-above t p)
+-- ---- n + 2 over n + 2 + z
+pub share-unit : (n : ℕ) (z : Float) → n ≤ maxSide → T (fits binary64 z) → sign z ≡ false → (lt (intensityAt n z) zero⁺ ≡ false) × (lt one (intensityAt n z) ≡ false)
+share-unit n z few t p = (sign-not-below (intensityAt n z) (sign-div X (X ⊕ z) (X-plus ∙ sym (sign-add X z X-plus p))), ratio-unit X z (X-moved .range) X-plus X-above t p)
   where
     X : Float
     X = count n ⊕ two

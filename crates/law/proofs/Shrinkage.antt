@@ -26,7 +26,7 @@ use Rattle.estimators.specs.declared.Regularization.the-variants.{Unregularized
 use Rattle.estimators.specs.declared.Field.the-variants.{RegularizationField}
 use Rattle.estimators.specs.declared.Refusal.the-variants.{BadSetting}
 use Rattle.law.specs.Law.{maxPower}
-use Rattle.law.proofs.Bits.{sideBits, side-bits, intensityLeast, intensityGrain}
+use Rattle.law.proofs.Bits.{sideBits, side-bits, covarianceGrain, covarianceLeast, covarianceMost, intensityLeast, intensityGrain}
 use Rattle.law.proofs.Sample.{count-moved}
 use Rattle.law.proofs.Matrices.{trace-moved}
 
@@ -93,7 +93,7 @@ pub unregularized : (k : ℕ) → Regularized k Unregularized Unregularized
 unfolding badRegularization isAdjusted regularized
 unregularized k = record { bad = refl; adjusts = λ δ. refl; entries = λ a a' i j u. moved-weaken 5 5 1646 (lit≤ tt) (lit≤ tt) (lit≤ tt) u; nans = λ a i j e. (e, e) }
 
-pub ridge : (k : ℕ) → k ≤ maxPower + maxPower → (ε ε' : Float) → Moved k 942 994 1154 ε ε' → Regularized k (Ridge ε) (Ridge ε')
+pub ridge : (k : ℕ) → k ≤ maxPower + maxPower → (ε ε' : Float) → Moved k covarianceGrain covarianceLeast covarianceMost ε ε' → Regularized k (Ridge ε) (Ridge ε')
 unfolding badRegularization isAdjusted regularized add
 ridge k small ε ε' e =
     let s = pos k in

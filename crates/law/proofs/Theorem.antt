@@ -11,6 +11,7 @@ use lib.ListN.{length}
 use lib.Ieee.{Float, binary64, fits}
 use Rattle.leaves.specs.Shift.{shift}
 use Rattle.estimators.specs.Adjusted.{isGiven}
+use Rattle.estimators.specs.Settings.{settings}
 use Rattle.estimators.specs.declared.Estimate.{Estimate}
 use Rattle.estimators.specs.declared.Shrinkage.{Shrinkage}
 use Rattle.estimators.specs.declared.Regularization.{Regularization}
@@ -20,7 +21,6 @@ use Rattle.law.specs.Law.{All, Question, Input, answer, Sized, QuestionI
 use Rattle.law.proofs.Numbers.{copy-shift, copies-shift, each-back, times-up, times-down, twice, alike-down}
 use Rattle.law.proofs.Sizes.{all-map, sized-fits}
 use Rattle.law.proofs.Opening.{sized-moved}
-use Rattle.law.proofs.Settings.{sets}
 use Rattle.law.proofs.Shrinkage.{Regularized}
 use Rattle.law.proofs.Shrinkage as Shrinking
 use Rattle.law.proofs.LedoitWolf.{intensity-law}
@@ -54,7 +54,7 @@ module _ (k : ℕ) (small : k ≤ maxPower) (n P : ℕ) (r : List Float) (sizes 
 
   by-question : (q q' : Question) → CopiedQuestion (pos k) q q' → QuestionInRange (first q) q → QuestionInRange (second q') q' → Alike (pos k) (answer (first q)) (answer (second q'))
   by-question q q' (covariance {s = s} {s' = s'} {g = g} {g' = g'} {side = side} c) a b =
-      let same : s' ≡ sets (s' .estimate) (s .shrinkage) (s' .regularization) (s .limit) = ap₂ (λ (S : Shrinkage) (l : ℕ). sets (s' .estimate) S (s' .regularization) l) (sym (c .shrinkage)) (sym (c .limit)) in
+      let same : s' ≡ settings (s' .estimate) (s .shrinkage) (s' .regularization) (s .limit) = ap₂ (λ (S : Shrinkage) (l : ℕ). settings (s' .estimate) S (s' .regularization) l) (sym (c .shrinkage)) (sym (c .limit)) in
       subst (λ (t : Settings). Alike (pos k) (answer (first (Law.adjusted s g side))) (answer (second (Law.adjusted t g' side)))) (sym same)
       (covariance-law k small r sizes n P side (s .limit) (s .shrinkage) (s .regularization) (s' .regularization) (regularized k small (s .regularization) (s' .regularization) (c .regularization) (a .regularization) (b .regularization))
       (s .estimate) (s' .estimate) g g' (c .estimate) (a .estimate) (b .estimate)

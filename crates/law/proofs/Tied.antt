@@ -17,7 +17,7 @@ use Rattle.leaves.proofs.Whole.{le-or-lt, over, under, plus, one-side, same}
 use Rattle.leaves.proofs.Laws.{unlike-false}
 use Rattle.leaves.proofs.Scale.{cut-range, scale-last}
 use Rattle.leaves.proofs.Rounding.{near, near-most, held-pow}
-use Rattle.leaves.proofs.Units.{U, U-pos, pow-under-Top, Val, sign, mag, val-mag, val-unique, mag-val, rounded-val}
+use Rattle.leaves.proofs.Units.{U, U-pos, pow-under-Top, Val, sign, mag, val-mag, val-finite, val-unique, mag-val, rounded-val}
 use Rattle.leaves.proofs.Arithmetic.{mul-rounded}
 use Rattle.leaves.proofs.Range.{Range, range-size, range-weaken}
 use Rattle.leaves.proofs.PowersOfTwo.{fits-move, scaled-copy, shift-null}
@@ -96,7 +96,7 @@ module _ (R : Float) (fit : T (fits binary64 R)) (finite : T (isFinite R)) (h : 
           let v = null j (le-trans high (lit≤ tt)) low first p in
           let v' = null (j +ℤ pos k) (o .0) (o .1) second q in
           let z = pow2Scaled R j in
-          let s = shift-null (pos k) z (scaled-fits R j) (Rattle.leaves.proofs.Units.val-finite z (sign R) 0 v) (val-mag z (sign R) 0 v .1) in
+          let s = shift-null (pos k) z (scaled-fits R j) (val-finite z (sign R) 0 v) (val-mag z (sign R) 0 v .1) in
           val-unique (pow2Scaled R (j +ℤ pos k)) z (sign R) 0 (scaled-fits R (j +ℤ pos k)) (scaled-fits R j) v' v ∙ sym s
         where
           raise : (r o u o' u' k : ℕ) → k ≤ maxPower → o' + u ≡ o + k + u' → r * 2 ^ o ≤ 2 ^ 53 * 2 ^ u → r * 2 ^ o' * 2 ^ u ≤ 2 ^ 200 * 2 ^ u' * 2 ^ u

@@ -177,6 +177,6 @@ module _ (k : ℕ) (small : k ≤ maxPower) (r : List Float) (sizes : All (Sized
       chain : Chain ((i : ℕ) → i < n → lib.Dec.T (fits binary64 (mean r i)) × (mean (map (shift (pos k)) r) i ≡ shift (pos k) (mean r i))) (weightedOrder r n T h slice) (weightedOrder (map (shift (pos k)) r) n T h slice')
       chain = unfold weightedOrder badHalfLife in
           opening-chain k small r sizes n T n slice slice' e (λ s opens. chain-must (accepted (logDecay h)) (BadSetting HalfLifeField) refl (λ ok. ends (λ i l.
-          let q = long-enough T (s .periods) h long in
-          let m = mean-moved small (returns k small r sizes n T s) (weights T (logDecay h)) (weighing T (s .periods) (s .most) h (q .0) ok (q .1)) i l in
+          let q = long-enough T (s .2) h long in
+          let m = mean-moved small (returns k small r sizes n T s) (weights T (logDecay h)) (weighing T (s .2) (s .3) h (q .0) ok (q .1)) i l in
           (m .range .fit, m .copy))))

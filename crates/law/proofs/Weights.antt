@@ -114,7 +114,7 @@ module _ (P : ℕ) (periods : 2 ≤ P) (most : P ≤ maxPeriods) (h : Float) (fi
         | inl under ↦
             let v : Val (count maxHalfLives ⊗ h) false (maxHalfLives * H) = subst₂ (λ (z : Float) (n : ℕ). Val z false n) (sym x) e (rounded-val false (maxHalfLives * U * H) U U-pos under) in
             le-yes (count (P - 1)) (count maxHalfLives ⊗ h) (count-val (P - 1) (le-trans (omega arith) (le-trans most (lit≤ tt)))) v long
-        | inr over ↦ let top : 4096 * U ≤ Top = unfold U Top in lit≤ tt in le-trans (mul-le-mul-right U (le-trans (omega arith) most)) (le-trans top (le-trans (over .0) (le-of-eq e)))
+        | inr over ↦ let top : maxPeriods * U ≤ Top = unfold U Top in lit≤ tt in le-trans (mul-le-mul-right U (le-trans (omega arith) most)) (le-trans top (le-trans (over .0) (le-of-eq e)))
       ]
 
   times-bound : (j : ℕ) → j ≤ P - 1 → j * mag (logDecay h) ≤ 1536 * W

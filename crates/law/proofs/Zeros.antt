@@ -16,7 +16,7 @@ use Rattle.leaves.specs.Shift.{shift}
 use Rattle.leaves.proofs.Laws.{zero-exp}
 use Rattle.leaves.proofs.Zero.{no, zero-is-zero, other-is-not}
 use Rattle.leaves.proofs.Rounding.{near, near-most, held-small}
-use Rattle.leaves.proofs.Units.{U, Top, sign, mag, Val, mag-val, zero-val, val-unique, rounded-val, pow-under-Top}
+use Rattle.leaves.proofs.Units.{U, Top, sign, mag, Val, mag-val, zero-val, val-unique, rounded, rounded-val, pow-under-Top}
 use Rattle.leaves.proofs.Arithmetic.{div-rounded}
 use Rattle.leaves.proofs.Signs.{sign-add, sign-mul, sign-sqrt}
 use Rattle.law.proofs.Sizes.{number, not-lt}
@@ -90,7 +90,7 @@ zero-over x y p t f h = (u, ap (λ (z : Float). z ⊘ y) (p .1) ∙ val-unique (
     nothing = le-antisymm (near-most (0 * U) (mag y) 0 h (held-small 0 (pow-pos 53)) (omega arith)) zero-le
 
     v : Val (fin (p .0) zero (pos 0) ⊘ y) (unlike (p .0) (sign y)) 0
-    v = subst (λ (w : Float). Val w u 0) (sym (div-rounded z y (p .0) (sign y) 0 (mag y) (zero-val (p .0) (pos 0)) (mag-val y t f) h)) (subst (Val (Rattle.leaves.proofs.Units.rounded u (0 * U) (mag y)) u) nothing (rounded-val u (0 * U) (mag y) h (rw nothing Top-pos)))
+    v = subst (λ (w : Float). Val w u 0) (sym (div-rounded z y (p .0) (sign y) 0 (mag y) (zero-val (p .0) (pos 0)) (mag-val y t f) h)) (subst (Val (rounded u (0 * U) (mag y)) u) nothing (rounded-val u (0 * U) (mag y) h (rw nothing Top-pos)))
       where
         Top-pos : 0 < Top
         Top-pos = lt-of-le-of-lt zero-le (pow-under-Top 0 (lit≤ tt))

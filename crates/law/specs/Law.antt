@@ -1,6 +1,6 @@
 -- Demand 3, the power-of-two law, over the definitions of the five calls: its statement. Each field of the hypotheses is a sentence of the demand or of document 01, "Scaling
 -- ranges". Of that section only the sentence on two James-Stein decompositions that differ in bits is left out: none do.
-use Prim.Native.Nat.{ℕ, zero, suc, _-_, _*_, _/_, _^_, _≤_}
+use Prim.Native.Nat.{ℕ, suc, _-_, _*_, _/_, _^_, _≤_}
 use mathlib.Core.Path.{_≡_}
 use mathlib.Core.Bool.{Bool, true, false, not, cond, _&&_, _||_}
 use mathlib.Core.List.{List, [], _∷_, _++_}

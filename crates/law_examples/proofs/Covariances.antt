@@ -12,19 +12,19 @@ use Rattle.estimators.specs.declared.Estimate.the-variants.{Sample, Given, Weig
 use Rattle.estimators.specs.declared.Target.the-variants.{ConstantCorrelation}
 use Rattle.estimators.specs.declared.Shrinkage.the-variants.{Unshrunk, Fixed, LedoitWolf}
 use Rattle.estimators.specs.declared.Regularization.the-variants.{Unregularized, Ridge}
+use Rattle.estimators.specs.Settings.{settings}
 use Rattle.examples.proofs.Evaluated.{evaluated}
 use Rattle.law.specs.Law as Law
 use Rattle.law.specs.Law.{Input, adjusted, answer, Scaled, maxPower, sample, given, semiBelow, unregularized, ridge, covariance}
 use Rattle.law.proofs.Theorem.{turned-down}
-use Rattle.law.proofs.Settings.{sets}
 use Rattle.law_examples.proofs.Inputs.{lowReturn, highReturn, lowCovariance, highCovariance, matrix, low, high, scaled-up}
 
 -- ---- the sample covariance
 abbrev pub sample-low : Input
-sample-low = low (adjusted (sets Sample Unshrunk Unregularized maxSweeps) [] 0)
+sample-low = low (adjusted (settings Sample Unshrunk Unregularized maxSweeps) [] 0)
 
 abbrev pub sample-high : Input
-sample-high = high (adjusted (sets Sample Unshrunk Unregularized maxSweeps) [] 0)
+sample-high = high (adjusted (settings Sample Unshrunk Unregularized maxSweeps) [] 0)
 
 pub sample-low-accepted : answer sample-low .refusal ≡ none
 unfolding evaluated
@@ -43,10 +43,10 @@ sample-pair-down = turned-down (maxPower - 1) sample-low sample-high sample-pair
 
 -- ---- shrunk by Ledoit and Wolf to constant correlation, and regularized by the smallest and the largest number of the range
 abbrev pub shrunk-low : Input
-shrunk-low = low (adjusted (sets Sample (LedoitWolf ConstantCorrelation) (Ridge (fin false 1 lowCovariance)) maxSweeps) [] 0)
+shrunk-low = low (adjusted (settings Sample (LedoitWolf ConstantCorrelation) (Ridge (fin false 1 lowCovariance)) maxSweeps) [] 0)
 
 abbrev pub shrunk-high : Input
-shrunk-high = high (adjusted (sets Sample (LedoitWolf ConstantCorrelation) (Ridge (fin false 1 highCovariance)) maxSweeps) [] 0)
+shrunk-high = high (adjusted (settings Sample (LedoitWolf ConstantCorrelation) (Ridge (fin false 1 highCovariance)) maxSweeps) [] 0)
 
 pub shrunk-low-accepted : answer shrunk-low .refusal ≡ none
 unfolding evaluated
@@ -65,10 +65,10 @@ shrunk-pair-down = turned-down (maxPower - 1) shrunk-low shrunk-high shrunk-pair
 
 -- ---- a given matrix of entries at the ends of the range, shrunk by a half
 abbrev pub given-low : Input
-given-low = low (adjusted (sets Given (Fixed half) Unregularized maxSweeps) (matrix lowCovariance) 2)
+given-low = low (adjusted (settings Given (Fixed half) Unregularized maxSweeps) (matrix lowCovariance) 2)
 
 abbrev pub given-high : Input
-given-high = high (adjusted (sets Given (Fixed half) Unregularized maxSweeps) (matrix highCovariance) 2)
+given-high = high (adjusted (settings Given (Fixed half) Unregularized maxSweeps) (matrix highCovariance) 2)
 
 pub given-low-accepted : answer given-low .refusal ≡ none
 unfolding evaluated
@@ -87,10 +87,10 @@ given-pair-down = turned-down (maxPower - 1) given-low given-high given-pair
 
 -- ---- exponentially weighted, half-life 1
 abbrev pub weighted-low : Input
-weighted-low = low (adjusted (sets (Weighted one) Unshrunk Unregularized maxSweeps) [] 0)
+weighted-low = low (adjusted (settings (Weighted one) Unshrunk Unregularized maxSweeps) [] 0)
 
 abbrev pub weighted-high : Input
-weighted-high = high (adjusted (sets (Weighted one) Unshrunk Unregularized maxSweeps) [] 0)
+weighted-high = high (adjusted (settings (Weighted one) Unshrunk Unregularized maxSweeps) [] 0)
 
 pub weighted-low-accepted : answer weighted-low .refusal ≡ none
 unfolding evaluated
@@ -109,10 +109,10 @@ weighted-pair-down = turned-down (maxPower - 1) weighted-low weighted-high weigh
 
 -- ---- the semicovariance below the smallest and the largest threshold of the range
 abbrev pub semi-low : Input
-semi-low = low (adjusted (sets (SemiBelow (fin false 1 lowReturn)) Unshrunk Unregularized maxSweeps) [] 0)
+semi-low = low (adjusted (settings (SemiBelow (fin false 1 lowReturn)) Unshrunk Unregularized maxSweeps) [] 0)
 
 abbrev pub semi-high : Input
-semi-high = high (adjusted (sets (SemiBelow (fin false 1 highReturn)) Unshrunk Unregularized maxSweeps) [] 0)
+semi-high = high (adjusted (settings (SemiBelow (fin false 1 highReturn)) Unshrunk Unregularized maxSweeps) [] 0)
 
 pub semi-low-accepted : answer semi-low .refusal ≡ none
 unfolding evaluated

@@ -17,9 +17,6 @@ use Rattle.leaves.proofs.Sqrts.{sticky-in}
 use Rattle.leaves.proofs.SqrtLaws.{eighth, eighth-error, round-56}
 
 -- ---- the root's digits, by g = 4 p - 2
-square-4 : (g : ℕ) → (g + 4) * (g + 4) ≡ g * g + g * 8 + 16
-square-4 g = rw (square-plus g 4) (omega arith)
-
 sticky-from : (n r g rest : ℕ) → g ≤ r → r < g + 4 → rest + g * g ≡ n → 0 < rest → (t : Bool) → eqb (r * r) n ≡ t
     → (g * 2 + 1 ≤ cond t (r * 2) (r * 2 + 1)) × (cond t (r * 2) (r * 2 + 1) ≤ g * 2 + 7)
 sticky-from n r g rest a b e h false q = omega arith
@@ -47,7 +44,7 @@ module _ (n p rest : ℕ) (small : n < 2 ^ 54) (large : 2 ^ 52 ≤ n) (digits : 
   unfolding sticky
   near =
       let g = 4 * p - 2 in
-      let u : N < (g + 4) * (g + 4) = rw (square-4 g) (omega (arith, over, few, digits)) in
+      let u : N < (g + 4) * (g + 4) = rw (square-plus g 4) (omega (arith, over, few, digits)) in
       let s = sticky-from N (root 55 N) g rest (root-over N (root 55 N) g whole (omega (arith, over))) (root-under N (root 55 N) (g + 4) whole u) over some (eqb (root 55 N * root 55 N) N) refl in
       omega (arith, s, digits)
 

@@ -8,9 +8,8 @@ use lib.Dec.{ltb}
 use lib.IntN.{ℤ, pos, negsuc, _+ℤ_, _-ℤ_}
 use lib.Ieee.{Float, fin, binary64, mul}
 use borrow.Author.Tests.{ltb-true}
-use Rattle.leaves.specs.Inner.{cut}
 use Rattle.leaves.specs.Shift.{shift}
-use Rattle.leaves.specs.Scaling.{pow2, times, pow2Scaled}
+use Rattle.leaves.specs.Scaling.{pow2, times, pow2Scaled, cut}
 use Rattle.leaves.specs.Loops.{loop}
 use Rattle.leaves.proofs.Whole.{over, under, minus, same}
 use Rattle.leaves.proofs.Laws.{room→fits, Room, mul-pow2}

@@ -4,7 +4,6 @@ ghost use lib.Dec.{T};
 ghost use lib.Signed.{leZ};
 ghost use lib.IntN.{pos, negsuc};
 ghost use Rattle.leaves.specs.Scaling as Scaling;
-ghost use Rattle.leaves.specs.Inner as Inner;
 
 // 2^k, for k in the normal range.
 fn pow2(k: i32) -> f64
@@ -14,9 +13,9 @@ fn pow2(k: i32) -> f64
     f64::from_bits(((k + 1023) as u64) << 52)
 }
 
-// k cut to -1022..1023.
-fn cut(k: i32) -> i32
-    ensures { λ r. ⌜ r ≡ Inner.cut k ⌝ }
+// k cut to -1022..1023: the step of a scaling by 2^k.
+pub fn cut(k: i32) -> i32
+    ensures { λ r. ⌜ r ≡ Scaling.cut k ⌝ }
 {
     if k < -1022 {
         -1022

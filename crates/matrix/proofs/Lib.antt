@@ -2,6 +2,7 @@
 -- loops, stored matrices and searches
 pub mod Steps
 pub mod Stored
+pub mod FilledRows
 pub mod First
 pub mod Alike
 -- one rotation; counts of sweeps and rotations

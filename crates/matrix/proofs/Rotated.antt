@@ -8,8 +8,8 @@ use lib.Ieee.{Float, eq}
 use Rattle.leaves.specs.Numbers.{_⊕_, _⊗_, _⊘_, zero⁺, one}
 use Rattle.leaves.specs.Root.{sqrt}
 use Rattle.matrix.specs.Matrix.{at}
-use Rattle.matrix.specs.Rotation.{State, turnColumns, tangent, cotangent, rotate, rotateBy, rotated}
-use Rattle.matrix.specs.Inner.{state, turnedBoth}
+use Rattle.matrix.specs.Rotation.{State, turnColumns, tangent, cotangent, rotate, rotateBy, rotated, turnedBoth}
+use Rattle.matrix.specs.Inner.{state}
 
 pub rotate-cases : (P : State → Type 0) (n p q : ℕ) (st : State) → P st → ((τ : Float) → P (rotateBy n p q (tangent τ) st)) → P (rotate n p q st)
 unfolding rotate

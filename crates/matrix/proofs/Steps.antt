@@ -11,8 +11,7 @@ use borrow.Author.Tests.{lt-ltb, le-ltb}
 use Rattle.leaves.specs.Numbers.{_⊕_, zero⁺}
 use Rattle.leaves.specs.Loops.{loop, sumTo, nth}
 use Rattle.leaves.proofs.Loops.{cell-row, cell-col, loop-ext, sum-ext}
-use Rattle.matrix.specs.Matrix.{Matrix, at, sumOver, every}
-use Rattle.matrix.specs.Inner.{addKept}
+use Rattle.matrix.specs.Matrix.{Matrix, at, sumOver, every, addKept}
 use Rattle.matrix.proofs.Stored.{entry-at}
 
 module _ {S : Type 0} where

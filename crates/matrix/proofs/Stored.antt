@@ -1,13 +1,13 @@
--- Laws of the matrices that are stored row by row, and of filling one. Assumes nothing.
+-- Laws of the matrices that are stored row by row. Assumes nothing.
 use mathlib.Core.Path.{_≡_, refl, sym, ap, _∙_}
 use mathlib.Core.List.{List}
-use Prim.Native.Nat.{ℕ, _+_, _*_, _/_, _%_, _≤_, _<_}
+use Prim.Native.Nat.{ℕ, _+_, _*_, _/_, _%_, _<_}
 use native.Mathlib.Nat.{div-add-mod', div-lt-iff-lt-mul, mod-lt}
 use lib.ListN.{length}
 use lib.Ieee.{Float, nan}
 use Rattle.leaves.specs.Numbers.{_⊗_}
 use Rattle.leaves.specs.Loops.{nth}
-use Rattle.leaves.proofs.Loops.{cell, cell-row, cell-col, has-column, row-below, col-below, length-tab, nth-tab, tab-is, tab-ext, Filled, sum-ext, filled-whole}
+use Rattle.leaves.proofs.Loops.{cell, cell-row, cell-col, has-column, row-below, col-below, length-tab, nth-tab, tab-is, tab-ext, sum-ext}
 use Rattle.matrix.specs.Matrix.{Matrix, at, rows, product}
 
 -- number k is the entry in row k / n and column k % n
@@ -17,11 +17,6 @@ entry-at a n k = ap (nth a) (div-add-mod' k n)
 pub length-rows : (f : Matrix) (m n : ℕ) → length (rows m n f) ≡ m * n
 unfolding rows
 length-rows f m n = length-tab (λ k. f (k / n) (k % n)) (m * n)
-
--- a slice that is filled whole
-pub filled-rows : (f : Matrix) (n : ℕ) {i : ℕ} {old out : List Float} → Filled (λ k. f (k / n) (k % n)) i (n * n) old out → n * n ≤ i → length old ≡ n * n → out ≡ rows n n f
-unfolding rows
-filled-rows f n F h l = filled-whole F h l
 
 pub rows-nth : (f : Matrix) (m n k : ℕ) → k < m * n → nth (rows m n f) k ≡ f (k / n) (k % n)
 unfolding rows

@@ -17,9 +17,9 @@ use Rattle.leaves.proofs.Whole.{le-or-lt}
 use Rattle.leaves.proofs.Commutative.{plus-comm}
 use Rattle.leaves.proofs.Loops.{cell}
 use Rattle.matrix.specs.Matrix.{Matrix, at, rows, identity, product, transpose, Symmetric}
-use Rattle.matrix.specs.Rotation.{State, tangent, cosine, turnColumns, turnRows, rotated, rotateBy, rotate}
+use Rattle.matrix.specs.Rotation.{State, tangent, cosine, turnColumns, turnRows, rotated, rotateBy, rotate, turnedBoth}
 use Rattle.matrix.specs.Jacobi.{afterSweeps, start}
-use Rattle.matrix.specs.Inner.{state, turnedBoth, turnedBlock, mirrored}
+use Rattle.matrix.specs.Inner.{state, turnedBlock, mirrored}
 use Rattle.matrix.proofs.Stored.{rows-at, rows-is}
 use Rattle.matrix.proofs.Rotated.{rotate-cases}
 use Rattle.matrix.proofs.Counts.{row-keeps, rows-keep, sweeps-keep}

@@ -1,14 +1,13 @@
 -- Records put together from their parts, as contracts name them, and what only the contracts of private functions cite. Definitions only.
 use Prim.Native.Nat.{ℕ, suc, _+_, _*_}
-use mathlib.Core.Bool.{Bool, true, false, cond}
+use mathlib.Core.Bool.{Bool, cond}
 use mathlib.Core.List.{List}
 use lib.Dec.{eqb}
 use lib.ListN.{set}
 use lib.Ieee.{Float}
 use Rattle.leaves.specs.Numbers.{_⊕_, _⊖_, _⊗_, zero⁺}
-use Rattle.leaves.specs.Loops.{loop}
 use Rattle.matrix.specs.Matrix.{Matrix, at, rows, transpose}
-use Rattle.matrix.specs.Rotation.{State, turnColumns, turnRows}
+use Rattle.matrix.specs.Rotation.{State}
 use Rattle.matrix.specs.Jacobi.{Swept, Decomposition}
 
 abbrev pub state : List Float → List Float → ℕ → State
@@ -27,17 +26,6 @@ decomposed found values vectors k r = record { found = found; values = values; v
 -- the square matrix that is stored column by column, stored row by row
 abbrev pub byColumns : ℕ → List Float → List Float
 byColumns n w = rows n n (transpose (at w n))
-
--- row i of `sumOver`, and its term j
-abbrev pub addKept : (ℕ → ℕ → Bool) → Matrix → ℕ → ℕ → Float → Float
-addKept keep f i j s = elim (keep i j) [ true ↦ s ⊕ f i j | false ↦ s ]
-
-abbrev pub sumRow : ℕ → (ℕ → ℕ → Bool) → Matrix → ℕ → Float → Float
-sumRow n keep f i = loop n (addKept keep f i)
-
--- JᵀAJ with 0 where p and q meet
-abbrev pub turnedBoth : ℕ → ℕ → ℕ → Float → Float → List Float → List Float
-turnedBoth n p q c s a = set (set (turnRows n p q c s (turnColumns n p q c s a)) (p * n + q) zero⁺) (q * n + p) zero⁺
 
 -- where rows and columns p and q meet: the columns turned, with 0 off the diagonal
 abbrev pub turnedBlock : ℕ → ℕ → ℕ → Float → Float → List Float → List Float

@@ -6,17 +6,20 @@ use mathlib.Core.List.{List}
 use mathlib.Core.Option.{none, some}
 use lib.Dec.{ltb}
 use lib.Ieee.{Float, le, eq, isNan}
-use Rattle.leaves.specs.Numbers.{_⊕_, _⊗_, _⊘_, zero⁺, half, two, ε}
-use Rattle.leaves.specs.Loops.{loop, firstTo, tab}
+use Rattle.leaves.specs.Numbers.{_⊕_, _⊗_, zero⁺, half, two, ε}
+use Rattle.leaves.specs.Loops.{loop, firstTo, minTo, maxTo, tab, nth}
 use Rattle.leaves.specs.Root.{sqrt}
-use Rattle.matrix.specs.Matrix.{Matrix, at, rows, identity, product, transpose, amax, sumOver, squares, allFinite}
+use Rattle.matrix.specs.Matrix.{Matrix, at, rows, identity, product, transpose, divided, squared, amax, sumOver, squares, allFinite}
 use Rattle.matrix.specs.Rotation.{State, rotate}
 
 -- ---- sweeps
 
 -- every p and q > p, row by row
+abbrev pub sweepRow : ℕ → ℕ → State → State
+sweepRow n p = loop (n - suc p) (λ k. rotate n p (suc p + k))
+
 unfoldable pub sweep : ℕ → State → State
-sweep n = loop n (λ p. loop (n - suc p) (λ k. rotate n p (suc p + k)))
+sweep n = loop n (sweepRow n)
 
 -- the state after k sweeps
 unfoldable pub afterSweeps : ℕ → ℕ → State → State
@@ -26,7 +29,7 @@ afterSweeps k n = loop k (λ i. sweep n)
 
 -- S, the sum of squares above the diagonal
 unfoldable pub offDiagonal : ℕ → Matrix → Float
-offDiagonal n a = sumOver n ltb (λ p q. a p q ⊗ a p q) zero⁺
+offDiagonal n a = sumOver n ltb (squared a) zero⁺
 
 pub data Test : Type 0 where
   fails : Test
@@ -72,10 +75,17 @@ pub record Decomposition : Type 0 where
   pub sweeps : ℕ
   pub rotations : ℕ
 
+-- the smallest and the largest of n values
+abbrev pub smallestValue : ℕ → Decomposition → Float
+smallestValue n d = minTo n (nth (d .values))
+
+abbrev pub largestValue : ℕ → Decomposition → Float
+largestValue n d = maxTo n (nth (d .values))
+
 -- A over its largest entry, then VᵀAV at V = I, averaged with its transpose
 unfoldable pub start : ℕ → Float → Matrix → List Float
 start n scale a =
-    let b = rows n n (product n (product n (transpose identity) (λ i j. a i j ⊘ scale)) identity) in
+    let b = rows n n (product n (product n (transpose identity) (divided a scale)) identity) in
     rows n n (λ i j. (at b n i j ⊕ at b n j i) ⊗ half)
 
 unfoldable pub swept : ℕ → ℕ → List Float → Swept

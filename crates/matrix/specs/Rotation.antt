@@ -32,16 +32,20 @@ turnColumns n p q c s = loop n (λ k. turn c s (k * n + p) (k * n + q))
 unfoldable pub turnRows : ℕ → ℕ → ℕ → Float → Float → List Float → List Float
 turnRows n p q c s = loop n (λ k. turn c s (p * n + k) (q * n + k))
 
+-- JᵀAJ with 0 where p and q meet
+abbrev pub turnedBoth : ℕ → ℕ → ℕ → Float → Float → List Float → List Float
+turnedBoth n p q c s a = set (set (turnRows n p q c s (turnColumns n p q c s a)) (p * n + q) zero⁺) (q * n + p) zero⁺
+
 -- A, V and the count of rotations
 pub record State : Type 0 where
   pub matrix : List Float
   pub vectors : List Float
   pub rotations : ℕ
 
--- JᵀAJ with 0 where p and q meet, and VJ
+-- JᵀAJ and VJ
 unfoldable pub rotated : ℕ → ℕ → ℕ → Float → Float → State → State
 rotated n p q c s st = record {
-  matrix = set (set (turnRows n p q c s (turnColumns n p q c s (st .matrix))) (p * n + q) zero⁺) (q * n + p) zero⁺;
+  matrix = turnedBoth n p q c s (st .matrix);
   vectors = turnColumns n p q c s (st .vectors);
   rotations = suc (st .rotations);
 }

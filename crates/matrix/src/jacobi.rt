@@ -1,16 +1,14 @@
 // The decomposition of a symmetric matrix by sweeps of Jacobi rotations (eigen.rs, `SymmetricEigen::new` from V = I).
 ghost use mathlib.Core.Path.{_≡_};
 ghost use mathlib.Core.Bool.{true, false};
-ghost use Prim.Native.Nat.{ℕ, suc, _+_, _*_, _-_, _<_, _≤_};
+ghost use Prim.Native.Nat.{ℕ, _+_, _*_, _-_, _<_, _≤_};
 ghost use lib.Dec.{T};
 ghost use lib.ListN.{length};
 ghost use lib.Ieee.{eq};
 ghost use Rattle.leaves.specs.Numbers.{_⊘_, zero⁺, isFinite};
-ghost use Rattle.leaves.specs.Loops.{loop};
 ghost use Rattle.matrix.specs.Limits.{maxSide, maxSweeps};
 ghost use Rattle.matrix.specs.Matrix as Matrix;
 ghost use Rattle.matrix.specs.Matrix.{at, allFinite, Symmetric};
-ghost use Rattle.matrix.specs.Rotation as Rotation;
 ghost use Rattle.matrix.specs.Jacobi as Jacobi;
 ghost use Rattle.matrix.specs.Inner.{state, counted, sweptTo, decomposed, byColumns};
 use crate::by_columns::rotate;
@@ -33,7 +31,7 @@ fn count(turned: bool, rotations: usize) -> usize
 // Row p of a sweep. The number of rotations made.
 fn sweep_row(a: &mut [f64], v: &mut [f64], n: usize, p: usize) -> usize
     requires { ⌜ (p < n) × (n ≤ maxSide) × (length (now a) ≡ n * n) × (length (now v) ≡ n * n) × Symmetric n (now a) ⌝ }
-    ensures { λ r. ⌜ ((k : ℕ) → state (now (a .exit)) (byColumns n (now (v .exit))) (k + r) ≡ loop (n - suc p) (λ (j : ℕ). Rotation.rotate n p (suc p + j)) (state (now (a .entry)) (byColumns n (now (v .entry))) k)) ⌝ }
+    ensures { λ r. ⌜ ((k : ℕ) → state (now (a .exit)) (byColumns n (now (v .exit))) (k + r) ≡ Jacobi.sweepRow n p (state (now (a .entry)) (byColumns n (now (v .entry))) k)) ⌝ }
 {
     let from = p + 1;
     let rest = n - from;

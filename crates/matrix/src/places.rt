@@ -1,10 +1,7 @@
 // The first place in a matrix, row by row, where something holds.
 ghost use mathlib.Core.Path.{_≡_};
-ghost use mathlib.Core.Bool.{not};
-ghost use Prim.Native.Nat.{ℕ, _*_};
+ghost use Prim.Native.Nat.{_*_};
 ghost use lib.ListN.{length};
-ghost use lib.Ieee.{lt};
-ghost use Rattle.leaves.specs.Numbers.{_⊖_, abs, isFinite};
 ghost use Rattle.matrix.specs.Matrix as Matrix;
 ghost use Rattle.matrix.specs.Matrix.{at};
 ghost use Rattle.matrix.specs.Places.{placed};
@@ -19,7 +16,7 @@ pub enum Place {
 // The first entry of an m × n matrix that is NaN or infinite.
 pub fn first_not_finite(a: &[f64], m: usize, n: usize) -> Place
     requires { ⌜ length (now a) ≡ m * n ⌝ }
-    ensures { λ r. ⌜ placed r ≡ Matrix.firstEntry m n (λ (i j : ℕ). not (isFinite (at (now (a .entry)) n i j))) ⌝ }
+    ensures { λ r. ⌜ placed r ≡ Matrix.firstNotFinite m n (at (now (a .entry)) n) ⌝ }
 {
     let mut k = 0;
     while k < a.len() {
@@ -45,7 +42,7 @@ pub fn all_finite(a: &[f64], m: usize, n: usize) -> bool
 // The first entry that differs from its transpose by more than the tolerance.
 pub fn first_asymmetric(a: &[f64], n: usize, tolerance: f64) -> Place
     requires { ⌜ length (now a) ≡ n * n ⌝ }
-    ensures { λ r. ⌜ placed r ≡ Matrix.firstEntry n n (λ (i j : ℕ). lt tolerance (abs (at (now (a .entry)) n i j ⊖ at (now (a .entry)) n j i))) ⌝ }
+    ensures { λ r. ⌜ placed r ≡ Matrix.firstAsymmetric n tolerance (at (now (a .entry)) n) ⌝ }
 {
     let mut k = 0;
     while k < a.len() {

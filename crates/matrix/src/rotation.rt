@@ -4,7 +4,8 @@ ghost use Prim.Native.Nat.{ℕ, _+_, _*_, _<_};
 ghost use lib.ListN.{length};
 ghost use Rattle.matrix.specs.Matrix.{at};
 ghost use Rattle.matrix.specs.Rotation as Rotation;
-ghost use Rattle.matrix.specs.Inner.{state, counted, turnedBoth};
+ghost use Rattle.matrix.specs.Inner.{state, counted};
+ghost use Rattle.matrix.specs.Rotation.{turnedBoth};
 use crate::entries::get;
 use crate::entries::put;
 

@@ -1,13 +1,11 @@
 // Sums over a square matrix, from +0, row by row.
 ghost use mathlib.Core.Path.{_≡_};
-ghost use Prim.Native.Nat.{ℕ, _*_, _<_};
+ghost use Prim.Native.Nat.{_*_, _<_};
 ghost use lib.Dec.{ltb};
 ghost use lib.ListN.{length};
-ghost use Rattle.leaves.specs.Numbers.{_⊗_};
 ghost use Rattle.matrix.specs.Matrix as Matrix;
-ghost use Rattle.matrix.specs.Matrix.{at};
+ghost use Rattle.matrix.specs.Matrix.{at, squared, sumRow};
 ghost use Rattle.matrix.specs.Jacobi as Jacobi;
-ghost use Rattle.matrix.specs.Inner.{sumRow};
 use crate::entries::get;
 
 // The sum of the diagonal.
@@ -50,7 +48,7 @@ pub fn squares(a: &[f64], n: usize) -> f64
 // The squares of row p right of the diagonal, added to `sum`.
 fn off_row(a: &[f64], n: usize, p: usize, sum: f64) -> f64
     requires { ⌜ (p < n) × (length (now a) ≡ n * n) ⌝ }
-    ensures { λ r. ⌜ r ≡ sumRow n ltb (λ (i j : ℕ). at (now (a .entry)) n i j ⊗ at (now (a .entry)) n i j) p sum ⌝ }
+    ensures { λ r. ⌜ r ≡ sumRow n ltb (squared (at (now (a .entry)) n)) p sum ⌝ }
 {
     let mut s = sum;
     let mut q = p + 1;

@@ -2,9 +2,9 @@
 ghost use mathlib.Core.Path.{_≡_};
 ghost use Prim.Native.Nat.{ℕ, _*_};
 ghost use lib.ListN.{length};
-ghost use Rattle.leaves.specs.Numbers.{_⊗_, _⊘_, zero⁺};
+ghost use Rattle.leaves.specs.Numbers.{_⊗_, zero⁺};
 ghost use Rattle.leaves.specs.Loops.{tab};
-ghost use Rattle.matrix.specs.Matrix.{at, rows, identity, averaged};
+ghost use Rattle.matrix.specs.Matrix.{at, rows, identity, averaged, divided};
 ghost use Rattle.matrix.specs.Inner.{byColumns};
 use crate::entries::get;
 
@@ -37,7 +37,7 @@ pub fn average(a: &[f64], n: usize, out: &mut [f64])
 // Every entry over a number.
 pub fn divide(a: &[f64], n: usize, scale: f64, out: &mut [f64])
     requires { ⌜ (length (now a) ≡ n * n) × (length (now out) ≡ n * n) ⌝ }
-    ensures { λ _. ⌜ now (out .exit) ≡ rows n n (λ (i j : ℕ). at (now (a .entry)) n i j ⊘ scale) ⌝ }
+    ensures { λ _. ⌜ now (out .exit) ≡ rows n n (divided (at (now (a .entry)) n) scale) ⌝ }
 {
     let size = n * n;
     let mut k = 0;

@@ -21,10 +21,10 @@ use Rattle.paper.specs.declared.kinds.Kind.{Kind}
 use Rattle.paper.specs.declared.rules.Outline.{Outline}
 use Rattle.paper.specs.declared.screen.Shown.{Shown}
 use Rattle.paper.specs.declared.screen.Shown.the-variants.{Big, Number}
-use Rattle.paper.specs.Text.{Out, out, write, digits, unpadded, decimal}
+use Rattle.paper.specs.Text.{Out, out, write, digits, unpadded, maxDigits, decimal}
 use Rattle.paper.specs.Screen.{shown, shownText}
 use Rattle.paper.specs.Answer.{Outcome, refused, ok, lineText, linesText, outcome, outcomeText}
-use Rattle.paper.specs.Grammar.{maxAssets, starts, body, none, more, taken, sheet, kinds}
+use Rattle.paper.specs.Grammar.{fileAssets, starts, body, none, more, taken, sheet, kinds}
 use Rattle.paper.specs.Rules.{outline, value, assets, periods, wellFormed, malformed, question, readPaper}
 use Rattle.paper.specs.Marking.{asked, columns, answerOf, examined, marking}
 use Rattle.paper.specs.Inner.{buffer}
@@ -75,8 +75,8 @@ unpadded-length (d ∷ e ∷ l) = go (eqb d 48) (unpadded-length (e ∷ l))
     go true h = omega arith
     go false h = omega arith
 
-decimal-length : (n : ℕ) → length (decimal n) ≤ 20
-decimal-length n = omega (arith, unpadded-length (digits 10 20 n), digits-length 10 20 n)
+decimal-length : (n : ℕ) → length (decimal n) ≤ maxDigits
+decimal-length n = omega (arith, unpadded-length (digits 10 maxDigits n), digits-length 10 maxDigits n)
 
 shown-length : (s : Shown) → length (shownText s) ≤ 26
 unfolding shownText
@@ -104,7 +104,7 @@ entries (ok n c xs) = length xs
 abbrev pub maxText : ℕ
 maxText = 8192
 
-outcome-length : (a : Outcome) → entries a ≤ maxAssets * maxAssets → length (outcomeText a) ≤ maxText
+outcome-length : (a : Outcome) → entries a ≤ fileAssets * fileAssets → length (outcomeText a) ≤ maxText
 unfolding outcomeText
 outcome-length (refused k) h = simp length-append (omega (arith, decimal-length k))
 outcome-length (ok n c xs) h = simp length-append (omega (arith, decimal-length n, decimal-length c, lines-length c 0 xs))
@@ -163,7 +163,7 @@ outcome-entries n c (Intensity δ) xs = omega arith
 outcome-entries n c Mean xs = omega arith
 outcome-entries n c (Shrunk α target sweeps rotations) xs = omega arith
 
-answer-entries : (o : Outline) (r g : List Float) → wellFormed o ≡ true → entries (answerOf o r g) ≤ maxAssets * maxAssets
+answer-entries : (o : Outline) (r g : List Float) → wellFormed o ≡ true → entries (answerOf o r g) ≤ fileAssets * fileAssets
 unfolding answerOf
 answer-entries o r g e =
     let n = assets o in

@@ -13,7 +13,7 @@ use Rattle.leaves.specs.Numbers.{float}
 use Rattle.estimators.specs.Calls.{adjustedCovariance, exponentiallyWeightedMean, jamesSteinMean, bayesSteinMean}
 use Rattle.estimators.specs.declared.Settings.{Settings}
 use Rattle.paper.specs.declared.rules.Outline.{Outline}
-use Rattle.paper.specs.Grammar.{maxAssets}
+use Rattle.paper.specs.Grammar.{fileAssets}
 use Rattle.paper.specs.Rules.{value, assets, periods}
 use Rattle.paper.specs.Marking.{settingsOf, limitOf, asked, columns, printed, answerOf}
 
@@ -44,21 +44,21 @@ take-replicate zero n x h = refl
 take-replicate (suc m) zero x h = absurd (not-suc-le-zero h)
 take-replicate (suc m) (suc n) x h = ap (λ (l : List Float). x ∷ l) (take-replicate m n x (le-of-suc-le-suc h))
 
-columns-few : (q n : ℕ) → n ≤ maxAssets → columns q n ≤ maxAssets
+columns-few : (q n : ℕ) → n ≤ fileAssets → columns q n ≤ fileAssets
 unfolding columns
 columns-few q n h = go (eqb q 0)
   where
-    go : (t : Bool) → cond t n 1 ≤ maxAssets
+    go : (t : Bool) → cond t n 1 ≤ fileAssets
     go true = h
     go false = omega arith
 
-module _ (o : Outline) (n q c : ℕ) (en : n ≡ assets o) (few : assets o ≤ maxAssets) (eq : q ≡ value o 11) (ec : c ≡ columns q n) where
-  pub answer-fits : n * c ≤ maxAssets * maxAssets
+module _ (o : Outline) (n q c : ℕ) (en : n ≡ assets o) (few : assets o ≤ fileAssets) (eq : q ≡ value o 11) (ec : c ≡ columns q n) where
+  pub answer-fits : n * c ≤ fileAssets * fileAssets
   answer-fits =
-      let h : n ≤ maxAssets = rw en few in
-      let k : c ≤ maxAssets = rw ec (columns-few q n h) in
+      let h : n ≤ fileAssets = rw en few in
+      let k : c ≤ fileAssets = rw ec (columns-few q n h) in
       mul-le-mul h k
 
-  pub answer-is : (r g : List Float) → printed (assets o) c (asked q o r g (take (n * c) (replicate (maxAssets * maxAssets) (ofBits binary64 0)))) ≡ answerOf o r g
+  pub answer-is : (r g : List Float) → printed (assets o) c (asked q o r g (take (n * c) (replicate (fileAssets * fileAssets) (ofBits binary64 0)))) ≡ answerOf o r g
   unfolding answerOf ofBits
-  answer-is r g = rw (take-replicate (n * c) (maxAssets * maxAssets) (ofBits binary64 0) answer-fits, ec, eq, en)
+  answer-is r g = rw (take-replicate (n * c) (fileAssets * fileAssets) (ofBits binary64 0) answer-fits, ec, eq, en)

@@ -12,7 +12,7 @@ use lib.Dec.{leb, eqb, T, leb→le, eqb→eq}
 use lib.Ieee.Fits.{and-l, and-r}
 use borrow.Author.Tests.{eqb-true}
 use Rattle.paper.specs.declared.rules.Outline.{Outline}
-use Rattle.paper.specs.Grammar.{maxAssets, maxPeriods}
+use Rattle.paper.specs.Grammar.{fileAssets, filePeriods}
 use Rattle.paper.specs.Rules.{count, has, value, assets, periods, present, shapeFits, settingsFit, takes, wellFormed}
 
 -- ---- how many of the listed kinds come: n of those before place i
@@ -36,18 +36,18 @@ module _ (o : Outline) (bs : List ℕ) (i n : ℕ) (counted : n + present o (dro
 
 -- ---- T × n and n × n fit
 
-pub product-fits : (t n : ℕ) → t ≤ maxPeriods → n ≤ maxPeriods → t * n < 18446744073709551616
+pub product-fits : (t n : ℕ) → t ≤ filePeriods → n ≤ filePeriods → t * n < 18446744073709551616
 product-fits t n h k = small (t * n) (mul-le-mul h k)
   where
-    small : (x : ℕ) → x ≤ maxPeriods * maxPeriods → x < 18446744073709551616
+    small : (x : ℕ) → x ≤ filePeriods * filePeriods → x < 18446744073709551616
     small x h = omega arith
 
 -- ---- how large a question can be
 
 pub record Sizes (o : Outline) : Type 0 where
-  pub assets-few : assets o ≤ maxAssets
-  pub returns-few : count o 2 ≤ maxPeriods * maxAssets
-  pub given-few : count o 9 ≤ maxAssets * maxAssets
+  pub assets-few : assets o ≤ fileAssets
+  pub returns-few : count o 2 ≤ filePeriods * fileAssets
+  pub given-few : count o 9 ≤ fileAssets * fileAssets
 
 pub sizes : (o : Outline) → wellFormed o ≡ true → Sizes o
 unfolding wellFormed shapeFits
@@ -57,19 +57,19 @@ sizes o e =
     let one = eqb (count o 1) 1 in
     let given = eqb (count o 9) 0 || eqb (count o 9) (n * n) in
     let shape = and-l (shapeFits o) (settingsFit o) (and-l (shapeFits o && settingsFit o) (eqb (count o 11) 1 && takes (value o 11) o) (subst T (sym e) tt)) in
-    let upto-2 = and-l (one && leb n maxAssets && leb t maxPeriods && eqb (count o 2) (t * n)) given shape in
-    let upto-t = and-l (one && leb n maxAssets && leb t maxPeriods) (eqb (count o 2) (t * n)) upto-2 in
-    let few-n : n ≤ maxAssets = leb→le n maxAssets (and-r one (leb n maxAssets) (and-l (one && leb n maxAssets) (leb t maxPeriods) upto-t)) in
-    let few-t : t ≤ maxPeriods = leb→le t maxPeriods (and-r (one && leb n maxAssets) (leb t maxPeriods) upto-t) in
+    let upto-2 = and-l (one && leb n fileAssets && leb t filePeriods && eqb (count o 2) (t * n)) given shape in
+    let upto-t = and-l (one && leb n fileAssets && leb t filePeriods) (eqb (count o 2) (t * n)) upto-2 in
+    let few-n : n ≤ fileAssets = leb→le n fileAssets (and-r one (leb n fileAssets) (and-l (one && leb n fileAssets) (leb t filePeriods) upto-t)) in
+    let few-t : t ≤ filePeriods = leb→le t filePeriods (and-r (one && leb n fileAssets) (leb t filePeriods) upto-t) in
     record {
       assets-few = few-n;
-      returns-few = rw (eqb→eq (count o 2) (t * n) (and-r (one && leb n maxAssets && leb t maxPeriods) (eqb (count o 2) (t * n)) upto-2)) (mul-le-mul few-t few-n);
-      given-few = either (count o 9) n few-n (and-r (one && leb n maxAssets && leb t maxPeriods && eqb (count o 2) (t * n)) given shape);
+      returns-few = rw (eqb→eq (count o 2) (t * n) (and-r (one && leb n fileAssets && leb t filePeriods) (eqb (count o 2) (t * n)) upto-2)) (mul-le-mul few-t few-n);
+      given-few = either (count o 9) n few-n (and-r (one && leb n fileAssets && leb t filePeriods && eqb (count o 2) (t * n)) given shape);
     }
   where
-    either : (c n : ℕ) → n ≤ maxAssets → T (eqb c 0 || eqb c (n * n)) → c ≤ maxAssets * maxAssets
+    either : (c n : ℕ) → n ≤ fileAssets → T (eqb c 0 || eqb c (n * n)) → c ≤ fileAssets * fileAssets
     either c n h t = go (eqb c 0) refl t
       where
-        go : (b : Bool) → eqb c 0 ≡ b → T (b || eqb c (n * n)) → c ≤ maxAssets * maxAssets
+        go : (b : Bool) → eqb c 0 ≡ b → T (b || eqb c (n * n)) → c ≤ fileAssets * fileAssets
         go true e t = omega (arith, eqb-true c 0 e)
         go false e t = rw (eqb→eq c (n * n) t) (mul-le-mul h h)

@@ -9,15 +9,15 @@ use lib.Dec.{ltb, eqb}
 use Rattle.paper.specs.declared.kinds.Kind.{Kind}
 
 -- in a file, n is at most 8 and T at most 128
-abbrev pub maxAssets : ℕ
-maxAssets = 8
+abbrev pub fileAssets : ℕ
+fileAssets = 8
 
-abbrev pub maxPeriods : ℕ
-maxPeriods = 128
+abbrev pub filePeriods : ℕ
+filePeriods = 128
 
 -- the most records of a file
 abbrev pub maxRecords : ℕ
-maxRecords = maxPeriods * maxAssets + maxAssets * maxAssets + 9
+maxRecords = filePeriods * fileAssets + fileAssets * fileAssets + 9
 
 abbrev pub kind : ℕ → ℕ → ℕ → Kind
 kind b l m = record { byte = b; body = l; most = m }
@@ -27,14 +27,14 @@ kind b l m = record { byte = b; body = l; most = m }
 unfoldable pub kinds : List Kind
 kinds =
     kind 1 4 1 ∷
-    kind 2 8 (maxPeriods * maxAssets) ∷
+    kind 2 8 (filePeriods * fileAssets) ∷
     kind 3 8 1 ∷
     kind 4 8 1 ∷
     kind 5 1 1 ∷
     kind 6 8 1 ∷
     kind 7 0 1 ∷
     kind 8 8 1 ∷
-    kind 9 8 (maxAssets * maxAssets) ∷
+    kind 9 8 (fileAssets * fileAssets) ∷
     kind 10 1 1 ∷
     kind 11 1 1 ∷
     []

@@ -6,7 +6,7 @@ use mathlib.Core.List.{List, [], _∷_, map}
 use lib.ListN.{length, getD}
 use lib.Dec.{leb, eqb}
 use Rattle.paper.specs.declared.rules.Outline.{Outline}
-use Rattle.paper.specs.Grammar.{maxAssets, maxPeriods, kinds, placeIn, sheet}
+use Rattle.paper.specs.Grammar.{fileAssets, filePeriods, kinds, placeIn, sheet}
 
 abbrev pub firstOf : List ℕ → ℕ
 firstOf vs = getD vs 0 0
@@ -41,7 +41,7 @@ present o (b ∷ bs) = cond (has o b) (suc (present o bs)) (present o bs)
 -- one shape, within the limits; T × n returns; n × n given entries or none
 unfoldable pub shapeFits : Outline → Bool
 shapeFits o =
-    eqb (count o 1) 1 && leb (assets o) maxAssets && leb (periods o) maxPeriods &&
+    eqb (count o 1) 1 && leb (assets o) fileAssets && leb (periods o) filePeriods &&
     eqb (count o 2) (periods o * assets o) && (eqb (count o 9) 0 || eqb (count o 9) (assets o * assets o))
 
 abbrev pub settings : List ℕ

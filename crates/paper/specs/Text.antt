@@ -23,9 +23,12 @@ unpadded [] = []
 unpadded (d ∷ []) = d ∷ []
 unpadded (d ∷ e ∷ ds) = cond (eqb d 48) (unpadded (e ∷ ds)) (d ∷ e ∷ ds)
 
--- no number of 64 bits has more than 20 decimal digits
+-- no number of 64 bits has more decimal digits
+abbrev pub maxDigits : ℕ
+maxDigits = 20
+
 abbrev pub decimal : ℕ → List ℕ
-decimal n = unpadded (digits 10 20 n)
+decimal n = unpadded (digits 10 maxDigits n)
 
 -- ---- a lent buffer
 

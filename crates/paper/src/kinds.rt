@@ -4,14 +4,15 @@ ghost use Prim.Native.Nat.{_<_};
 ghost use lib.ListN.{length, getD};
 ghost use Rattle.paper.specs.Grammar as Grammar;
 
-pub const MAX_ASSETS: usize = 8;
+// The most assets and periods of a file.
+pub const FILE_ASSETS: usize = 8;
 
-pub const MAX_PERIODS: usize = 128;
+pub const FILE_PERIODS: usize = 128;
 
 // The most returns and the most given entries of a file.
-pub const RETURNS: usize = MAX_PERIODS * MAX_ASSETS;
+pub const RETURNS: usize = FILE_PERIODS * FILE_ASSETS;
 
-pub const ENTRIES: usize = MAX_ASSETS * MAX_ASSETS;
+pub const ENTRIES: usize = FILE_ASSETS * FILE_ASSETS;
 
 // How many kinds there are, and the most records of a file.
 pub const KINDS: usize = 11;

@@ -10,6 +10,7 @@ pub mod settings;
 mod text;
 
 ghost use mathlib.Core.Path.{_≡_};
+ghost use lib.ListN.{take};
 ghost use Rattle.paper.specs.Text.{out as into, write, Counts};
 ghost use Rattle.paper.specs.Marking.{marking};
 use crate::answer::put_refused;
@@ -17,7 +18,7 @@ use crate::kinds::RECORDS;
 use crate::marking::examine;
 use crate::reader::read;
 
-// Bytes that are always enough for what is printed: the laws' `maxText`.
+// Bytes that are always enough for what is printed, as `mark_whole` has it.
 pub const TEXT: usize = 8192;
 
 // Marks a question file: writes what is printed of it to the front of `out`, and answers how many bytes that is.
@@ -35,4 +36,12 @@ pub fn mark(paper: &[u8], out: &mut [u8]) -> usize
     } else {
         put_refused(15, out, 0)
     }
+}
+
+// The same in a buffer that has room for every text: the front of `out` is the whole text.
+pub fn mark_whole(paper: &[u8], out: &mut [u8; TEXT]) -> usize
+    ensures { λ r. ⌜ take r (now (out .exit)) ≡ marking (now (paper .entry)) ⌝ }
+    ensures { λ r. ⌜ Counts r (now (out .exit)) ⌝ }
+{
+    mark(paper, out)
 }

@@ -6,7 +6,7 @@ ghost use lib.ListN.{length};
 ghost use Rattle.estimators.specs.Calls as Calls;
 ghost use Rattle.paper.specs.Text.{out as into, write};
 ghost use Rattle.paper.specs.Answer.{outcomeText};
-ghost use Rattle.paper.specs.Grammar.{maxAssets};
+ghost use Rattle.paper.specs.Grammar.{fileAssets};
 ghost use Rattle.paper.specs.Rules as Rules;
 ghost use Rattle.paper.specs.Marking as Marking;
 ghost use Rattle.paper.specs.Inner.{split, total};
@@ -70,7 +70,7 @@ fn put_asked(
 }
 
 fn answer(o: Outline, returns: &[f64], given: &[f64], out: &mut [u8]) -> usize
-    requires { ⌜ Rules.assets o ≤ maxAssets ⌝ }
+    requires { ⌜ Rules.assets o ≤ fileAssets ⌝ }
     ensures { λ r. ⌜ into (now (out .exit)) r ≡ write (into (now (out .entry)) 0) (outcomeText (Marking.answerOf o (now (returns .entry)) (now (given .entry)))) ⌝ }
 {
     let n = assets(o) as usize;

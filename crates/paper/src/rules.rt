@@ -3,9 +3,9 @@ ghost use mathlib.Core.Path.{_≡_};
 ghost use lib.ListN.{getD};
 ghost use Rattle.paper.specs.Grammar.{kinds, placeIn};
 ghost use Rattle.paper.specs.Rules as Rules;
+use crate::kinds::FILE_ASSETS;
+use crate::kinds::FILE_PERIODS;
 use crate::kinds::KINDS;
-use crate::kinds::MAX_ASSETS;
-use crate::kinds::MAX_PERIODS;
 use crate::kinds::place;
 
 // Of each kind, in the order of the file, how many records there are and the first body, 0 where there is none.
@@ -77,10 +77,10 @@ fn shape_fits(o: Outline) -> bool
     if count(o, 1) != 1 {
         return false;
     }
-    if n > MAX_ASSETS as u64 {
+    if n > FILE_ASSETS as u64 {
         return false;
     }
-    if t > MAX_PERIODS as u64 {
+    if t > FILE_PERIODS as u64 {
         return false;
     }
     if count(o, 2) != t * n {

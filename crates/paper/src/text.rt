@@ -6,7 +6,7 @@ ghost use lib.ListN.{length, drop};
 ghost use Rattle.paper.specs.Text as Text;
 ghost use Rattle.paper.specs.Text.{out as into, write};
 
-// No number of 64 bits has more decimal digits.
+// No number of 64 bits has more decimal digits: the definitions' `maxDigits`.
 const DIGITS: usize = 20;
 
 pub fn put(out: &mut [u8], at: usize, b: u8) -> usize
@@ -73,7 +73,7 @@ fn significant(text: &[u8]) -> usize
 
 // The last k digits of n.
 pub fn put_digits(base: u64, k: usize, n: u64, out: &mut [u8], at: usize) -> usize
-    requires { ⌜ (0 < base) × (base ≤ 16) × (k ≤ 20) ⌝ }
+    requires { ⌜ (0 < base) × (base ≤ 16) × (k ≤ Text.maxDigits) ⌝ }
     ensures { λ r. ⌜ into (now (out .exit)) r ≡ write (into (now (out .entry)) at) (Text.digits base k n) ⌝ }
 {
     let mut text = [0u8; DIGITS];

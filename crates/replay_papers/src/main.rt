@@ -10,7 +10,7 @@ fn wide(b: u8) -> usize
 
 fn mark(paper: &[u8]) {
     let mut text = [0u8; paper::TEXT];
-    let k = paper::mark(paper, &mut text);
+    let k = paper::mark_whole(paper, &mut text);
     io::write_all(libc::STDOUT_FILENO, &text[..k]);
 }
 

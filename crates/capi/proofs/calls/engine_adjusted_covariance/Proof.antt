@@ -1,4 +1,4 @@
--- `capi::calls::engine_adjusted_covariance` meets its contract: 16 where a kind is unknown, else the call's answer with the settings that the numbers stand for.
+-- `capi::calls::engine_adjusted_covariance` meets its contract: `unknownKind` where a kind is none, else the call's answer with the settings that the numbers stand for.
 use mathlib.Core.Path.{_≡_, sym, ap, _∙_}
 use mathlib.Core.List.{List}
 use Prim.Native.Nat.{ℕ}

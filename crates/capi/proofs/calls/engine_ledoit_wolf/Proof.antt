@@ -1,4 +1,4 @@
--- `capi::calls::engine_ledoit_wolf` meets its contract: 16 where the target is unknown, else the call's answer.
+-- `capi::calls::engine_ledoit_wolf` meets its contract: `unknownKind` where the target is none, else the call's answer.
 use mathlib.Core.Path.{_≡_, ap, _∙_}
 use mathlib.Core.List.{List, []}
 use Prim.Native.Nat.{ℕ}

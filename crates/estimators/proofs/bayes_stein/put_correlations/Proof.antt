@@ -5,9 +5,11 @@ use native.Mathlib.Omega.{arith}
 use borrow.Author.Needs.{needs}
 use Rattle.leaves.specs.Numbers.{_⊘_}
 use Rattle.leaves.specs.Loops.{nth}
-use Rattle.leaves.proofs.Loops.{side, row-below, col-below, Filled, filled-none, filled-more}
+use Rattle.leaves.proofs.Invariants.{Filled, filled-more, filled-none}
+use Rattle.leaves.proofs.Loops.{side, row-below, col-below}
 use Rattle.matrix.specs.Matrix.{at}
-use Rattle.matrix.proofs.Stored.{entry-at, filled-rows}
+use Rattle.matrix.proofs.Stored.{entry-at}
+use Rattle.matrix.proofs.FilledRows.{filled-rows}
 use Rattle.estimators.proofs.bayes_stein.put_correlations.Statement.{statement}
 use Rattle.estimators.proofs.bayes_stein.put_correlations.Tie as tie
 

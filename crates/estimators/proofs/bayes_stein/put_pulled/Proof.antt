@@ -8,8 +8,8 @@ use lib.Ieee.{Float, ofBits}
 use borrow.Author.Needs.{needs}
 use Rattle.leaves.specs.Numbers.{_⊕_, _⊖_, _⊗_, one}
 use Rattle.leaves.specs.Loops.{nth}
+use Rattle.leaves.proofs.Invariants.{Filled, filled-more, filled-whole, filled-none}
 use Rattle.leaves.specs.Scaling.{pow2Scaled}
-use Rattle.leaves.proofs.Loops.{Filled, filled-none, filled-more, filled-whole}
 use Rattle.estimators.specs.BayesStein.{pulled}
 use Rattle.estimators.specs.Stein.{pullOf}
 use Rattle.estimators.proofs.Exponents.{read}

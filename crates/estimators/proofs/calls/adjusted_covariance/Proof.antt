@@ -8,7 +8,8 @@ use mir.Facts.{fits-below}
 use Rattle.estimators.specs.Order.{opening, ofGiven, ofSettings, adjustedOrder}
 use Rattle.estimators.specs.Checks.{checked}
 use Rattle.estimators.specs.Calls.{adjustedCovariance}
-use Rattle.estimators.proofs.Opened.{shape-passes, shape-refuses, shape-fits}
+use Rattle.estimators.proofs.Opened.{shape-refuses, shape-fits}
+use Rattle.estimators.proofs.Shapes.{shape-passes}
 use borrow.Author.Needs.{needs}
 use Rattle.estimators.proofs.calls.adjusted_covariance.Statement.{statement}
 use Rattle.estimators.proofs.calls.adjusted_covariance.Tie as tie

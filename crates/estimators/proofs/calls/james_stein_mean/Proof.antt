@@ -5,7 +5,8 @@ use lib.Seq.{length-take-le}
 use Rattle.estimators.specs.Order.{jamesSteinOrder}
 use Rattle.estimators.specs.Checks.{checked}
 use Rattle.estimators.specs.Calls.{jamesSteinMean}
-use Rattle.estimators.proofs.Opened.{shape-passes, shape-refuses, shape-fits}
+use Rattle.estimators.proofs.Opened.{shape-refuses, shape-fits}
+use Rattle.estimators.proofs.Shapes.{shape-passes}
 use borrow.Author.Needs.{needs}
 use Rattle.estimators.proofs.calls.james_stein_mean.Statement.{statement}
 use Rattle.estimators.proofs.calls.james_stein_mean.Tie as tie

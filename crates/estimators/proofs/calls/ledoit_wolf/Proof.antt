@@ -2,7 +2,7 @@
 use mathlib.Core.Path.{sym, ap, _∙_}
 use lib.ListN.{length}
 use Rattle.estimators.specs.Checks.{checked}
-use Rattle.estimators.proofs.Opened.{shape-passes}
+use Rattle.estimators.proofs.Shapes.{shape-passes}
 use Rattle.estimators.proofs.LedoitWolfCall.{shape-refuses}
 use borrow.Author.Needs.{needs}
 use Rattle.estimators.proofs.calls.ledoit_wolf.Statement.{statement}

@@ -4,7 +4,7 @@ use native.Mathlib.Omega.{arith}
 use borrow.Author.Needs.{needs}
 use Rattle.leaves.specs.Numbers.{_⊗_}
 use Rattle.leaves.specs.Loops.{sumTo, nth}
-use Rattle.leaves.proofs.Loops.{Filled, filled-none, filled-more, filled-whole}
+use Rattle.leaves.proofs.Invariants.{Filled, filled-more, filled-whole, filled-none}
 use Rattle.matrix.specs.Matrix.{at}
 use Rattle.estimators.specs.BayesStein.{project}
 use Rattle.estimators.proofs.forms.project.Statement.{statement}

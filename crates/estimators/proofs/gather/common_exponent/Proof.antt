@@ -11,7 +11,7 @@ use mir.Syntax.{w32}
 use mir.Val.{toZ, ofZ}
 use borrow.Author.Needs.{needs}
 use Rattle.leaves.specs.Loops.{loop, nth}
-use Rattle.leaves.proofs.Loops.{loop-start, loop-turn, loop-end}
+use Rattle.leaves.proofs.Invariants.{loop-turn, loop-end, loop-start}
 use Rattle.estimators.specs.BayesStein.{orZero, commonExponent, withExponent}
 use Rattle.estimators.specs.Gather.{largestOf, Exponents, Summed, twoExponents}
 use Rattle.estimators.proofs.Exponents.{read}

@@ -9,8 +9,8 @@ use mir.Syntax.{w32}
 use mir.Val.{toZ}
 use borrow.Author.Needs.{needs}
 use Rattle.leaves.specs.Loops.{nth}
+use Rattle.leaves.proofs.Invariants.{Filled, filled-here, filled-more, filled-whole, filled-none}
 use Rattle.leaves.specs.Scaling.{pow2Scaled}
-use Rattle.leaves.proofs.Loops.{Filled, filled-none, filled-here, filled-more, filled-whole}
 use Rattle.estimators.specs.BayesStein.{gathered}
 use Rattle.estimators.proofs.Exponents.{read, neg-fits, both-fits, both-read}
 use Rattle.estimators.proofs.gather.scale.Statement.{statement}

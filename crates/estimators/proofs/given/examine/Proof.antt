@@ -6,9 +6,9 @@ use Prim.Native.Nat.{ℕ}
 use lib.Ieee.{Float}
 use Rattle.leaves.specs.Numbers.{_⊗_}
 use Rattle.matrix.specs.Matrix.{Matrix, at, rows, amax, averaged}
-use Rattle.matrix.specs.Jacobi.{Decomposition}
+use Rattle.matrix.specs.Jacobi.{Decomposition, smallestValue}
 use Rattle.estimators.specs.Refusals.{when, first}
-use Rattle.estimators.specs.Given.{smallest, indefinite, decomposeGiven}
+use Rattle.estimators.specs.Given.{indefinite, decomposeGiven}
 use Rattle.estimators.specs.Checks.{checked, examined, judged}
 use Rattle.estimators.specs.Order.{byEntries, byValues, byNumbers}
 use Rattle.estimators.specs.declared.Refusal.{Refusal}
@@ -36,7 +36,7 @@ module _ (limit n : ℕ) (g : Matrix) (bad : Check) (eb : checked bad ≡ first 
   unfolding first
   accepted h e =
       let d = of limit n out in
-      e ∙ ap (λ (m : Float). examined (first (when (not (d .found)) NotDecomposed ∷ when (indefinite n d) (Indefinite (smallest n d ⊗ m)) ∷ [])) d) (ap (λ (o : List Float). amax n n (at o n)) eo ∙ amax-rows (averaged g) n)
+      e ∙ ap (λ (m : Float). examined (first (when (not (d .found)) NotDecomposed ∷ when (indefinite n d) (Indefinite (smallestValue n d ⊗ m)) ∷ [])) d) (ap (λ (o : List Float). amax n n (at o n)) eo ∙ amax-rows (averaged g) n)
       ∙ rw (first-front (byEntries n g) (byValues n (averaged g) d), ← eb, h)
 
 average-requires : tie.Need-average-requires

@@ -6,10 +6,10 @@ use lib.ListN.{length}
 use lib.Ieee.{Float, neg, lt, ofBits, ofInt}
 use Rattle.leaves.specs.Numbers.{_⊗_, count, ε}
 use Rattle.leaves.specs.Loops.{amaxTo, minTo, nth}
-use Rattle.matrix.specs.Jacobi.{Decomposition}
+use Rattle.matrix.specs.Jacobi.{Decomposition, smallestValue}
 use Rattle.matrix.specs.Inner.{decomposed}
 use Rattle.estimators.specs.Refusals.{first}
-use Rattle.estimators.specs.Given.{smallest, indefinite}
+use Rattle.estimators.specs.Given.{indefinite}
 use Rattle.estimators.specs.declared.given.Examined.the-variants.{Refused}
 use Rattle.estimators.specs.declared.Refusal.the-variants.{Indefinite}
 use borrow.Author.Needs.{needs}
@@ -18,7 +18,7 @@ use Rattle.estimators.proofs.given.judge.Tie as tie
 
 module _ (n : ℕ) (d : Decomposition) {lowest size largest : Float} (el : lowest ≡ minTo (length (d .values)) (nth (d .values))) (es : size ≡ count n)
     (em : largest ≡ amaxTo (length (d .values)) (nth (d .values))) (l : length (d .values) ≡ n) where
-  low : lowest ≡ smallest n d
+  low : lowest ≡ smallestValue n d
   low = el ∙ ap (λ (k : ℕ). minTo k (nth (d .values))) l
 
   -- the test, by what the calls ensure

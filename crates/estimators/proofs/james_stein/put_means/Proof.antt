@@ -8,8 +8,8 @@ use mir.Val.{toZ}
 use mir.Facts.{toZ-ofZ}
 use borrow.Author.Needs.{needs}
 use Rattle.leaves.specs.Loops.{nth}
+use Rattle.leaves.proofs.Invariants.{Filled, filled-more, filled-whole, filled-none}
 use Rattle.leaves.specs.Scaling.{pow2Scaled}
-use Rattle.leaves.proofs.Loops.{Filled, filled-none, filled-more, filled-whole}
 use Rattle.estimators.specs.JamesStein.{towards}
 use Rattle.estimators.proofs.james_stein.put_means.Statement.{statement}
 use Rattle.estimators.proofs.james_stein.put_means.Tie as tie

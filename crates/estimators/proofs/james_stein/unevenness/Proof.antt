@@ -6,7 +6,8 @@ use lib.ListN.{length}
 use lib.Ieee.{ofBits}
 use borrow.Author.Needs.{needs}
 use Rattle.leaves.specs.Loops.{nth}
-use Rattle.leaves.proofs.Loops.{amax-none, amax-turn, at-end}
+use Rattle.leaves.proofs.Invariants.{amax-none, amax-turn}
+use Rattle.leaves.proofs.Loops.{at-end}
 use Rattle.estimators.specs.JamesStein.{unevenness}
 use Rattle.estimators.proofs.james_stein.unevenness.Statement.{statement}
 use Rattle.estimators.proofs.james_stein.unevenness.Tie as tie

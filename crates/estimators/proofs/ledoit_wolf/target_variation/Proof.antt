@@ -4,9 +4,8 @@ use Prim.Native.Nat.{_≤_, _-_}
 use native.Mathlib.Omega.{arith}
 use Rattle.leaves.specs.Numbers.{_⊗_, _⊘_}
 use Rattle.leaves.specs.Loops.{loop, nth}
-use Rattle.leaves.proofs.Loops.{loop-start, loop-turn, loop-end}
-use Rattle.matrix.specs.Matrix.{at, trace, sumOver}
-use Rattle.matrix.specs.Inner.{sumRow}
+use Rattle.leaves.proofs.Invariants.{loop-turn, loop-end, loop-start}
+use Rattle.matrix.specs.Matrix.{at, trace, sumOver, sumRow}
 use Rattle.estimators.specs.LedoitWolf.{apart}
 use borrow.Author.Needs.{needs}
 use Rattle.estimators.proofs.ledoit_wolf.target_variation.Statement.{statement}

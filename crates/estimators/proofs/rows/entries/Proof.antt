@@ -4,7 +4,7 @@ use native.Mathlib.Omega.{arith}
 use borrow.Author.Needs.{needs}
 use lib.ListN.{length}
 use Rattle.leaves.specs.Loops.{nth}
-use Rattle.leaves.proofs.Loops.{Filled, filled-none, filled-more, filled-whole}
+use Rattle.leaves.proofs.Invariants.{Filled, filled-more, filled-whole, filled-none}
 use Rattle.estimators.specs.Rows.{formed}
 use Rattle.estimators.proofs.rows.entries.Statement.{statement}
 use Rattle.estimators.proofs.rows.entries.Tie as tie

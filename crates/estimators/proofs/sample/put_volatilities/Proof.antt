@@ -1,7 +1,8 @@
 -- `estimators::sample::put_volatilities` meets its contract. The invariant: every number passed is the square root of its variance.
 use Prim.Native.Nat.{_-_}
 use native.Mathlib.Omega.{arith}
-use Rattle.leaves.proofs.Loops.{row, Filled, filled-none, filled-more, filled-whole}
+use Rattle.leaves.proofs.Loops.{row}
+use Rattle.leaves.proofs.Invariants.{Filled, filled-more, filled-whole, filled-none}
 use Rattle.matrix.specs.Matrix.{at}
 use Rattle.estimators.specs.Sample.{volatility}
 use borrow.Author.Needs.{needs}

@@ -8,10 +8,11 @@ use lib.IntN.{ℤ, pos, natAbs}
 use lib.ListN.{length}
 use borrow.Author.Needs.{needs}
 use Rattle.leaves.specs.Loops.{tab, nth}
+use Rattle.leaves.proofs.Invariants.{Filled, filled-more, filled-whole, filled-none}
 use Rattle.leaves.specs.Scaling.{binaryExponent}
 use Rattle.leaves.proofs.Whole.{le-or-lt}
 use Rattle.leaves.proofs.Ints.{back-i32}
-use Rattle.leaves.proofs.Loops.{Filled, filled-none, filled-more, length-tab, filled-whole}
+use Rattle.leaves.proofs.Loops.{length-tab}
 use Rattle.estimators.specs.Held.{maxExponent}
 use Rattle.estimators.specs.Gather.{Exponents}
 use Rattle.estimators.proofs.Stored.{getD-stored}

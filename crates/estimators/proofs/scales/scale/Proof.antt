@@ -7,8 +7,8 @@ use lib.ListN.{length, getD}
 use lib.Ieee.{nan}
 use borrow.Author.Needs.{needs}
 use Rattle.leaves.specs.Loops.{nth}
+use Rattle.leaves.proofs.Invariants.{Filled, filled-here, filled-more, filled-whole, filled-none}
 use Rattle.leaves.specs.Scaling.{pow2Scaled}
-use Rattle.leaves.proofs.Loops.{Filled, filled-none, filled-here, filled-more, filled-whole}
 use Rattle.estimators.proofs.Exponents.{read}
 use Rattle.estimators.proofs.scales.scale.Statement.{statement}
 use Rattle.estimators.proofs.scales.scale.Tie as tie

@@ -1,6 +1,6 @@
 -- `estimators::targets::add_apart` meets its contract: each arm returns what `addKept` picks at the arm's test.
 use borrow.Author.Tests.{eq-eqb, ne-eqb}
-use Rattle.matrix.specs.Inner.{addKept}
+use Rattle.matrix.specs.Matrix.{addKept}
 use Rattle.estimators.proofs.targets.add_apart.Statement.{statement}
 use Rattle.estimators.proofs.targets.add_apart.Tie as tie
 

@@ -4,9 +4,9 @@ use Prim.Native.Nat.{_≤_, _-_}
 use native.Mathlib.Omega.{arith}
 use Rattle.leaves.specs.Numbers.{_⊘_}
 use Rattle.leaves.specs.Loops.{nth}
-use Rattle.leaves.proofs.Loops.{row, loop-start, loop-turn, at-end}
-use Rattle.matrix.specs.Matrix.{Matrix, at}
-use Rattle.matrix.specs.Inner.{sumRow}
+use Rattle.leaves.proofs.Invariants.{loop-turn, loop-start}
+use Rattle.leaves.proofs.Loops.{row, at-end}
+use Rattle.matrix.specs.Matrix.{Matrix, at, sumRow}
 use Rattle.estimators.specs.LedoitWolf.{apart}
 use borrow.Author.Needs.{needs}
 use Rattle.estimators.proofs.targets.add_correlations.Statement.{statement}

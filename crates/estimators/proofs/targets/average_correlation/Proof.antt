@@ -7,10 +7,10 @@ use native.Mathlib.Omega.{arith}
 use lib.Ieee.{Float, ofBits}
 use Rattle.leaves.specs.Numbers.{_⊘_, count, zero⁺}
 use Rattle.leaves.specs.Loops.{loop, tab, nth}
-use Rattle.leaves.proofs.Loops.{loop-start, loop-turn, loop-end, length-tab}
+use Rattle.leaves.proofs.Invariants.{loop-turn, loop-end, loop-start}
+use Rattle.leaves.proofs.Loops.{length-tab}
 use Rattle.matrix.specs.Limits.{maxSide}
-use Rattle.matrix.specs.Matrix.{Matrix, at, sumOver}
-use Rattle.matrix.specs.Inner.{sumRow}
+use Rattle.matrix.specs.Matrix.{Matrix, at, sumOver, sumRow}
 use Rattle.estimators.specs.Sample.{volatility}
 use Rattle.estimators.specs.LedoitWolf.{apart, averageCorrelation}
 use Rattle.estimators.proofs.Stored.{nth-stored}

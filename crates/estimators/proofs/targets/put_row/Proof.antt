@@ -7,7 +7,7 @@ use lib.ListN.{length, set}
 use lib.Ieee.{Float}
 use Rattle.leaves.specs.Numbers.{_⊗_}
 use Rattle.leaves.specs.Loops.{nth}
-use Rattle.leaves.proofs.Loops.{Filled, filled-none, filled-more, filled-whole}
+use Rattle.leaves.proofs.Invariants.{Filled, filled-more, filled-whole, filled-none}
 use Rattle.estimators.proofs.Entries.{set-tab}
 use borrow.Author.Needs.{needs}
 use Rattle.estimators.proofs.targets.put_row.Statement.{statement}

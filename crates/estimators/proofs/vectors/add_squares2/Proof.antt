@@ -6,8 +6,8 @@ use lib.ListN.{length}
 use lib.Ieee.{nan}
 use Rattle.leaves.specs.Numbers.{_⊕_, _⊗_}
 use Rattle.leaves.specs.Loops.{nth}
-use Rattle.leaves.proofs.Loops.{Filled, filled-none, filled-here, filled-more, filled-whole}
-use Rattle.estimators.specs.Rows.{distance²}
+use Rattle.leaves.proofs.Invariants.{Filled, filled-here, filled-more, filled-whole, filled-none}
+use Rattle.estimators.specs.LedoitWolf.{distance²}
 use Rattle.estimators.proofs.vectors.add_squares2.Statement.{statement}
 use Rattle.estimators.proofs.vectors.add_squares2.Tie as tie
 

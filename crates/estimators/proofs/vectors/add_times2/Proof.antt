@@ -6,7 +6,7 @@ use lib.ListN.{length}
 use lib.Ieee.{nan}
 use Rattle.leaves.specs.Numbers.{_⊕_, _⊗_}
 use Rattle.leaves.specs.Loops.{nth}
-use Rattle.leaves.proofs.Loops.{Filled, filled-none, filled-here, filled-more, filled-whole}
+use Rattle.leaves.proofs.Invariants.{Filled, filled-here, filled-more, filled-whole, filled-none}
 use Rattle.estimators.proofs.vectors.add_times2.Statement.{statement}
 use Rattle.estimators.proofs.vectors.add_times2.Tie as tie
 

@@ -6,7 +6,7 @@ use lib.ListN.{length}
 use lib.Ieee.{Float}
 use Rattle.leaves.specs.Numbers.{_⊗_, count}
 use Rattle.leaves.specs.Exp.{exp}
-use Rattle.leaves.proofs.Loops.{Filled, filled-none, filled-more, filled-whole}
+use Rattle.leaves.proofs.Invariants.{Filled, filled-more, filled-whole, filled-none}
 use Rattle.estimators.specs.Weighted.{weights}
 use borrow.Author.Needs.{needs}
 use Rattle.estimators.proofs.weighted.put_weights.Statement.{statement}

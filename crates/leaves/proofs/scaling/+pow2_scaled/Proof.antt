@@ -12,12 +12,12 @@ use mir.Val.{SFits, toZ, ofZ}
 use mir.Facts.{toZ-ofZ}
 use borrow.Fn.Kinds.{In}
 use borrow.Fn.PlainCycle.{Measures, is, falls, and}
-use Rattle.leaves.specs.Inner.{cut}
-use Rattle.leaves.specs.Scaling.{pow2, pow2Scaled}
+use Rattle.leaves.specs.Scaling.{pow2, pow2Scaled, cut}
 use Rattle.leaves.proofs.Whole.{over, under, one-side, minus, same}
-use Rattle.leaves.proofs.Ints.{yes-le, fits-i32, i32-fits, back-i32}
+use Rattle.leaves.proofs.Ints.{yes-le}
 use Rattle.leaves.proofs.Scale.{cut-range, scale-last}
 use Rattle.leaves.proofs.ScaleSteps.{scale-step}
+use Rattle.leaves.proofs.CutRead.{cut-is, step-read, left-fits, left-read}
 use Rattle.leaves.proofs.scaling.pow2_scaled.Reads as pow2-scaled
 use Rattle.leaves.proofs.scaling.pow2_scaled.Kinds as pow2-scaled-kinds
 use Rattle.leaves.proofs.scaling.+pow2_scaled.Lts-pow2_scaled as pow2-scaled-lts
@@ -37,49 +37,34 @@ abbrev pow2-scaled-below : ℕ → In 0 pow2-scaled-kinds.ps
 pow2-scaled-below t =
     and 0 pow2-scaled-kinds.ps (falls 0 pow2-scaled-kinds.ps _<_ μ-pow2-scaled t) pow2-scaled.Pre
 
--- k - cut k is an i32, and nearer to 0 than k is where k is cut
-apart : (k : ℤ) → SFits w32 k → SFits w32 (k -ℤ cut k)
-apart k h = fits-i32 (k -ℤ cut k) (omega (arith, minus k (cut k), cut-range k, i32-fits k h, one-side (k -ℤ cut k))) (omega (arith, minus k (cut k), cut-range k, i32-fits k h, one-side (k -ℤ cut k)))
-
+-- what is left of k is nearer to 0 than k, where k is cut
 nearer : (k : ℤ) → (cut k ≡ k → ⊥) → over (k -ℤ cut k) + under (k -ℤ cut k) < over k + under k
 nearer k h = lt-of-not-le (λ (g : over k + under k ≤ over (k -ℤ cut k) + under (k -ℤ cut k)). h (same (cut k) k (omega (arith, minus k (cut k), cut-range k, one-side k, one-side (k -ℤ cut k)))))
 
 -- What the code holds at each place: s is what `cut` gave, and y what `pow2` gave. The machine reads a number back from its bits.
 module _ (x y : Float) (k s : ℤ) (fk : SFits w32 k) (fs : mag s < 2 ^ 31) (is-cut : s ≡ cut (toZ w32 (ofZ w32 k))) where
-  cut-is : s ≡ cut k
-  cut-is = is-cut ∙ ap cut (toZ-ofZ fk)
-
-  left-is : toZ w32 (ofZ w32 k) -ℤ toZ w32 (ofZ w32 s) ≡ k -ℤ cut k
-  left-is = rw (toZ-ofZ fk, back-i32 s fs, cut-is)
-
   in-range : T (leZ (negsuc 1021) (toZ w32 (ofZ w32 s))) × T (leZ (toZ w32 (ofZ w32 s)) (pos 1023))
   unfolding over under
-  in-range = rw (back-i32 s fs, cut-is) (yes-le (negsuc 1021) (cut k) (omega (arith, cut-range k)), yes-le (cut k) (pos 1023) (omega (arith, cut-range k)))
-
-  left-fits : SFits w32 (toZ w32 (ofZ w32 k) -ℤ toZ w32 (ofZ w32 s))
-  left-fits = rw left-is (apart k fk)
-
-  left-read : toZ w32 (ofZ w32 (toZ w32 (ofZ w32 k) -ℤ toZ w32 (ofZ w32 s))) ≡ k -ℤ cut k
-  left-read = toZ-ofZ left-fits ∙ left-is
+  in-range = rw (step-read k s fk fs is-cut) (yes-le (negsuc 1021) (cut k) (omega (arith, cut-range k)), yes-le (cut k) (pos 1023) (omega (arith, cut-range k)))
 
   differ : (ofZ w32 s ≡ ofZ w32 k → ⊥) → cut k ≡ k → ⊥
-  differ ne e = ne (ap (ofZ w32) (cut-is ∙ e))
+  differ ne e = ne (ap (ofZ w32) (cut-is k s fk fs is-cut ∙ e))
 
   less : (t : ℕ) → over k + under k ≡ t → (ofZ w32 s ≡ ofZ w32 k → ⊥)
       → over (toZ w32 (ofZ w32 (toZ w32 (ofZ w32 k) -ℤ toZ w32 (ofZ w32 s)))) + under (toZ w32 (ofZ w32 (toZ w32 (ofZ w32 k) -ℤ toZ w32 (ofZ w32 s)))) < t
-  less t e ne = rw (left-read, ← e) (nearer k (differ ne))
+  less t e ne = rw (left-read k s fk fs is-cut, ← e) (nearer k (differ ne))
 
   module _ (is-pow : y ≡ pow2 (toZ w32 (ofZ w32 s))) where
     y-is : y ≡ pow2 (cut k)
-    y-is = is-pow ∙ ap pow2 (back-i32 s fs ∙ cut-is)
+    y-is = is-pow ∙ ap pow2 (step-read k s fk fs is-cut)
 
     last : ofZ w32 s ≡ ofZ w32 k → mul binary64 x y ≡ pow2Scaled x k
     last e =
-        let same-k : cut k ≡ k = sym cut-is ∙ sym (back-i32 s fs) ∙ ap (toZ w32) e ∙ toZ-ofZ fk in
+        let same-k : cut k ≡ k = sym (step-read k s fk fs is-cut) ∙ ap (toZ w32) e ∙ toZ-ofZ fk in
         rw (y-is, same-k) (scale-last x k same-k)
 
     next : (r : Float) → (ofZ w32 s ≡ ofZ w32 k → ⊥) → r ≡ pow2Scaled (mul binary64 x y) (toZ w32 (ofZ w32 (toZ w32 (ofZ w32 k) -ℤ toZ w32 (ofZ w32 s)))) → r ≡ pow2Scaled x k
-    next r ne e = rw (e, left-read, y-is) (scale-step x k (differ ne))
+    next r ne e = rw (e, left-read k s fk fs is-cut, y-is) (scale-step x k (differ ne))
 
 pow2-scaled-cut-requires : (t : ℕ) → pow2-scaled-lts.Need-cut-requires (cut-reads.Asked, cut-reads.Learnt, pow2-reads.Asked, pow2-reads.Learnt, pow2-scaled-below t, pow2-scaled.Post) (pow2-scaled-at t) pow2-scaled.Post
 pow2-scaled-cut-requires t c κs = tt
@@ -91,7 +76,7 @@ pow2-scaled-sub-pow2-scaled : (t : ℕ) → pow2-scaled-lts.Need-sub-pow2-scaled
 pow2-scaled-sub-pow2-scaled t c =
     let a = c .before .before .cut in
     let b = c .before .before .before in
-    left-fits nan nan (b .args .k) (a .result) (b .fits .k) (a .ok) (a .ensures)
+    left-fits (b .args .k) (a .result) (b .fits .k) (a .ok) (a .ensures)
 
 pow2-scaled-pow2-scaled-requires : (t : ℕ) → pow2-scaled-lts.Need-pow2-scaled-requires (cut-reads.Asked, cut-reads.Learnt, pow2-reads.Asked, pow2-reads.Learnt, pow2-scaled-below t, pow2-scaled.Post) (pow2-scaled-at t) pow2-scaled.Post
 pow2-scaled-pow2-scaled-requires t c κs =

@@ -1,6 +1,6 @@
 -- `leaves::scaling::cut` meets its contract: each arm returns what `cond` picks at the arm's test. The machine reads k back from its bits, which is k.
 use mir.Facts.{toZ-ofZ}
-use Rattle.leaves.specs.Inner.{cut}
+use Rattle.leaves.specs.Scaling.{cut}
 use Rattle.leaves.proofs.scaling.cut.Statement.{statement}
 use Rattle.leaves.proofs.scaling.cut.Tie as tie
 

@@ -8,10 +8,11 @@ use lib.Dec.{T}
 use lib.Ieee.{Float, binary64, ofBits}
 use lib.Ieee.Fits.{div-fits}
 use Rattle.leaves.specs.Numbers.{_⊕_, _⊗_, _⊘_, zero⁺, half, isFinite}
-use Rattle.leaves.proofs.Loops.{side, row-below, col-below, Filled, filled-none, filled-more}
+use Rattle.leaves.proofs.Loops.{side, row-below, col-below}
+use Rattle.leaves.proofs.Invariants.{Filled, filled-more, filled-none}
 use Rattle.matrix.specs.Matrix.{Matrix, at, rows}
 use Rattle.matrix.specs.Jacobi.{start}
-use Rattle.matrix.proofs.Stored.{filled-rows}
+use Rattle.matrix.proofs.FilledRows.{filled-rows}
 use Rattle.matrix.proofs.Identity.{scaledEntry, start-is}
 use Rattle.matrix.proofs.jacobi.start.Statement.{statement}
 use Rattle.matrix.proofs.jacobi.start.Tie as tie

@@ -6,7 +6,8 @@ use native.Mathlib.Omega.{arith}
 use borrow.Author.Needs.{needs}
 use lib.ListN.{length}
 use Rattle.leaves.specs.Loops.{loop}
-use Rattle.leaves.proofs.Loops.{loop-start, loop-turn, loop-end, row}
+use Rattle.leaves.proofs.Invariants.{loop-turn, loop-end, loop-start}
+use Rattle.leaves.proofs.Loops.{row}
 use Rattle.matrix.specs.Limits.{maxSide}
 use Rattle.matrix.specs.Rotation.{rotate}
 use Rattle.matrix.specs.Jacobi.{sweep}

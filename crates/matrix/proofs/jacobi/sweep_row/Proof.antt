@@ -9,7 +9,7 @@ use borrow.Author.Needs.{needs}
 use lib.ListN.{length}
 use lib.Ieee.{Float}
 use Rattle.leaves.specs.Loops.{loop}
-use Rattle.leaves.proofs.Loops.{loop-start, loop-turn, loop-end}
+use Rattle.leaves.proofs.Invariants.{loop-turn, loop-end, loop-start}
 use Rattle.matrix.specs.Rotation.{rotate}
 use Rattle.matrix.specs.Inner.{state, counted, byColumns}
 use Rattle.matrix.proofs.Counts.{row-count}

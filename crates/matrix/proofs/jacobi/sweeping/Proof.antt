@@ -10,9 +10,9 @@ use lib.ListN.{length}
 use lib.Ieee.{Float, ofBits, ne, le, isNan}
 use Rattle.leaves.specs.Numbers.{_⊗_, two}
 use Rattle.leaves.specs.Loops.{loop, firstTo}
+use Rattle.leaves.proofs.Invariants.{loop-turn, loop-start}
 use Rattle.leaves.specs.Root.{sqrt}
 use Rattle.leaves.proofs.IsNan.{nan-yes, nan-no}
-use Rattle.leaves.proofs.Loops.{loop-start, loop-turn}
 use Rattle.matrix.specs.Limits.{maxSide, maxSweeps}
 use Rattle.matrix.specs.Matrix.{at}
 use Rattle.matrix.specs.Rotation.{State}

@@ -6,8 +6,7 @@ use borrow.Author.Needs.{needs}
 use lib.ListN.{set}
 use lib.Ieee.{Float, ofBits}
 use Rattle.leaves.specs.Numbers.{zero⁺}
-use Rattle.matrix.specs.Rotation.{turnColumns, turnRows}
-use Rattle.matrix.specs.Inner.{turnedBoth}
+use Rattle.matrix.specs.Rotation.{turnColumns, turnRows, turnedBoth}
 use Rattle.matrix.proofs.rotation.turn_both.Statement.{statement}
 use Rattle.matrix.proofs.rotation.turn_both.Tie as tie
 

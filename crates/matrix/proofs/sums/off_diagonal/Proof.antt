@@ -7,10 +7,9 @@ use lib.Dec.{ltb}
 use lib.Ieee.{ofBits}
 use Rattle.leaves.specs.Numbers.{_⊗_, zero⁺}
 use Rattle.leaves.specs.Loops.{loop}
-use Rattle.leaves.proofs.Loops.{loop-start, loop-turn, loop-end}
-use Rattle.matrix.specs.Matrix.{at, sumOver}
+use Rattle.leaves.proofs.Invariants.{loop-turn, loop-end, loop-start}
+use Rattle.matrix.specs.Matrix.{at, sumOver, sumRow}
 use Rattle.matrix.specs.Jacobi.{offDiagonal}
-use Rattle.matrix.specs.Inner.{sumRow}
 use Rattle.matrix.proofs.sums.off_diagonal.Statement.{statement}
 use Rattle.matrix.proofs.sums.off_diagonal.Tie as tie
 

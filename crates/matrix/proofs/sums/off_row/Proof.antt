@@ -6,9 +6,9 @@ use borrow.Author.Needs.{needs}
 use lib.Dec.{ltb}
 use Rattle.leaves.specs.Numbers.{_⊕_, _⊗_}
 use Rattle.leaves.specs.Loops.{loop}
-use Rattle.leaves.proofs.Loops.{loop-turn, at-end}
-use Rattle.matrix.specs.Matrix.{Matrix, at}
-use Rattle.matrix.specs.Inner.{addKept, sumRow}
+use Rattle.leaves.proofs.Invariants.{loop-turn}
+use Rattle.leaves.proofs.Loops.{at-end}
+use Rattle.matrix.specs.Matrix.{Matrix, at, addKept, sumRow}
 use Rattle.matrix.proofs.Steps.{above-none, above-more}
 use Rattle.matrix.proofs.sums.off_row.Statement.{statement}
 use Rattle.matrix.proofs.sums.off_row.Tie as tie

@@ -5,7 +5,8 @@ use native.Mathlib.Omega.{arith}
 use borrow.Author.Needs.{needs}
 use lib.ListN.{length, set, length-set}
 use Rattle.leaves.specs.Loops.{loop}
-use Rattle.leaves.proofs.Loops.{loop-start, loop-turn, loop-end, row}
+use Rattle.leaves.proofs.Invariants.{loop-turn, loop-end, loop-start}
+use Rattle.leaves.proofs.Loops.{row}
 use Rattle.matrix.specs.Matrix.{at}
 use Rattle.matrix.proofs.Symmetry.{copied-all}
 use Rattle.matrix.proofs.symmetric.mirror.Statement.{statement}

@@ -4,9 +4,10 @@ use native.Mathlib.Omega.{arith}
 use borrow.Author.Needs.{needs}
 use lib.Ieee.{ofBits}
 use Rattle.leaves.specs.Numbers.{_⊕_, _⊘_, two}
-use Rattle.leaves.proofs.Loops.{side, row-below, col-below, Filled, filled-none, filled-more}
+use Rattle.leaves.proofs.Loops.{side, row-below, col-below}
+use Rattle.leaves.proofs.Invariants.{Filled, filled-more, filled-none}
 use Rattle.matrix.specs.Matrix.{at, averaged}
-use Rattle.matrix.proofs.Stored.{filled-rows}
+use Rattle.matrix.proofs.FilledRows.{filled-rows}
 use Rattle.matrix.proofs.tables.average.Statement.{statement}
 use Rattle.matrix.proofs.tables.average.Tie as tie
 

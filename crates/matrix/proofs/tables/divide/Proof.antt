@@ -4,9 +4,10 @@ use Prim.Native.Nat.{_-_, _*_, _/_, _%_}
 use native.Mathlib.Omega.{arith}
 use borrow.Author.Needs.{needs}
 use Rattle.leaves.specs.Numbers.{_⊘_}
-use Rattle.leaves.proofs.Loops.{Filled, filled-none, filled-more}
+use Rattle.leaves.proofs.Invariants.{Filled, filled-more, filled-none}
 use Rattle.matrix.specs.Matrix.{at}
-use Rattle.matrix.proofs.Stored.{entry-at, filled-rows}
+use Rattle.matrix.proofs.Stored.{entry-at}
+use Rattle.matrix.proofs.FilledRows.{filled-rows}
 use Rattle.matrix.proofs.tables.divide.Statement.{statement}
 use Rattle.matrix.proofs.tables.divide.Tie as tie
 

@@ -3,7 +3,7 @@ use Prim.Native.Nat.{_-_}
 use native.Mathlib.Omega.{arith}
 use borrow.Author.Needs.{needs}
 use Rattle.leaves.specs.Numbers.{_⊗_}
-use Rattle.leaves.proofs.Loops.{Filled, filled-none, filled-more, filled-whole}
+use Rattle.leaves.proofs.Invariants.{Filled, filled-more, filled-whole, filled-none}
 use Rattle.matrix.specs.Matrix.{at}
 use Rattle.matrix.proofs.tables.put_diagonal.Statement.{statement}
 use Rattle.matrix.proofs.tables.put_diagonal.Tie as tie

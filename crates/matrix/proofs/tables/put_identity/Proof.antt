@@ -2,9 +2,10 @@
 use Prim.Native.Nat.{_-_, _*_, _/_, _%_}
 use native.Mathlib.Omega.{arith}
 use borrow.Author.Needs.{needs}
-use Rattle.leaves.proofs.Loops.{side, Filled, filled-none, filled-more}
+use Rattle.leaves.proofs.Loops.{side}
+use Rattle.leaves.proofs.Invariants.{Filled, filled-more, filled-none}
 use Rattle.matrix.specs.Matrix.{identity}
-use Rattle.matrix.proofs.Stored.{filled-rows}
+use Rattle.matrix.proofs.FilledRows.{filled-rows}
 use Rattle.matrix.proofs.tables.put_identity.Statement.{statement}
 use Rattle.matrix.proofs.tables.put_identity.Tie as tie
 

@@ -5,7 +5,7 @@ use native.Mathlib.Omega.{arith}
 use borrow.Author.Needs.{needs}
 use lib.Ieee.{ofBits}
 use Rattle.leaves.specs.Numbers.{zero⁺}
-use Rattle.leaves.proofs.Loops.{Filled, filled-none, filled-more, filled-whole}
+use Rattle.leaves.proofs.Invariants.{Filled, filled-more, filled-whole, filled-none}
 use Rattle.matrix.proofs.tables.put_zeros.Statement.{statement}
 use Rattle.matrix.proofs.tables.put_zeros.Tie as tie
 

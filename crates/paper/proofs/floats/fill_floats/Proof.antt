@@ -4,7 +4,7 @@ use native.Mathlib.Omega.{arith}
 use lib.ListN.{length, getD}
 use borrow.Author.Needs.{needs}
 use Rattle.leaves.specs.Numbers.{float}
-use Rattle.leaves.proofs.Loops.{Filled, filled-none, filled-more, filled-all}
+use Rattle.leaves.proofs.Invariants.{Filled, filled-more, filled-all, filled-none}
 use Rattle.paper.proofs.floats.fill_floats.Statement.{statement}
 use Rattle.paper.proofs.floats.fill_floats.Tie as tie
 

@@ -7,7 +7,7 @@ use lib.ListN.{replicate}
 use lib.Seq.{length-take-le}
 use lib.Ieee.{binary64, ofBits}
 use borrow.Author.Needs.{needs}
-use Rattle.paper.specs.Grammar.{maxAssets}
+use Rattle.paper.specs.Grammar.{fileAssets}
 use Rattle.paper.specs.Text.{write}
 use Rattle.paper.specs.Answer.{outcomeText}
 use Rattle.paper.proofs.Marks.{answer-fits, answer-is}
@@ -23,7 +23,7 @@ value-requires c κs = search needs
 columns-requires : tie.Need-columns-requires
 columns-requires c κs = search needs
 
-fits : (c : tie.After-columns) → c .before .before .assets .result * c .columns .result ≤ maxAssets * maxAssets
+fits : (c : tie.After-columns) → c .before .before .assets .result * c .columns .result ≤ fileAssets * fileAssets
 fits c =
     let b = c .before .before .before .before .before .before in
     answer-fits (b .args .o) _ _ _ (c .before .before .assets .ensures) (b .pre) (c .before .value .ensures) (c .columns .ensures)
@@ -35,7 +35,7 @@ array-borrow-prefix-entries : tie.Need-array-borrow-prefix-entries
 array-borrow-prefix-entries c = fits c
 
 slice-aggregate-put-asked : tie.Need-slice-aggregate-put-asked
-slice-aggregate-put-asked c = sym (length-take-le _ (replicate (maxAssets * maxAssets) (ofBits binary64 0)) (fits (c .before)))
+slice-aggregate-put-asked c = sym (length-take-le _ (replicate (fileAssets * fileAssets) (ofBits binary64 0)) (fits (c .before)))
 
 put-asked-requires : tie.Need-put-asked-requires
 put-asked-requires c κs e = rw (e, mul-zero)

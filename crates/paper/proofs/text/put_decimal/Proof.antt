@@ -1,6 +1,6 @@
 -- `paper::text::put_decimal` meets its contract: the twenty digits without the zeros in front are the number's own.
 use mathlib.Core.Path.{ap, _∙_}
-use Rattle.paper.specs.Text.{write}
+use Rattle.paper.specs.Text.{write, maxDigits}
 use Rattle.paper.proofs.Digits.{all-but-zeros}
 use Rattle.paper.proofs.Writes.{then}
 use borrow.Author.Needs.{needs}
@@ -42,7 +42,7 @@ returns c =
     let b = c .before .before .before .before .before .before in
     let s = b .before .before .before .before .significant in
     let f = b .before .before .before .before .before .before .before .fill-digits in
-    then _ _ _ (b .put-text .ensures ∙ ap (write _) (all-but-zeros _ 20 _ (s .result) _ (f .ensures) (s .ensures .1))) (c .before .before .put .ensures)
+    then _ _ _ (b .put-text .ensures ∙ ap (write _) (all-but-zeros _ maxDigits _ (s .result) _ (f .ensures) (s .ensures .1))) (c .before .before .put .ensures)
 
 pub put-decimal-spec : {M : Type 1} → statement M
 put-decimal-spec = tie.close (tie.spec slice-aggregate-fill-digits fill-digits-requires slice-aggregate-significant significant-requires sub-put-text part-put-text-start part-put-text-end put-text-requires put-requires same-length returns)

@@ -1,7 +1,7 @@
 -- `paper::text::put_digits` meets its contract: the last of the digits that were filled in are those asked for.
 use Rattle.paper.proofs.Digits.{last-digits}
 use mathlib.Core.Path.{refl, ap, _∙_}
-use Rattle.paper.specs.Text.{write}
+use Rattle.paper.specs.Text.{write, maxDigits}
 use native.Mathlib.Omega.{arith}
 use borrow.Author.Needs.{needs}
 use Rattle.paper.proofs.text.put_digits.Statement.{statement}
@@ -33,7 +33,7 @@ same-length c = search needs
 
 returns : tie.Need-returns
 returns c = c .before .before .put-text .ensures ∙ ap (write _)
-    (last-digits _ 20 _ _ _ (c .before .before .before .before .before .before .before .fill-digits .ensures) _ (omega arith) refl)
+    (last-digits _ maxDigits _ _ _ (c .before .before .before .before .before .before .before .fill-digits .ensures) _ (omega arith) refl)
 
 pub put-digits-spec : {M : Type 1} → statement M
 put-digits-spec = tie.close (tie.spec slice-aggregate-fill-digits fill-digits-requires sub-first sub-put-text part-put-text-start part-put-text-end put-text-requires same-length returns)
