@@ -3,7 +3,7 @@ use mathlib.Core.Path.{_≡_, sym, _∙_}
 use mathlib.Core.Bool.{not, _||_}
 use mathlib.Mathlib.Data.Bool.Basic.{or-eq-false-eq-eq-false-and-eq-false}
 use mathlib.Core.List.{List, _++_}
-use Prim.Native.Nat.{ℕ, _*_, _≤_}
+use Prim.Native.Nat.{ℕ, _*_, _≤_, _<_}
 use native.Mathlib.Omega.{arith}
 use borrow.Author.Tests.{eq-eqb, ne-eqb, le-ltb, eqb-true, eqb-false, ltb-false, not-false}
 use lib.Dec.{eqb, ltb}
@@ -22,10 +22,11 @@ shape-passes l n T m room pass e =
     let b = first-passes (ltb maxSide n || ltb maxPeriods T) _ _ (a .1) in
     let c = first-passes (ltb T 2) _ _ (b .1) in
     let d = first-passes (not (eqb l (T * n)) || ltb room m) _ _ (c .1) in
+    let some = eqb-false n 0 (a .0) in
+    let one : 0 < n = omega (arith, some) in
     let large = or-eq-false-eq-eq-false-and-eq-false _ _ .0 (b .0) in
     let long = or-eq-false-eq-eq-false-and-eq-false _ _ .0 (d .0) in
-    let some = eqb-false n 0 (a .0) in
-    ((omega (arith, some), ltb-false _ _ (large .0), ltb-false _ _ (c .0), ltb-false _ _ (large .1), eqb-true _ _ (not-false _ (long .0))), ltb-false _ _ (long .1))
+    ((one, ltb-false _ _ (large .0), ltb-false _ _ (c .0), ltb-false _ _ (large .1), eqb-true _ _ (not-false _ (long .0))), ltb-false _ _ (long .1))
 
 -- where shapes and lengths pass, the returns are looked at next
 pub opened : (r : List Float) (n T m : ℕ) (slice : List Float) (rest : List Check) → Shaped (length r) n T → m ≤ length slice
