@@ -8,12 +8,12 @@ mod case6;
 use engine::exam::mark;
 use generator::papers::draw_paper;
 use generator::random::Random;
-use reference::exam::{exam, outcome};
+use reference::exam::{exam, outcome, MALFORMED};
 
 fn main() {
     let files = argument::whole(1, 200_000);
     let random = Random::new(9);
-    let mut counts = [0usize; 16];
+    let mut counts = [0usize; MALFORMED + 1];
     let mut different = differs(&case6::PAPER, case6::TEXT) as usize;
     for _ in 0..files {
         let file = draw_paper(&random);

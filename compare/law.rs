@@ -7,20 +7,23 @@
 mod argument;
 mod tally;
 
-use generator::pairs::{draw_pair, Pair};
+use generator::pairs::{
+    draw_pair, Pair, COVARIANCE_RANGE, INTENSITY_RANGE, MAX_HALF_LIVES, MEAN_RANGE, RETURN_RANGE,
+};
 use generator::random::Random;
 use reference::calls::ledoit_wolf;
 use reference::covariance::{Estimate, Shrinkage};
 use reference::flat::Flat;
 use reference::input::{Call, Input};
 use reference::leaves::{abs, pow2_scaled};
+use reference::refusal::Refusal;
 use tally::{Tally, ACCEPTED, OWN};
 
 const LEFT_OUT: usize = OWN;
 const BROKEN: usize = OWN + 1;
 
 /// Refusal 12, whose eigenvalue is not compared.
-const INDEFINITE: u32 = 12;
+const INDEFINITE: u32 = Refusal::Indefinite(0.0).number() as u32;
 
 fn main() {
     let pairs = argument::whole(1, 40_000);
@@ -122,14 +125,14 @@ fn kept(before: &[f64], after: &[f64]) -> bool {
 
 fn granted(input: &Input, (flat, slice): &Answer) -> bool {
     let Input { returns, n, t, .. } = input;
-    returns.iter().all(|&x| none_or(x, -40, 40))
+    returns.iter().all(|&x| within(x, RETURN_RANGE))
         && match &input.call {
             Call::AdjustedCovariance {
                 settings, given, ..
             } => {
                 let estimate = match settings.estimate {
                     Estimate::Weighted(half_life) => long_enough(*t, half_life),
-                    Estimate::SemiBelow(threshold) => none_or(threshold, -40, 40),
+                    Estimate::SemiBelow(threshold) => within(threshold, RETURN_RANGE),
                     Estimate::Sample | Estimate::Given | Estimate::Semi => true,
                 };
                 let intensity = match settings.shrinkage {
@@ -141,11 +144,11 @@ fn granted(input: &Input, (flat, slice): &Answer) -> bool {
                     }
                 };
                 estimate
-                    && none_or(intensity, -40, 1024)
-                    && given.iter().all(|&x| none_or(x, -80, 80))
-                    && none_or(settings.regularization.unwrap_or(0.0), -80, 80)
+                    && at_least(intensity, INTENSITY_RANGE)
+                    && given.iter().all(|&x| within(x, COVARIANCE_RANGE))
+                    && within(settings.regularization.unwrap_or(0.0), COVARIANCE_RANGE)
             }
-            Call::LedoitWolf(_) => none_or(flat.numbers[0], -40, 1024),
+            Call::LedoitWolf(_) => at_least(flat.numbers[0], INTENSITY_RANGE),
             mean => {
                 let half_life = match mean {
                     Call::ExponentiallyWeightedMean { half_life } => *half_life,
@@ -153,18 +156,24 @@ fn granted(input: &Input, (flat, slice): &Answer) -> bool {
                 };
                 let refused = flat.number as usize != ACCEPTED;
                 let mut answers = flat.numbers.iter().chain(&slice[..(*n).min(slice.len())]);
-                long_enough(*t, half_life) && (refused || answers.all(|&x| none_or(x, -400, 1024)))
+                long_enough(*t, half_life) && (refused || answers.all(|&x| at_least(x, MEAN_RANGE)))
             }
         }
 }
 
-/// 0, NaN, or of size `2^low` to `2^high`.
-fn none_or(x: f64, low: i32, high: i32) -> bool {
-    let outside = abs(x) < pow2_scaled(1.0, low) || abs(x) > pow2_scaled(1.0, high);
-    x == 0.0 || !outside
+/// 0, NaN, or of size `2^-range` to `2^range`.
+fn within(x: f64, range: i32) -> bool {
+    let larger = abs(x) > pow2_scaled(1.0, range);
+    at_least(x, range) && !larger
+}
+
+/// 0, NaN, or of size `2^-range` or more.
+fn at_least(x: f64, range: i32) -> bool {
+    let smaller = abs(x) < pow2_scaled(1.0, -range);
+    x == 0.0 || !smaller
 }
 
 /// Of a half-life: the oldest weight is not too small.
 fn long_enough(t: usize, half_life: f64) -> bool {
-    t == 0 || (t - 1) as f64 <= 64.0 * half_life
+    t == 0 || (t - 1) as f64 <= MAX_HALF_LIVES * half_life
 }

@@ -12,9 +12,13 @@ use generator::{draw, Shapes};
 use reference::flat::{flat_target, Flat, FlatSettings};
 use reference::input::{Call, Input};
 use reference::leaves::bits;
+use reference::refusal::REFUSALS;
 use std::fs;
 
 const ANSWERS: usize = 3_000;
+
+/// What the program counts: answers, each refusal, and all other numbers together.
+const COUNTS: usize = REFUSALS + 2;
 
 /// What the program has room for.
 const MOST_RETURNS: usize = 260;
@@ -27,7 +31,7 @@ fn main() {
         periods: 2..=32,
     };
     let mut words = vec![ANSWERS as u64];
-    let mut counts = [0; 16];
+    let mut counts = [0; COUNTS];
     for _ in 0..ANSWERS {
         let mut input = drawn(&random, &shapes);
         input.answer.fill(7.5);
@@ -40,7 +44,7 @@ fn main() {
         words.extend(slice.iter().map(|&x| bits(x)));
         counts[flat.number as usize] += 1;
     }
-    assert!(counts[..15].iter().all(|&count| count > 0));
+    assert!(counts[..=REFUSALS].iter().all(|&count| count > 0));
     let bytes: Vec<u8> = words.iter().flat_map(|word| word.to_le_bytes()).collect();
     fs::write("crates/replay/stdin", bytes).expect("crates/replay can be written");
     fs::write("crates/replay/stdout", printed(&counts)).expect("crates/replay can be written");
@@ -86,7 +90,7 @@ fn ask(words: &mut Vec<u64>, input: &Input) {
     }
 }
 
-fn printed(counts: &[usize; 16]) -> String {
+fn printed(counts: &[usize; COUNTS]) -> String {
     let refused = |number: usize| format!("refused {number}: {}\n", counts[number]);
     let refusals: String = (1..counts.len()).map(refused).collect();
     format!("accepted: {}\n{refusals}differences: 0\n", counts[0])

@@ -2,6 +2,7 @@
 // columns of the program's own.
 
 use reference::input::Call;
+use reference::refusal::REFUSALS;
 
 const CALLS: [&str; 5] = [
     "adjusted_covariance",
@@ -14,7 +15,7 @@ const CALLS: [&str; 5] = [
 /// The column of an accepted input. A refusal's is its number.
 pub const ACCEPTED: usize = 0;
 /// The first column of the program's own.
-pub const OWN: usize = 15;
+pub const OWN: usize = REFUSALS + 1;
 
 pub struct Tally {
     own: &'static [&'static str],

@@ -16,9 +16,9 @@ extern "C" {
 
    a = V diag(values) V', for a symmetric matrix of `side` at most 32, in at most `limit` sweeps, at
    most 100. Returns 0 where it is found and 1 where it is not: values and vectors then hold what
-   the sweeps reached. counts: the sweeps and the rotations made. Returns 2, and writes nothing,
-   where side or limit is larger, or a_len, values_len and vectors_len are not side * side, side and
-   side * side. */
+   the sweeps reached, or zeros and the identity where an entry is NaN or infinite. counts: the
+   sweeps and the rotations made. Returns 2, and writes nothing, where side or limit is larger, or
+   a_len, values_len and vectors_len are not side * side, side and side * side. */
 
 uint32_t matrix_decompose(
     const double *a, size_t a_len, size_t side, size_t limit,

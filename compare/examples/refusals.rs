@@ -117,7 +117,7 @@ fn results() -> Vec<Example> {
     vec![
         (
             "equal rows, shrunk: trace 0",
-            Input::covariance(&[1.0; 4], 2, sample.shrinkage(0.5)),
+            Input::covariance(&[0.5; 6], 3, sample.shrinkage(0.25)),
         ),
         ("the second asset constant", constant(sample)),
         (

@@ -11,6 +11,34 @@ use reference::input::{Call, Input};
 use reference::leaves::{abs, pow2_scaled};
 use reference::{MAX_SWEEPS, MOST_ASSETS, MOST_PERIODS};
 
+/// A power `k` is from `-MAX_POWER` to `MAX_POWER`.
+pub const MAX_POWER: i32 = 80;
+/// A return and a threshold are 0 or of size `2^-RETURN_RANGE` to `2^RETURN_RANGE`.
+pub const RETURN_RANGE: i32 = 40;
+/// A given entry and a regularization likewise.
+pub const COVARIANCE_RANGE: i32 = 80;
+/// An intensity that shrinks a covariance is 0 or at least `2^-INTENSITY_RANGE`.
+pub const INTENSITY_RANGE: i32 = 40;
+/// A number of a mean answer is 0 or of size at least `2^-MEAN_RANGE`.
+pub const MEAN_RANGE: i32 = 400;
+/// The first weight's age is at most so many half-lives.
+pub const MAX_HALF_LIVES: f64 = 64.0;
+
+/// Powers at the ends, about half of them, and about 0.
+const POWERS: [i32; 11] = [
+    -MAX_POWER,
+    1 - MAX_POWER,
+    -1 - MAX_POWER / 2,
+    -MAX_POWER / 2,
+    -1,
+    0,
+    1,
+    MAX_POWER / 2,
+    1 + MAX_POWER / 2,
+    MAX_POWER - 1,
+    MAX_POWER,
+];
+
 pub struct Pair {
     pub k: i32,
     pub input: Input,
@@ -19,9 +47,9 @@ pub struct Pair {
 
 pub fn draw_pair(random: &Random) -> Pair {
     let k = match random.below(4) {
-        0 => random.pick(&[-80, -79, -41, -40, -1, 0, 1, 40, 41, 79, 80]),
+        0 => random.pick(&POWERS),
         1 => random.between(-20, 20),
-        _ => random.between(-80, 80),
+        _ => random.between(-MAX_POWER, MAX_POWER),
     };
     let mut input = draw_input(random, k);
     if random.chance(8) {
@@ -81,7 +109,7 @@ fn draw_input(random: &Random, k: i32) -> Input {
     };
     let n = draw_count(random, &(1..=assets));
     let t = draw_count(random, &(2..=periods));
-    let sizes = Sizes::within(40, k);
+    let sizes = Sizes::within(RETURN_RANGE, k);
     let returns = draw_returns(random, n, t, &sizes);
     let covariance = || draw_covariance(random, n, t, k);
     let call = draw_call(random, covariance, || draw_half_life(random, t));
@@ -146,17 +174,20 @@ fn set_columns(random: &Random, returns: &mut [f64], n: usize, sizes: &Sizes, un
 }
 
 fn draw_covariance(random: &Random, n: usize, t: usize, k: i32) -> Call {
-    let sizes = Sizes::within(80, 2 * k);
+    let sizes = Sizes::within(COVARIANCE_RANGE, 2 * k);
     let estimate = match random.below(10) {
         0..=3 => Estimate::Sample,
         4..=6 => Estimate::Given,
         7 => Estimate::Weighted(draw_half_life(random, t)),
         8 => Estimate::Semi,
-        _ => Estimate::SemiBelow(Sizes::within(40, k).draw(random)),
+        _ => Estimate::SemiBelow(Sizes::within(RETURN_RANGE, k).draw(random)),
     };
     let shrinkage = match (random.below(8), estimate) {
         (0 | 1, _) => Shrinkage::Unshrunk,
-        (2, _) => Shrinkage::Fixed(random.pick(&[0.0, -0.0, 1.0, 0.5, pow2_scaled(1.0, -40), 1.5])),
+        (2, _) => {
+            let least = pow2_scaled(1.0, -INTENSITY_RANGE);
+            Shrinkage::Fixed(random.pick(&[0.0, -0.0, 1.0, 0.5, least, 1.5]))
+        }
         (3, _) => Shrinkage::Fixed(random.unit()),
         (4, _) | (_, Estimate::Sample) => Shrinkage::LedoitWolf(draw_target(random)),
         _ => Shrinkage::Unshrunk,
@@ -183,9 +214,9 @@ fn draw_covariance(random: &Random, n: usize, t: usize, k: i32) -> Call {
     }
 }
 
-/// From the shortest that the law grants, `(t - 1) / 64`.
+/// From the shortest that the law grants.
 fn draw_half_life(random: &Random, t: usize) -> f64 {
-    let shortest = (t - 1) as f64 / 64.0;
+    let shortest = (t - 1) as f64 / MAX_HALF_LIVES;
     match random.below(4) {
         0 => shortest,
         1 => shortest * (1.0 + random.unit()),

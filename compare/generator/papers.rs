@@ -3,9 +3,11 @@
 
 use crate::random::Random;
 use crate::{draw, Shapes};
-use reference::covariance::{Estimate, Settings, Shrinkage, Target};
+use reference::covariance::{Estimate, Settings, Shrinkage};
 use reference::exam::{FILE_ASSETS, FILE_PERIODS};
+use reference::flat::flat_target;
 use reference::input::{Call, Input};
+use reference::MAX_SWEEPS;
 
 const SHAPES: Shapes = Shapes {
     assets: 1..=FILE_ASSETS,
@@ -40,7 +42,7 @@ pub fn draw_paper(random: &Random) -> Vec<u8> {
 }
 
 /// The records of an input, in the order of the file. A limit that no byte holds is left out, and
-/// so is a limit of 100 sometimes.
+/// so is the limit that stands where none is written, sometimes.
 fn write(random: &Random, input: &Input) -> Vec<u8> {
     let mut file = vec![1];
     file.extend((input.n as u16).to_le_bytes());
@@ -56,7 +58,7 @@ fn write(random: &Random, input: &Input) -> Vec<u8> {
             with_question(random, &mut file, limit, 0);
         }
         Call::LedoitWolf(target) => {
-            file.extend([5, target_byte(*target)]);
+            file.extend([5, flat_target(*target) as u8]);
             with_question(random, &mut file, None, 0);
         }
         Call::ExponentiallyWeightedMean { half_life } => {
@@ -77,7 +79,7 @@ fn adjustments(file: &mut Vec<u8>, settings: &Settings, given: &[f64]) {
     match settings.shrinkage {
         Shrinkage::Unshrunk => {}
         Shrinkage::Fixed(intensity) => numbers(file, 4, &[intensity]),
-        Shrinkage::LedoitWolf(target) => file.extend([5, target_byte(target)]),
+        Shrinkage::LedoitWolf(target) => file.extend([5, flat_target(target) as u8]),
     }
     match settings.estimate {
         Estimate::Sample => {}
@@ -95,16 +97,11 @@ fn numbers(file: &mut Vec<u8>, kind: u8, numbers: &[f64]) {
     }
 }
 
-fn target_byte(target: Target) -> u8 {
-    match target {
-        Target::ConstantVariance => 0,
-        Target::ConstantCorrelation => 1,
-    }
-}
-
 fn with_question(random: &Random, file: &mut Vec<u8>, limit: Option<usize>, question: u8) {
     match limit.map(u8::try_from) {
-        Some(Ok(limit)) if limit != 100 || random.chance(50) => file.extend([10, limit]),
+        Some(Ok(limit)) if usize::from(limit) != MAX_SWEEPS || random.chance(50) => {
+            file.extend([10, limit])
+        }
         _ => {}
     }
     file.extend([11, question]);

@@ -15,7 +15,7 @@ pub const FILE_ASSETS: usize = 8;
 pub const FILE_PERIODS: usize = 128;
 
 /// The number of a malformed paper.
-const MALFORMED: usize = 15;
+pub const MALFORMED: usize = 15;
 
 /// The file is no question.
 struct Malformed;

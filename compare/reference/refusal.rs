@@ -24,6 +24,9 @@ pub enum Refusal {
     Singular,
 }
 
+/// How many there are: their numbers begin at 1.
+pub const REFUSALS: usize = 14;
+
 /// The setting that refusal 7 names.
 #[derive(Debug, Clone, Copy, PartialEq)]
 pub enum Field {
@@ -47,7 +50,7 @@ pub enum Place {
 
 impl Refusal {
     /// Document 01's number of the cause.
-    pub fn number(self) -> usize {
+    pub const fn number(self) -> usize {
         match self {
             Refusal::NoAssets => 1,
             Refusal::TooLarge => 2,

@@ -1,11 +1,11 @@
--- The five calls with C linkage: their report and the answer slice after the call. Definitions only.
+-- What only the contracts of the C interface cite: the report of each of the five calls, and the answer slice after it. Definitions only.
 use Prim.Native.Nat.{ℕ}
 use mathlib.Core.Bool.{Bool, true, false}
 use mathlib.Core.List.{List, []}
-use lib.Dec.{ltb}
 use lib.Ieee.{Float}
 use Rattle.leaves.specs.Numbers.{zero⁺}
 use Rattle.estimators.specs.Calls.{Answered, answered, adjustedCovariance, ledoitWolfIntensity}
+use Rattle.paper.specs.Rules.{isTarget}
 use Rattle.paper.specs.Marking.{targetOf}
 use Rattle.capi.specs.Settings.{known, settingsOf}
 use Rattle.capi.specs.Report.{reported, reportOf}
@@ -35,4 +35,4 @@ engineAdjustedCovariance r n T estimate estimateValue shrinkage shrinkageValue r
 
 -- it takes no answer slice
 unfoldable pub engineLedoitWolf : List Float → ℕ → ℕ → ℕ → Report
-engineLedoitWolf r n T target = whenKnown (ltb target 2) [] (answered (ledoitWolfIntensity r n T (targetOf target)) []) .report
+engineLedoitWolf r n T target = whenKnown (isTarget target) [] (answered (ledoitWolfIntensity r n T (targetOf target)) []) .report

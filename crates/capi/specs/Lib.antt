@@ -1,4 +1,4 @@
--- The exports with C linkage: what each leaves in the numbers and slices lent to it.
+-- What only the contracts of the C interface cite: what each export leaves in the numbers and slices lent to it.
 pub mod Settings
 pub mod Report
 pub mod Calls

@@ -1,4 +1,5 @@
--- An answer in numbers: 0 or the refusal's number, two floats and two whole numbers (include/engine.h). What an answer does not have is 0. Definitions only.
+-- What only the contracts of the C interface cite: an answer in numbers, 0 or the refusal's number, two floats and two whole numbers (include/engine.h).
+-- What an answer does not have is 0. Definitions only.
 use Prim.Native.Nat.{ℕ}
 use mathlib.Core.List.{List, [], _∷_}
 use lib.Ieee.{Float}

@@ -1,4 +1,4 @@
--- Settings in numbers: a kind each, with the value that some kinds have (include/engine.h). Definitions only.
+-- What only the contracts of the C interface cite: settings in numbers, a kind each, with the value that some kinds have (include/engine.h). Definitions only.
 use Prim.Native.Nat.{ℕ, _-_}
 use mathlib.Core.Bool.{Bool, cond, _&&_}
 use lib.Dec.{ltb, eqb}
@@ -12,9 +12,18 @@ use Rattle.estimators.specs.declared.Regularization.the-variants.{Unregularized
 use Rattle.estimators.specs.declared.Settings.{Settings}
 use Rattle.paper.specs.Marking.{targetOf}
 
--- the numbers that stand for a kind: five of an estimate, four of a shrinkage, two of a regularization
+-- how many numbers, from 0 on, stand for a kind of an estimate, of a shrinkage and of a regularization
+abbrev pub estimates : ℕ
+estimates = 5
+
+abbrev pub shrinkages : ℕ
+shrinkages = 4
+
+abbrev pub regularizations : ℕ
+regularizations = 2
+
 unfoldable pub known : ℕ → ℕ → ℕ → Bool
-known estimate shrinkage regularization = ltb estimate 5 && ltb shrinkage 4 && ltb regularization 2
+known estimate shrinkage regularization = ltb estimate estimates && ltb shrinkage shrinkages && ltb regularization regularizations
 
 unfoldable pub estimateOf : ℕ → Float → Estimate
 estimateOf kind x = cond (eqb kind 0) Sample (cond (eqb kind 1) Given (cond (eqb kind 2) (Weighted x) (cond (eqb kind 3) Semi (SemiBelow x))))

@@ -61,7 +61,7 @@ pub extern "C" fn engine_ledoit_wolf(
 ) -> u32
     ensures { λ r. ⌜ Flat.handed r (now (numbers .exit)) (now (wholes .exit)) ≡ Calls.engineLedoitWolf (now (returns .entry)) assets periods target ⌝ }
 {
-    if target >= 2 {
+    if target > 1 {
         return hand_out(reported(UNKNOWN_KIND, 0.0, 0.0, 0, 0), numbers, wholes);
     }
     let told = calls::ledoit_wolf(

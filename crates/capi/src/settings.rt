@@ -6,16 +6,23 @@ use estimators::Regularization;
 use estimators::Settings;
 use estimators::Shrinkage;
 
+// How many kinds there are: the definitions' `estimates`, `shrinkages` and `regularizations`.
+const ESTIMATES: u32 = 5;
+
+const SHRINKAGES: u32 = 4;
+
+const REGULARIZATIONS: u32 = 2;
+
 pub(crate) fn known(estimate: u32, shrinkage: u32, regularization: u32) -> bool
     ensures { λ r. ⌜ r ≡ Flat.known estimate shrinkage regularization ⌝ }
 {
-    if estimate >= 5 {
+    if estimate >= ESTIMATES {
         return false;
     }
-    if shrinkage >= 4 {
+    if shrinkage >= SHRINKAGES {
         return false;
     }
-    regularization < 2
+    regularization < REGULARIZATIONS
 }
 
 fn estimate_of(kind: u32, value: f64) -> Estimate

@@ -14,7 +14,7 @@ use Rattle.leaves.proofs.Loops.{sum-ext, amax-ext, length-tab}
 use Rattle.matrix.specs.Matrix.{Matrix, at, rows, amax, trace, total, sumOver, every, Symmetric}
 use Rattle.matrix.proofs.Stored.{rows-at, rows-ext}
 use Rattle.estimators.specs.Sample.{mean, deviation, gram, scaled, volatility}
-use Rattle.estimators.specs.LedoitWolf.{apart, averageCorrelation, variation, covariation, targetVariation, error, distance, intensityBy, intensityOf, ledoitWolf, secondMoments}
+use Rattle.estimators.specs.LedoitWolf.{apart, averageCorrelation, variation, covariation, targetVariation, error, distance, intensityBy, intensityOf, ledoitWolf, secondMoments, intensityFrom, crossVariation, distance²}
 use Rattle.estimators.specs.Rows.{inUnit, formed, rowsOf}
 use Rattle.estimators.specs.declared.Target.{Target}
 use Rattle.estimators.specs.declared.Target.the-variants.{ConstantVariance, ConstantCorrelation}
@@ -22,7 +22,8 @@ use Rattle.estimators.specs.declared.rows.Row.the-variants.{Deviation, S
 use Rattle.estimators.proofs.Stored.{nth-stored, at-stored}
 use Rattle.estimators.proofs.Entries.{sum-over-ext}
 use Rattle.estimators.proofs.GramSymmetric.{gram-symmetric}
-use Rattle.estimators.proofs.Samples.{gram-ext, row-bare}
+use Rattle.estimators.proofs.Samples.{row-bare}
+use Rattle.estimators.proofs.SameReturns.{gram-ext}
 use Rattle.estimators.proofs.Largest.{amax-columns}
 
 -- ---- of numbers that are alike in T periods of n assets
@@ -35,7 +36,7 @@ module _ (T n : ℕ) (z z′ : Matrix) (alike : (t i : ℕ) → t < T → i < n 
     variation-ext : (i j : ℕ) → i < n → j < n → variation T z s i j ≡ variation T z′ s i j
     unfolding variation
     variation-ext i j hi hj =
-        ap (λ (g : Float). g ⊘ count T) (sum-ext T _ _ (λ t ht k. (alike t i ht hi k ⊗ alike t j ht hj k ⊖ s i j) ⊗ (alike t i ht hi k ⊗ alike t j ht hj k ⊖ s i j)))
+        ap (λ (g : Float). g ⊘ count T) (sum-ext T _ _ (λ t ht k. distance² (alike t i ht hi k ⊗ alike t j ht hj k) (s i j)))
 
     covariation-ext : (i j : ℕ) → i < n → j < n → covariation T z s i j ≡ covariation T z′ s i j
     unfolding covariation
@@ -49,7 +50,7 @@ module _ (T n : ℕ) (z z′ : Matrix) (alike : (t i : ℕ) → t < T → i < n 
     target-ext : targetVariation T n z s ≡ targetVariation T n z′ s
     unfolding targetVariation trace
     target-ext =
-        ap (sumOver n apart (λ i j. averageCorrelation n s ⊗ volatility s j ⊘ volatility s i ⊗ covariation T z s i j)) (sum-ext n _ _ (λ i h. variation-ext i i h h))
+        ap (sumOver n apart (crossVariation (averageCorrelation n s) (volatility s) (covariation T z s))) (sum-ext n _ _ (λ i h. variation-ext i i h h))
         ∙ sum-over-ext n apart _ _ _ (λ i j hi hj k. averageCorrelation n s ⊗ volatility s j ⊘ volatility s i ⊗ covariation-ext i j hi hj k)
 
     error-ext : (F : Target) → error F T n z s ≡ error F T n z′ s
@@ -63,13 +64,13 @@ module _ (T n : ℕ) (z z′ : Matrix) (alike : (t i : ℕ) → t < T → i < n 
 
 -- ---- δ, from any such numbers
 pub from-centered : (F : Target) (T n : ℕ) (x z : Matrix) (e : ℤ) {d : Float} → e ≡ binaryExponent (amax T n (deviation T x)) → ((t i : ℕ) → t < T → i < n → z t i ≡ pow2Scaled (deviation T x t i) (negℤ e))
-    → d ≡ intensityOf F T n z (at (secondMoments T n z) n) → d ≡ ledoitWolf F T n x
+    → d ≡ intensityFrom F T n z → d ≡ ledoitWolf F T n x
 unfolding ledoitWolf
 from-centered F T n x z e ee ez ed =
     let y : ℤ → Matrix = λ e. at (rows T n (scaled (λ i. e) (deviation T x))) n in
     let alike : (t i : ℕ) → t < T → i < n → z t i ≡ y e t i = λ t i ht hi. ez t i ht hi ∙ unfold scaled in sym (rows-at (scaled (λ i. e) (deviation T x)) T n t i ht hi) in
     ed ∙ intensity-ext T n z (y e) alike (at (secondMoments T n z) n) F ∙ ap (λ (s : List Float). intensityOf F T n (y e) (at s n)) (moments-ext T n z (y e) alike)
-    ∙ ap (λ (e : ℤ). intensityOf F T n (y e) (at (secondMoments T n (y e)) n)) ee
+    ∙ ap (λ (e : ℤ). intensityFrom F T n (y e)) ee
 
 pub moments-symmetric : (T n : ℕ) (z : Matrix) {s : List Float} → s ≡ secondMoments T n z → Symmetric n s
 moments-symmetric T n z e i j hi hj =

@@ -2,27 +2,26 @@
 use mathlib.Core.Path.{_≡_, refl, ap}
 use mathlib.Core.List.{List}
 use Prim.Native.Nat.{ℕ, _<_}
-use lib.Ieee.{Float, le}
-use Rattle.leaves.specs.Numbers.{_⊗_, 1e-10}
+use lib.Ieee.{Float}
 use Rattle.leaves.specs.Loops.{firstTo, tab, nth}
 use Rattle.leaves.specs.Root.{sqrt}
 use Rattle.leaves.proofs.Loops.{first-ext}
 use Rattle.matrix.specs.Matrix.{Matrix, at, rows}
-use Rattle.estimators.specs.Sample.{constantAsset}
+use Rattle.estimators.specs.Sample.{volatility, isConstant, constantAsset}
 use Rattle.estimators.proofs.Stored.{nth-stored, at-stored}
 
 pub constant-ext : (n : ℕ) (v w x y : ℕ → Float) → ((i : ℕ) → i < n → v i ≡ w i) → ((i : ℕ) → i < n → x i ≡ y i)
-    → firstTo n (λ i. le (v i) (1e-10 ⊗ x i)) ≡ firstTo n (λ i. le (w i) (1e-10 ⊗ y i))
-constant-ext n v w x y h l = first-ext n (λ i. le (v i) (1e-10 ⊗ x i)) (λ i. le (w i) (1e-10 ⊗ y i)) (λ i b t. le (h i b t) (1e-10 ⊗ l i b t))
+    → firstTo n (λ i. isConstant (v i) (x i)) ≡ firstTo n (λ i. isConstant (w i) (y i))
+constant-ext n v w x y h l = first-ext n (λ i. isConstant (v i) (x i)) (λ i. isConstant (w i) (y i)) (λ i b t. isConstant (h i b t) (l i b t))
 
 -- largest returns that are stored, and a stored covariance
 pub constant-sizes : (n : ℕ) (s : Matrix) (f : ℕ → Float) (sizes : List Float) → sizes ≡ tab n f → constantAsset n s (nth sizes) ≡ constantAsset n s f
 unfolding constantAsset
 constant-sizes n s f sizes e =
-    constant-ext n (λ i. sqrt (s i i)) (λ i. sqrt (s i i)) (nth sizes) f (λ i h. refl) (nth-stored n f e)
+    constant-ext n (volatility s) (volatility s) (nth sizes) f (λ i h. refl) (nth-stored n f e)
 
 pub constant-stored : (n : ℕ) (s : Matrix) (f : ℕ → Float) (table : List Float) → table ≡ rows n n s → constantAsset n (at table n) f ≡ constantAsset n s f
 unfolding constantAsset
 constant-stored n s f table e =
-    constant-ext n (λ i. sqrt (at table n i i)) (λ i. sqrt (s i i)) f f
+    constant-ext n (volatility (at table n)) (volatility s) f f
     (λ i h. ap sqrt (at-stored n s e i i h h)) (λ i h. refl)

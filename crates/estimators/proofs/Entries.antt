@@ -10,17 +10,17 @@ use lib.Dec.{ltb, eqb}
 use lib.ListN.{length, take, drop, set, length-set, length-drop, List·getD-eq-default}
 use lib.Seq.{length-take-le, getD-set-same, getD-set-other}
 use lib.Ieee.{Float, nan}
-use Rattle.leaves.specs.Numbers.{_⊕_, _⊗_, zero⁺}
+use Rattle.leaves.specs.Numbers.{_⊕_, _⊗_, _⊘_, zero⁺}
 use Rattle.leaves.specs.Loops.{tab, nth}
-use Rattle.leaves.proofs.Loops.{row, loop-ext, amax-ext, length-tab, nth-tab, tab-ext, tab-is}
+use Rattle.leaves.proofs.Loops.{row, loop-ext, length-tab, nth-tab, tab-ext, tab-is}
 use Rattle.matrix.specs.Matrix.{Matrix, at, rows, trace, amax, sumOver, every, total, squares}
-use Rattle.matrix.proofs.Stored.{entry-at, length-rows, rows-nth}
+use Rattle.matrix.proofs.Stored.{entry-at, length-rows, rows-nth, rows-at}
+use Rattle.estimators.specs.Sample.{volatility, correlationBy, correlation}
 use Rattle.estimators.proofs.Stored.{replaced, row-replaced, passed, passed-more, nth-stored, at-stored}
-use Rattle.matrix.proofs.Alike.{trace-alike}
+use Rattle.matrix.proofs.Alike.{amax-alike, trace-alike}
 
 pub amax-rows : (f : Matrix) (n : ℕ) → amax n n (at (rows n n f) n) ≡ amax n n f
-unfolding amax
-amax-rows f n = amax-ext (n * n) (λ k. at (rows n n f) n (k / n) (k % n)) (λ k. f (k / n) (k % n)) (λ k h. entry-at (rows n n f) n k ∙ rows-nth f n n k h)
+amax-rows f n = amax-alike n n (at (rows n n f) n) f (rows-at f n n)
 
 -- h of every entry, also past the end, where there is none
 pub mapped-at : (h : Float → Float) → h nan ≡ nan → (a : List Float) (n : ℕ) → length a ≡ n * n → at (rows n n (λ i j. h (at a n i j))) n ≡ (λ i j. h (at a n i j))
@@ -86,3 +86,8 @@ passed-row n F old i out ys e hi ey =
     (ap length ey ∙ length-tab (F i) n ∙ sym m) (λ p q hp hq h. rw (ne-eqb p i h)) (λ q h. absurd (not-suc-le-zero h))
     (λ q h hq. rw (eq-eqb i i refl) (ap (nth ys) (sub-zero q) ∙ nth-stored n (F i) ey q hq)))
     (λ q h hq. refl)
+
+-- ---- correlations by volatilities that are stored
+
+pub correlation-stored : (n : ℕ) (s : Matrix) {v : List Float} → v ≡ tab n (volatility s) → (i j : ℕ) → i < n → j < n → correlationBy (nth v) s i j ≡ correlation s i j
+correlation-stored n s e i j hi hj t = s i j ⊘ nth-stored n (volatility s) e i hi t ⊘ nth-stored n (volatility s) e j hj t

@@ -30,7 +30,7 @@ use Rattle.estimators.proofs.Opened.{settle-refused, settle-accepted, s
 
 -- ---- from the estimate b on
 
-module _ (s : Settings) (δ : Float) (T n : ℕ) (x : Matrix) (sweeps rotations : ℕ) (b slice : List Float) where
+module _ (s : Settings) (δ : Float) (T n : ℕ) (x : Matrix) (b : List Float) where
   abbrev answer : List Float
   answer = adjustedOf s δ n b
 
@@ -43,11 +43,12 @@ module _ (s : Settings) (δ : Float) (T n : ℕ) (x : Matrix) (sweeps rotations 
   estimate-checked ej ea e₁ e₂ e =
       first-join (byAnswer n (at answer n)) (e₁ ∙ ap (λ (adj : Bool). noVariance adj (s .estimate) T n x (at b n)) ej) (e₂ ∙ ap (λ (a : List Float). first (byAnswer n (at a n))) ea) e
 
-  pub finished-refused : {c : Refusal} → refuses c ≡ checks → answered (Refused c) slice ≡ finished s δ T n x sweeps rotations b slice
-  finished-refused e = settle-refused _ _ e
+  module _ (sweeps rotations : ℕ) (slice : List Float) where
+    pub finished-refused : {c : Refusal} → refuses c ≡ checks → answered (Refused c) slice ≡ finished s δ T n x sweeps rotations b slice
+    finished-refused e = settle-refused _ _ e
 
-  pub finished-accepted : {out : List Float} → passes ≡ checks → out ≡ answer → answered (Covariance δ sweeps rotations) out ≡ finished s δ T n x sweeps rotations b slice
-  finished-accepted e eo = ap (answered (Covariance δ sweeps rotations)) eo ∙ settle-accepted _ _ e
+    pub finished-accepted : {out : List Float} → passes ≡ checks → out ≡ answer → answered (Covariance δ sweeps rotations) out ≡ finished s δ T n x sweeps rotations b slice
+    finished-accepted e eo = ap (answered (Covariance δ sweeps rotations)) eo ∙ settle-accepted _ _ e
 
 -- ---- from the settings on
 

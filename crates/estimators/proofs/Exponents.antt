@@ -1,20 +1,20 @@
--- Sizes of the exponents that the two Stein means add and negate: b(x) of an f64 is at most 1074 in size, and what is made of a few such numbers
+-- Sizes of the exponents that the two Stein means add and negate: b(x) of an f64 is at most `maxExponent` in size, and what is made of a few such numbers
 -- is an i32. Assumes nothing.
 use mathlib.Core.Path.{_≡_, sym, _∙_, subst}
 use Prim.Native.Nat.{zero, suc, _+_, _-_, _^_, _≤_, _<_}
 use native.Mathlib.Omega.{arith}
 use mathlib.Core.Bool.{true}
 use lib.Dec.{T}
-use lib.IntN.{ℤ, pos, negsuc, negℤ, natAbs, _+ℤ_, _-ℤ_}
+use lib.IntN.{ℤ, pos, negsuc, negℤ, natAbs, _+ℤ_, _-ℤ_, +ℤ-idl}
 use lib.Ieee.{Float, nan, inf, fin, binary64, fits, size}
 use mir.Syntax.{w32}
 use mir.Val.{SFits, toZ, ofZ}
 use mir.Facts.{toZ-ofZ}
 use Rattle.leaves.specs.Scaling.{binaryExponent}
-use Rattle.leaves.proofs.Whole.{over, under, one-side, plus, minus, over-neg, under-neg, same}
+use Rattle.leaves.proofs.Whole.{over, under, one-side, plus, over-neg, under-neg}
 use Rattle.leaves.proofs.Ints.{fits-i32}
 use Rattle.leaves.proofs.Laws.{fits→room, size-pos}
-use Rattle.estimators.specs.Held.{maxExponent}
+use Rattle.estimators.specs.Exponents.{maxExponent}
 
 -- the size, by the two parts of a whole number
 pub size-is : (z : ℤ) → natAbs z ≡ over z + under z
@@ -45,20 +45,16 @@ exponent-size (fin s (suc m) e) t =
     let b = pos (size (suc m) - 1) in
     omega (arith, size-is (b +ℤ e), plus b e, one-side (b +ℤ e), one-side e, size-pos m, r .digits, r .low, r .high)
 
-neg-is : (z : ℤ) → pos 0 -ℤ z ≡ negℤ z
-unfolding over under
-neg-is z = same (pos 0 -ℤ z) (negℤ z) (omega (arith, minus (pos 0) z, over-neg z, under-neg z))
-
 -- what the machine reads back of z, and of -z
 module _ (z : ℤ) (h : natAbs z < 2 ^ 31) where
   pub read : toZ w32 (ofZ w32 z) ≡ z
   read = toZ-ofZ (size-fits z h)
 
   pub neg-fits : SFits w32 (pos 0 -ℤ toZ w32 (ofZ w32 z))
-  neg-fits = rw (read, neg-is) (size-fits (negℤ z) (omega (arith, size-neg z)))
+  neg-fits = rw (read, +ℤ-idl (negℤ z)) (size-fits (negℤ z) (omega (arith, size-neg z)))
 
   pub neg-read : toZ w32 (ofZ w32 (pos 0 -ℤ toZ w32 (ofZ w32 z))) ≡ negℤ z
-  neg-read = toZ-ofZ neg-fits ∙ rw (read, neg-is)
+  neg-read = toZ-ofZ neg-fits ∙ rw (read, +ℤ-idl (negℤ z))
 
 -- and of y + z, y - z and -y - z
 module _ (y z : ℤ) (h : natAbs y + natAbs z < 2 ^ 31) where

@@ -5,23 +5,20 @@ use mathlib.Core.List.{List}
 use Prim.Native.Nat.{ℕ, _+_, _≤_, _<_}
 use native.Mathlib.Omega.{arith}
 use mathlib.Core.Bool.{false}
-use lib.Dec.{T}
-use lib.IntN.{ℤ, pos, negℤ, natAbs, _+ℤ_, _-ℤ_}
-use lib.ListN.{length, getD, set, length-set}
+use lib.IntN.{ℤ, pos, negℤ, natAbs, _-ℤ_, +ℤ-idl, +ℤ-invr, _+ℤ_}
+use lib.ListN.{length, set, length-set}
 use lib.Seq.{getD-set-same, getD-set-other}
-use lib.Ieee.{Float, nan, fin, binary64, fits}
+use lib.Ieee.{Float, nan, fin, binary64}
 use lib.Ieee.Fits.{mul-fits}
 use Rattle.leaves.specs.Numbers.{_⊗_, one}
 use Rattle.leaves.specs.Loops.{nth}
 use Rattle.leaves.specs.Shift.{shift}
 use Rattle.leaves.specs.Scaling.{pow2, pow2Scaled, cut}
-use Rattle.leaves.proofs.Whole.{over, under, one-side, plus, minus, same, le-or-lt}
-use Rattle.leaves.proofs.Laws.{mul-pow2}
-use Rattle.leaves.proofs.Shift.{shift-zero}
-use Rattle.leaves.proofs.Scale.{cut-range, pow2-fits, scale-last, scaled-exact}
+use Rattle.leaves.proofs.Whole.{over, under, one-side, minus, same, le-or-lt}
+use Rattle.leaves.proofs.Scale.{cut-range, pow2-fits, scale-last, scaled-exact, times-one}
 use Rattle.leaves.proofs.ScaleSteps.{scale-step}
-use Rattle.estimators.specs.Held.{maxExponent}
-use Rattle.estimators.specs.Powers.{Factored, Units}
+use Rattle.estimators.specs.Powers.{Factored}
+use Rattle.estimators.specs.Exponents.{exponentAt, maxExponent}
 use Rattle.estimators.proofs.Exponents.{size-is}
 
 -- ---- 2 ^ k, made of 1
@@ -29,26 +26,15 @@ use Rattle.estimators.proofs.Exponents.{size-is}
 cut-none : (k : ℤ) → over k ≤ 1023 → under k ≤ 1022 → cut k ≡ k
 cut-none k h l = same (cut k) k (omega (arith, cut-range k .top, cut-range k .bottom))
 
-from-zero : (k : ℤ) → pos 0 +ℤ k ≡ k
-unfolding over under
-from-zero k = same (pos 0 +ℤ k) k (omega (arith, plus (pos 0) k))
-
 shift-one : (k : ℤ) → shift k one ≡ pow2 k
 unfolding shift
-shift-one k = ap (fin false 1) (from-zero k)
+shift-one k = ap (fin false 1) (+ℤ-idl k)
 
 power : (k : ℤ) → over k ≤ 1023 → under k ≤ 1022 → pow2Scaled one k ≡ pow2 k
 unfolding over under
 power k h l = scaled-exact one k (pow2-fits (pos 0) (omega arith) (omega arith)) (rw (shift-one k) (pow2-fits k h (omega arith))) ∙ shift-one k
 
 -- ---- the factors
-
-times-one : (x : Float) → T (fits binary64 x) → x ⊗ one ≡ x
-times-one x t = mul-pow2 x (pos 0) t (rw (shift-zero x) t) ∙ shift-zero x
-
-nothing-left : (k : ℤ) → k -ℤ k ≡ pos 0
-unfolding over under
-nothing-left k = same (k -ℤ k) (pos 0) (omega (arith, minus k k, one-side (k -ℤ k)))
 
 -- the part of k that is kept, and what is left of it
 pub factored : (k : ℤ) → natAbs k ≤ maxExponent → (near far : Float) → near ≡ pow2Scaled one (cut k) → far ≡ pow2Scaled one (k -ℤ cut k) → Factored near far k
@@ -64,9 +50,13 @@ factored k size near far e e′ x =
     ∙ ⊎-elim (λ l. whole (same j k (omega arith))) (λ l. scale-last (x ⊗ pow2 j) (k -ℤ j) (cut-none (k -ℤ j) hk lk) ∙ scale-step x k (λ h. absurd (omega (arith, ap over h, ap under h)))) (le-or-lt (over k + under k) (over j + under j))
   where
     whole : cut k ≡ k → x ⊗ pow2 (cut k) ⊗ pow2 (k -ℤ cut k) ≡ pow2Scaled x k
-    whole h = ap (λ (j : ℤ). x ⊗ pow2 j ⊗ pow2 (k -ℤ j)) h ∙ ap (λ (z : ℤ). x ⊗ pow2 k ⊗ pow2 z) (nothing-left k) ∙ times-one (x ⊗ pow2 k) (mul-fits binary64 x (pow2 k)) ∙ scale-last x k h
+    whole h = ap (λ (j : ℤ). x ⊗ pow2 j ⊗ pow2 (k -ℤ j)) h ∙ ap (λ (z : ℤ). x ⊗ pow2 k ⊗ pow2 z) (+ℤ-invr k) ∙ times-one (x ⊗ pow2 k) (mul-fits binary64 x (pow2 k)) ∙ scale-last x k h
 
 -- ---- a list of factors, one column more
+
+-- the first k of n columns have theirs
+abbrev pub UnitsTo : ℕ → ℕ → List ℤ → List Float → Type 0
+UnitsTo n k es units = (i : ℕ) → i < k → Factored (nth units i) (nth units (n + i)) (negℤ (exponentAt es i))
 
 module _ (n i : ℕ) (es : List ℤ) (out : List Float) (near far : Float) (h : i < n) (len : length out ≡ n + n) where
   abbrev next : List Float
@@ -81,11 +71,11 @@ module _ (n i : ℕ) (es : List ℤ) (out : List Float) (near far : Float) (h : 
   far-is : nth next (n + i) ≡ far
   far-is = getD-set-same (set out i near) (n + i) far nan (omega (arith, length-set out i near))
 
-  pub units-more : Units n i es out → Factored near far (negℤ (getD es i (pos 0))) → Units n (i + 1) es next
+  pub units-more : UnitsTo n i es out → Factored near far (negℤ (exponentAt es i)) → UnitsTo n (i + 1) es next
   units-more before here j l =
       ⊎-elim
       (λ (g : i ≤ j). let e : i ≡ j = omega arith in
-      subst (λ (k : ℕ). Factored (nth next k) (nth next (n + k)) (negℤ (getD es k (pos 0)))) e (λ x. (λ t. x ⊗ near-is t ⊗ far-is t) ∙ here x))
+      subst (λ (k : ℕ). Factored (nth next k) (nth next (n + k)) (negℤ (exponentAt es k))) e (λ x. (λ t. x ⊗ near-is t ⊗ far-is t) ∙ here x))
       (λ (g : j < i). λ x.
       (λ t. x ⊗ kept j (λ e. absurd (omega arith)) (λ e. absurd (omega arith)) t ⊗ kept (n + j) (λ e. absurd (omega arith)) (λ e. absurd (omega arith)) t) ∙ before j g x)
       (le-or-lt i j)

@@ -1,5 +1,5 @@
 -- Laws of the rows that `specs/Rows.antt` forms. Assumes nothing.
-use mathlib.Core.Path.{_≡_, ap, _∙_}
+use mathlib.Core.Path.{_≡_, refl, ap, _∙_}
 use mathlib.Core.List.{List}
 use Prim.Native.Nat.{ℕ, _+_, _-_, _*_, _≤_, _<_}
 use native.Mathlib.Omega.{arith}
@@ -21,7 +21,7 @@ module _ (row : Row) (n : ℕ) (xs units centers : List Float) (w : Float) where
   unfolding inUnit
   scaled-numbers m scaled em h e =
       rw (le-leb (n + n) (length units) h)
-      (tab-then scaled n (λ k. nth xs k ⊗ nth units k ⊗ nth units (n + k)) (λ k x. formed row x (nth centers k) w)
+      (tab-then scaled n (λ k. nth xs k ⊗ nth units k ⊗ nth units (n + k)) (λ k x. formed row x (nth centers k) w) refl
       (e ∙ ap (λ (m : ℕ). tab m (λ k. nth xs k ⊗ nth units k ⊗ nth units (m + k))) em))
 
   pub plain-numbers : length units < n + n → tab n (λ k. formed row (nth xs k) (nth centers k) w) ≡ tab n (λ k. formed row (inUnit n units k (nth xs k)) (nth centers k) w)

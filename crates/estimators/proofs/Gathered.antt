@@ -1,11 +1,9 @@
--- Laws of gathered numbers: they depend on the first n numbers and exponents alone. Assumes nothing.
+-- Laws of gathered numbers: they depend on the first n numbers and exponents alone, and the power is read back as it is. Assumes nothing.
 use mathlib.Core.Path.{_≡_, sym, ap, _∙_, subst}
 use mathlib.Core.List.{List}
 use mathlib.Core.Option.{none}
-use Prim.Native.Nat.{ℕ, _≤_, _<_}
+use Prim.Native.Nat.{ℕ, _<_}
 use native.Mathlib.Omega.{arith}
-use lib.ListN.{getD, take, replicate, getD-replicate}
-use lib.Seq.{getD-take}
 use lib.IntN.{ℤ, _-ℤ_}
 use lib.Ieee.{Float}
 use mir.Syntax.{w32}
@@ -27,7 +25,3 @@ gathered-as {n} {m} {m′} {k} {k′} {e} hm hk g = record {
 -- the power, as the machine reads it back
 pub gathered-read : {n : ℕ} {m : ℕ → Float} {k : ℕ → ℤ} {e : ℤ} {l : List Float} → Gathered n m k e l → Gathered n m k (toZ w32 (ofZ w32 e)) l
 gathered-read {n} {m} {k} {e} {l} g = subst (λ (z : ℤ). Gathered n m k z l) (sym (read e (omega (arith, g .size)))) g
-
--- a part of an array that holds x everywhere
-pub part-at : {A : Type 0} (x : A) (m n : ℕ) → n ≤ m → (d : A) (i : ℕ) → i < n → getD (take n (replicate m x)) i d ≡ x
-part-at x m n h d i l = getD-take n (replicate m x) i d l ∙ getD-replicate m i x d (omega arith)

@@ -10,17 +10,18 @@ use Rattle.leaves.specs.Root.{sqrt}
 use Rattle.matrix.specs.Matrix.{Matrix, rows}
 use Rattle.matrix.proofs.Stored.{rows-ext}
 use Rattle.estimators.specs.Sample.{gram}
-use Rattle.estimators.specs.Semi.{shortfall}
+use Rattle.estimators.specs.Semi.{shortfall, below}
 use Rattle.estimators.specs.Weighted.{weights, denominator, weightedMean, weightedCovariance}
 use Rattle.estimators.specs.Rows.{formed, rowsOf}
 use Rattle.estimators.specs.declared.rows.Row.the-variants as Row
 use Rattle.estimators.proofs.Stored.{nth-stored}
 use Rattle.estimators.proofs.Halves.{rows-over}
-use Rattle.estimators.proofs.Samples.{gram-ext, row-bare}
+use Rattle.estimators.proofs.Samples.{row-bare}
+use Rattle.estimators.proofs.SameReturns.{gram-ext}
 
 -- below the floors f, over d
 pub below-over : (T n m d : ℕ) (x : Matrix) (f : ℕ → Float) {floors l : List Float} {y : Float} → m ≡ n * n → y ≡ count d → floors ≡ tab n f → l ≡ rows n n (gram T (rowsOf Row.Shortfall n [] floors [] x))
-    → tab m (λ k. nth l k ⊘ y) ≡ rows n n (λ i j. gram T (shortfall f x) i j ⊘ count d)
+    → tab m (λ k. nth l k ⊘ y) ≡ rows n n (below f d T x)
 unfolding formed shortfall
 below-over T n m d x f {floors} {l} {y} em ey ef e =
     rows-over (gram T (shortfall f x)) n m y l em (e ∙ rows-ext n n _ _ (gram-ext T n _ (shortfall f x) alike)) ∙ ap (λ (c : Float). rows n n (λ i j. gram T (shortfall f x) i j ⊘ c)) ey

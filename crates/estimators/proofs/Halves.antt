@@ -1,4 +1,4 @@
--- Laws of the tables of which half is summed up and mirrored: products commute. Assumes nothing.
+-- Laws of the tables of which half is summed up and mirrored, as products commute, and of tables over a count. Assumes nothing.
 use mathlib.Core.Path.{_≡_, refl, ap, _∙_}
 use mathlib.Core.Bool.{Bool, true, false, cond}
 use mathlib.Core.List.{List}
@@ -16,12 +16,11 @@ use Rattle.leaves.proofs.Commutative.{product-comm}
 use Rattle.matrix.proofs.Stored.{rows-ext}
 use Rattle.estimators.specs.Sample.{gram}
 use Rattle.estimators.specs.LedoitWolf.{variation, covariation}
-use Rattle.estimators.specs.Rows.{factor, joined, summand, start, plus}
+use Rattle.estimators.specs.Rows.{factor, joined, summand, start, plus, summed, mirrored}
 use Rattle.estimators.specs.declared.tables.Term.{Term}
 use Rattle.estimators.specs.declared.tables.Term.the-variants.{Product, Square, Cube}
 use Rattle.estimators.proofs.Stored.{at-stored, tab-then}
-use Rattle.estimators.proofs.Sums.{summed, start-low, whole-sum}
-use Rattle.estimators.proofs.Mirror.{mirrored}
+use Rattle.estimators.proofs.Sums.{start-low, whole-sum}
 
 -- ---- half of a table
 
@@ -52,7 +51,7 @@ gram-mirrored s z n T′ out e = half-mirrored Product s n T′ z (λ t i j hi h
 
 pub rows-over : (f : Matrix) (n m : ℕ) (x : Float) (l : List Float) → m ≡ n * n → l ≡ rows n n f → tab m (λ k. nth l k ⊘ x) ≡ rows n n (λ i j. f i j ⊘ x)
 unfolding rows
-rows-over f n m x l em e = ap (λ (m : ℕ). tab m (λ k. nth l k ⊘ x)) em ∙ tab-then l (n * n) (λ k. f (k / n) (k % n)) (λ k v. v ⊘ x) e
+rows-over f n m x l em e = tab-then l (n * n) (λ k. f (k / n) (k % n)) (λ k v. v ⊘ x) em e
 
 module _ (s : List Float) (z : Matrix) (n m T′ : ℕ) (out : List Float) (x : Float) (em : m ≡ n * n) (ex : x ≡ count T′) where
   pub variation-over : (l : List Float) → Symmetric n s → out ≡ summed n (λ t. plus Square (at s n) (z t)) T′ → l ≡ rows n n (mirrored n out) → tab m (λ k. nth l k ⊘ x) ≡ rows n n (variation T′ z (at s n))

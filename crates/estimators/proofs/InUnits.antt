@@ -4,50 +4,46 @@ use mathlib.Core.List.{List}
 use Prim.Native.Nat.{ℕ, _+_, _<_}
 use native.Mathlib.Omega.{arith}
 use lib.IntN.{ℤ, pos, negℤ}
-use lib.ListN.{length, getD}
+use lib.ListN.{length}
 use lib.Ieee.{Float}
 use Rattle.leaves.specs.Numbers.{_⊗_, _⊘_}
 use Rattle.leaves.specs.Loops.{sumTo, tab, nth}
 use Rattle.leaves.specs.Scaling.{binaryExponent, pow2Scaled}
 use Rattle.leaves.proofs.Loops.{sum-ext, tab-ext}
 use Rattle.matrix.specs.Matrix.{Matrix}
+use Rattle.estimators.specs.Exponents.{exponentAt}
 use Rattle.estimators.specs.Sample.{largest, scaled}
-use Rattle.estimators.specs.Weighted.{weightedMean}
+use Rattle.estimators.specs.Weighted.{scaledMean, weightedMean}
 use Rattle.estimators.specs.Rows.{formed, rowsOf}
 use Rattle.estimators.specs.Powers.{Units}
 use Rattle.estimators.specs.declared.rows.Row.the-variants as Row
 use Rattle.estimators.proofs.Stored.{getD-stored, nth-stored, tab-then}
 use Rattle.estimators.proofs.Samples.{unit-scaled}
 
--- Σ wₜ xₜ / Σ wₜ in units of 2 ^ e
-abbrev pub scaledMean : ℕ → List Float → Matrix → ℕ → ℤ → Float
-scaledMean T w x i e = sumTo T (λ t. nth w t ⊗ pow2Scaled (x t i) (negℤ e)) ⊘ sumTo T (nth w)
-
 module _ (T n : ℕ) (x : Matrix) (es : List ℤ) (w : List Float) where
   -- the sums in the units that are stored, over the weights' sum
-  pub mean-sums : (m p : ℕ) (units centers : List Float) {out : List Float} {s : Float} → m ≡ n → p ≡ T → length units ≡ n + n → Units n n es units → out ≡ tab n (λ i. sumTo T (λ t. rowsOf Row.Times n units centers w x t i))
-      → s ≡ sumTo p (nth w) → tab m (λ k. nth out k ⊘ s) ≡ tab n (λ i. scaledMean T w x i (getD es i (pos 0)))
+  pub mean-sums : (m p : ℕ) (units centers : List Float) {out : List Float} {s : Float} → m ≡ n → p ≡ T → length units ≡ n + n → Units n es units → out ≡ tab n (λ i. sumTo T (λ t. rowsOf Row.Times n units centers w x t i))
+      → s ≡ sumTo p (nth w) → tab m (λ k. nth out k ⊘ s) ≡ tab n (λ i. scaledMean T w x i (exponentAt es i))
   unfolding rowsOf formed scaled
   mean-sums m p units centers {out} {s} em ep lu u e es′ =
-      ap (λ (m : ℕ). tab m (λ k. nth out k ⊘ s)) em ∙ tab-then out n (λ i. sumTo T (λ t. rowsOf Row.Times n units centers w x t i)) (λ k v. v ⊘ s) e
-      ∙ tab-ext _ (λ i. scaledMean T w x i (getD es i (pos 0))) n (λ i hi k. sums i hi k ⊘ (es′ ∙ ap (λ (p : ℕ). sumTo p (nth w)) ep) k)
+      tab-then out n (λ i. sumTo T (λ t. rowsOf Row.Times n units centers w x t i)) (λ k v. v ⊘ s) em e
+      ∙ tab-ext _ (λ i. scaledMean T w x i (exponentAt es i)) n (λ i hi k. sums i hi k ⊘ (es′ ∙ ap (λ (p : ℕ). sumTo p (nth w)) ep) k)
     where
-      times : (i t : ℕ) → i < n → rowsOf Row.Times n units centers w x t i ≡ nth w t ⊗ pow2Scaled (x t i) (negℤ (getD es i (pos 0)))
+      times : (i t : ℕ) → i < n → rowsOf Row.Times n units centers w x t i ≡ nth w t ⊗ pow2Scaled (x t i) (negℤ (exponentAt es i))
       times i t hi = ap (λ (v : Float). nth w t ⊗ v) (unit-scaled n es units x lu u t i hi)
 
-      sums : (i : ℕ) → i < n → sumTo T (λ t. rowsOf Row.Times n units centers w x t i) ≡ sumTo T (λ t. nth w t ⊗ pow2Scaled (x t i) (negℤ (getD es i (pos 0))))
+      sums : (i : ℕ) → i < n → sumTo T (λ t. rowsOf Row.Times n units centers w x t i) ≡ sumTo T (λ t. nth w t ⊗ pow2Scaled (x t i) (negℤ (exponentAt es i)))
       sums i hi = sum-ext T _ _ (λ t ht. times i t hi)
 
   -- each put back, where es holds the powers near the largest returns
-  pub mean-back : (m p : ℕ) {tops out : List Float} → m ≡ n → p ≡ n → tops ≡ tab n (largest T x) → es ≡ tab m (λ k. binaryExponent (nth tops k)) → out ≡ tab n (λ i. scaledMean T w x i (getD es i (pos 0)))
-      → tab p (λ k. pow2Scaled (nth out k) (getD es k (pos 0))) ≡ tab n (weightedMean T w x)
+  pub mean-back : (m p : ℕ) {tops out : List Float} → m ≡ n → p ≡ n → tops ≡ tab n (largest T x) → es ≡ tab m (λ k. binaryExponent (nth tops k)) → out ≡ tab n (λ i. scaledMean T w x i (exponentAt es i))
+      → tab p (λ k. pow2Scaled (nth out k) (exponentAt es k)) ≡ tab n (weightedMean T w x)
   unfolding weightedMean
   mean-back m p {tops} {out} em ep et ee e =
-      ap (λ (p : ℕ). tab p (λ k. pow2Scaled (nth out k) (getD es k (pos 0)))) ep
-      ∙ tab-then out n (λ i. scaledMean T w x i (getD es i (pos 0))) (λ k v. pow2Scaled v (getD es k (pos 0))) e
+      tab-then out n (λ i. scaledMean T w x i (exponentAt es i)) (λ k v. pow2Scaled v (exponentAt es k)) ep e
       ∙ tab-ext _ (λ i. pow2Scaled (scaledMean T w x i (binaryExponent (largest T x i))) (binaryExponent (largest T x i))) n
       (λ i hi. ap (λ (e : ℤ). pow2Scaled (scaledMean T w x i e) e) (power i hi))
     where
-      power : (i : ℕ) → i < n → getD es i (pos 0) ≡ binaryExponent (largest T x i)
+      power : (i : ℕ) → i < n → exponentAt es i ≡ binaryExponent (largest T x i)
       power i hi =
           getD-stored m (λ k. binaryExponent (nth tops k)) (pos 0) ee i (omega arith) ∙ ap binaryExponent (nth-stored n (largest T x) et i hi)

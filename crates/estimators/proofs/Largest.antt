@@ -5,14 +5,14 @@ use mathlib.Core.Path.{_≡_, refl, sym, ap, _∙_, subst}
 use mathlib.Core.Bool.{Bool, true, false, cond}
 use mathlib.Core.Logic.{inl, inr}
 use Prim.Native.Nat.{ℕ, zero, suc, _+_, _*_, _/_, _%_, _≤_, _<_, zero-le}
-use native.Mathlib.Nat.{le-refl, le-trans, le-antisymm, le-of-eq, le-of-lt, le-of-suc-le-suc, lt-irrefl, eq-or-lt-of-le, not-suc-le-zero, mod-lt, div-lt-iff-lt-mul}
+use native.Mathlib.Nat.{le-refl, le-trans, le-antisymm, le-of-eq, le-of-lt, le-of-suc-le-suc, lt-irrefl, eq-or-lt-of-le, not-suc-le-zero}
 use lib.Dec.{T, ltb}
 use lib.IntN.{pos}
 use lib.Ieee.{Float, nan, inf, fin, binary64, lt, fits, isNan}
 use borrow.Author.Tests.{lt-ltb, le-ltb, ltb-true, ltb-false}
 use Rattle.leaves.specs.Numbers.{zero⁺, abs, larger}
 use Rattle.leaves.specs.Loops.{loop, amaxTo}
-use Rattle.leaves.proofs.Loops.{cell, cell-row, cell-col, has-column}
+use Rattle.leaves.proofs.Loops.{cell, at-cell, row-below, col-below}
 use Rattle.leaves.proofs.Units.{Top, Val, sign, mag, fin-val, fin-under-Top, mag-abs, zero-mag, lt-val, val-unique}
 use Rattle.leaves.proofs.Signs.{sign-abs}
 use Rattle.leaves.proofs.Totals.{amax-one}
@@ -133,10 +133,10 @@ module _ (T′ n : ℕ) (f : Matrix) (fit : (t i : ℕ) → T (fits binary64 (f 
   unfolding amax column
   amax-columns =
       same-height (amaxTo (T′ * n) cells) (amaxTo n column) (amax-size cells (λ k. fit (k / n) (k % n)) (T′ * n)) (amax-size column fits-column n) (le-antisymm
-      (amax-least cells (λ k. fit (k / n) (k % n)) (T′ * n) (height (amaxTo n column)) (λ k h. let p = has-column k T′ n h in
-      le-trans (amax-above (λ t. f t (k % n)) (λ t. fit t (k % n)) T′ (k / n) (div-lt-iff-lt-mul p .1 h)) (amax-above column fits-column n (k % n) (mod-lt k p))))
+      (amax-least cells (λ k. fit (k / n) (k % n)) (T′ * n) (height (amaxTo n column)) (λ k h.
+      le-trans (amax-above (λ t. f t (k % n)) (λ t. fit t (k % n)) T′ (k / n) (row-below k T′ n h)) (amax-above column fits-column n (k % n) (col-below k T′ n h))))
       (amax-least column fits-column n (height (amaxTo (T′ * n) cells)) (λ i hi. amax-least (λ t. f t i) (λ t. fit t i) T′ (height (amaxTo (T′ * n) cells)) (λ t ht.
-      le-trans (le-of-eq (λ u. height (f (sym (cell-row t n i hi) u) (sym (cell-col t n i hi) u)))) (amax-above cells (λ k. fit (k / n) (k % n)) (T′ * n) (t * n + i) (cell t T′ i n ht hi))))))
+      le-trans (le-of-eq (ap height (sym (at-cell f t n i hi)))) (amax-above cells (λ k. fit (k / n) (k % n)) (T′ * n) (t * n + i) (cell t T′ i n ht hi))))))
     where
       cells : ℕ → Float
       cells k = f (k / n) (k % n)

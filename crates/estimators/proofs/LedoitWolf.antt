@@ -8,7 +8,7 @@ use Rattle.leaves.specs.Loops.{tab, nth}
 use Rattle.leaves.proofs.Loops.{nth-tab}
 use Rattle.matrix.specs.Matrix.{Matrix, at, rows, trace, total, sumOver}
 use Rattle.estimators.specs.Sample.{volatility}
-use Rattle.estimators.specs.LedoitWolf.{apart, averageCorrelation, variation, covariation, targetVariation, error, distance, intensityBy, intensityOf}
+use Rattle.estimators.specs.LedoitWolf.{apart, averageCorrelation, variation, covariation, targetVariation, error, distance, intensityBy, intensityOf, crossVariation}
 use Rattle.estimators.specs.declared.Target.{Target}
 use Rattle.estimators.specs.declared.Target.the-variants.{ConstantVariance, ConstantCorrelation}
 use Rattle.estimators.proofs.Stored.{at-stored}
@@ -25,14 +25,14 @@ module _ (T n : ℕ) (z s : Matrix) {π : List Float} (eπ : π ≡ rows n n (va
   variance-error = ea ∙ total-stored n (variation T z s) eπ
 
   pub correlation-error : {sd θ : List Float} {r ρ : Float} → sd ≡ tab n (volatility s) → r ≡ averageCorrelation n s → θ ≡ rows n n (covariation T z s)
-      → ρ ≡ sumOver n apart (λ i j. r ⊗ nth sd j ⊘ nth sd i ⊗ at θ n i j) (trace n (at π n)) → all ⊖ ρ ≡ error ConstantCorrelation T n z s
+      → ρ ≡ sumOver n apart (crossVariation r (nth sd) (at θ n)) (trace n (at π n)) → all ⊖ ρ ≡ error ConstantCorrelation T n z s
   unfolding error targetVariation
-  correlation-error {sd} {θ} {r} ed er eθ eρ = λ u. variance-error u ⊖ (eρ ∙ (λ t. sumOver n apart (λ i j. er t ⊗ nth (ed t) j ⊘ nth (ed t) i ⊗ at θ n i j) (trace-stored n (variation T z s) eπ t)) ∙ summed) u
+  correlation-error {sd} {θ} {r} ed er eθ eρ = λ u. variance-error u ⊖ (eρ ∙ (λ t. sumOver n apart (crossVariation (er t) (nth (ed t)) (at θ n)) (trace-stored n (variation T z s) eπ t)) ∙ summed) u
     where
       v : ℕ → Float
       v = nth (tab n (volatility s))
 
-      summed : sumOver n apart (λ i j. averageCorrelation n s ⊗ v j ⊘ v i ⊗ at θ n i j) (trace n (variation T z s)) ≡ targetVariation T n z s
+      summed : sumOver n apart (crossVariation (averageCorrelation n s) v (at θ n)) (trace n (variation T z s)) ≡ targetVariation T n z s
       summed =
-          sum-over-ext n apart (λ i j. averageCorrelation n s ⊗ v j ⊘ v i ⊗ at θ n i j) (λ i j. averageCorrelation n s ⊗ volatility s j ⊘ volatility s i ⊗ covariation T z s i j) (trace n (variation T z s))
+          sum-over-ext n apart (crossVariation (averageCorrelation n s) v (at θ n)) (crossVariation (averageCorrelation n s) (volatility s) (covariation T z s)) (trace n (variation T z s))
           (λ i j hi hj t. averageCorrelation n s ⊗ nth-tab n (volatility s) j nan hj t ⊘ nth-tab n (volatility s) i nan hi t ⊗ at-stored n (covariation T z s) eθ i j hi hj t)

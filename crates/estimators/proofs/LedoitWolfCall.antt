@@ -28,7 +28,7 @@ module _ (r : List Float) (n T : ℕ) (F : Target) where
   numbers i = zero⁺
 
   -- the answer of a call that fills an empty slice
-  call : {a : Answered} → a ≡ answerOf r n T 0 [] (noCorrelation (LedoitWolf F) T n (at r n) ∷ []) intensity numbers [] → a .answer ≡ ledoitWolfIntensity r n T F
+  call : {a : Answered} → a ≡ answerOf r n T 0 (noCorrelation (LedoitWolf F) T n (at r n) ∷ []) intensity numbers [] → a .answer ≡ ledoitWolfIntensity r n T F
   unfolding ledoitWolfIntensity ledoitWolfOrder fill tab
   call e = ap (λ (a : Answered). a .answer) e
 

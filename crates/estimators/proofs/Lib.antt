@@ -17,6 +17,7 @@ pub mod Centered
 pub mod OfGiven
 pub mod Exponents
 pub mod Factors
+pub mod SameReturns
 pub mod Samples
 pub mod Gathered
 pub mod Constant

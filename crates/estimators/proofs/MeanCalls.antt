@@ -2,30 +2,29 @@
 -- limit, and then by the means or the moments. Assumes nothing.
 use mathlib.Core.Path.{_≡_, refl, sym, ap, _∙_}
 use mathlib.Core.Bool.{not}
-use mathlib.Core.List.{List, [], _∷_, _++_}
+use mathlib.Core.List.{List, [], _∷_}
 use mathlib.Core.Option.{Option}
 use Prim.Native.Nat.{ℕ, _≤_, _<_}
-use native.Mathlib.Omega.{arith}
 use borrow.Author.Tests.{ltb-false}
 use lib.Dec.{ltb}
-use lib.IntN.{ℤ, pos, negℤ, _-ℤ_}
-use lib.ListN.{length, getD}
+use lib.IntN.{ℤ, pos, negℤ, _-ℤ_, +ℤ-idr}
+use lib.ListN.{length}
 use lib.Ieee.{Float}
 use Rattle.leaves.specs.Loops.{tab, nth}
 use Rattle.leaves.specs.Scaling.{binaryExponent, pow2Scaled}
-use Rattle.leaves.specs.Root.{sqrt}
-use Rattle.leaves.proofs.Whole.{over, under, minus, same}
+use Rattle.leaves.proofs.Whole.{over}
 use Rattle.leaves.proofs.Loops.{tab-ext}
 use Rattle.matrix.specs.Limits.{maxSweeps}
 use Rattle.matrix.specs.Matrix.{Matrix, at, amax, allFinite}
+use Rattle.estimators.specs.Exponents.{exponentAt}
 use Rattle.estimators.specs.Refusals.{Check, passes, refuses, when, whenSome, first}
-use Rattle.estimators.specs.Sample.{largest, scaled, constantAsset}
+use Rattle.estimators.specs.Sample.{volatility, largest, scaled, constantAsset}
 use Rattle.estimators.specs.Weighted.{logDecay, weights, weightedMean}
 use Rattle.estimators.specs.Moments.{Moments, moments}
 use Rattle.estimators.specs.Shrinking.{Shrinking, shrunkBy}
 use Rattle.estimators.specs.JamesStein.{jamesStein}
 use Rattle.estimators.specs.BayesStein.{gathered, exponentsOf, largestIn, correlations, bayesStein}
-use Rattle.estimators.specs.Order.{sweepLimit, badHalfLife, weightedOrder, jamesSteinOrder, bayesSteinOrder, byReturns, byCorrelations, byDecomposition, Shaped}
+use Rattle.estimators.specs.Order.{sweepLimit, badHalfLife, weightedOrder, jamesSteinOrder, bayesSteinOrder, byReturns, byDecomposition, notFound, ofCorrelations, Shaped}
 use Rattle.estimators.specs.Calls.{answered, settle, exponentiallyWeightedMean, jamesSteinMean, bayesSteinMean}
 use Rattle.estimators.specs.Stein.{jamesSteinOf, bayesSteinOf, bayesSteinFrom}
 use Rattle.estimators.specs.declared.Refusal.{Refusal}
@@ -36,6 +35,12 @@ use Rattle.estimators.proofs.Stored.{nth-stored}
 use Rattle.estimators.proofs.Firsts.{first-alone, first-rest, first-passes}
 use Rattle.estimators.proofs.Constant.{constant-ext}
 use Rattle.estimators.proofs.Opened.{setting-refused, setting-accepted}
+
+-- a limit that passes is within document 01's
+pub within : (limit : ℕ) (opens : Check) {k own : Check} → own ≡ sweepLimit limit → k ≡ first (opens ∷ own ∷ []) → k ≡ passes → limit ≤ maxSweeps
+unfolding sweepLimit
+within limit opens {own = own} is-own is-k h =
+    ltb-false maxSweeps limit (first-passes (ltb maxSweeps limit) (BadSetting SweepLimitField) [] (ap (λ (c : Check). first (c ∷ [])) (sym is-own) ∙ first-rest opens (own ∷ []) (sym is-k ∙ h)) .0)
 
 -- k is the first refusal of the two checks
 module _ (r : List Float) (n T : ℕ) (slice : List Float) (shape : Shaped (length r) n T) (long : length slice ≡ n) {k opens own : Check} (is-opens : opens ≡ first (byReturns T n (at r n))) where
@@ -55,10 +60,6 @@ module _ (r : List Float) (n T : ℕ) (slice : List Float) (shape : Shaped (leng
         ap (answered Mean) (is-out ∙ ap (λ (l : Float). tab n (numbers l)) is-l) ∙ setting-accepted r n T n slice shape long is-opens is-own is-k [] Mean (numbers (logDecay h)) e
 
   module _ (limit : ℕ) (is-own : own ≡ sweepLimit limit) (is-k : k ≡ first (opens ∷ own ∷ [])) where
-    pub within : k ≡ passes → limit ≤ maxSweeps
-    unfolding sweepLimit
-    within h = ltb-false maxSweeps limit (first-passes (ltb maxSweeps limit) (BadSetting SweepLimitField) [] (ap (λ (c : Check). first (c ∷ [])) (sym is-own) ∙ first-rest opens (own ∷ []) (sym is-k ∙ h)) .0)
-
     -- ---- James-Stein
 
     abbrev eⱼ : ℤ
@@ -68,7 +69,7 @@ module _ (r : List Float) (n T : ℕ) (slice : List Float) (shape : Shaped (leng
     wⱼ = jamesStein n limit (moments T n (scaled (λ i. eⱼ) (at r n))) eⱼ
 
     abbrev restⱼ : List Check
-    restⱼ = when (not (wⱼ .decomposition .found)) Singular ∷ []
+    restⱼ = notFound (wⱼ .decomposition) ∷ []
 
     pub james-stein-refused : {c : Refusal} → k ≡ refuses c → answered (Refused c) slice ≡ jamesSteinMean r n T limit slice
     unfolding jamesSteinMean jamesSteinOrder
@@ -79,7 +80,7 @@ module _ (r : List Float) (n T : ℕ) (slice : List Float) (shape : Shaped (leng
     james-stein-accepted h m e is-m is-e =
         ap (λ (m : Moments). jamesSteinOf n limit m e slice) is-m
         ∙ ap (λ (e : ℤ). jamesSteinOf n limit (moments T n (scaled (λ i. e) (at r n))) e slice) is-e
-        ∙ ap (λ (k : Check). settle k slice (answered (shrunkBy wⱼ) (tab n (wⱼ .mean)))) (first-alone (when (not (wⱼ .decomposition .found)) Singular))
+        ∙ ap (λ (k : Check). settle k slice (answered (shrunkBy wⱼ) (tab n (wⱼ .mean)))) (first-alone (notFound (wⱼ .decomposition)))
         ∙ setting-accepted r n T n slice shape long is-opens is-own is-k restⱼ (shrunkBy wⱼ) (wⱼ .mean) h
 
     -- ---- Bayes-Stein
@@ -94,7 +95,7 @@ module _ (r : List Float) (n T : ℕ) (slice : List Float) (shape : Shaped (leng
     w = bayesStein n limit m e
 
     abbrev rest : List Check
-    rest = byCorrelations n (largestIn e T (at r n)) (at (m .covariance) n) (correlations n m) ++ byDecomposition n (w .decomposition)
+    rest = ofCorrelations n (largestIn e T (at r n)) (at (m .covariance) n) (correlations n m) (w .decomposition)
 
     pub bayes-stein-refused : {c : Refusal} → k ≡ refuses c → answered (Refused c) slice ≡ bayesSteinMean r n T limit slice
     unfolding bayesSteinMean bayesSteinOrder
@@ -115,16 +116,12 @@ size-ext n limit m e s s′ slice h =
     ap
     (λ (o : Option ℕ). settle (first (whenSome o ZeroVariance ∷ when (not (allFinite n n (correlations n m))) Singular ∷ byDecomposition n (w .decomposition))) slice
     (answered (shrunkBy w) (tab n (w .mean))))
-    (constant-ext n (λ i. sqrt (Σ i i)) (λ i. sqrt (Σ i i)) s s′ (λ i b. refl) h)
-
-minus-zero : (z : ℤ) → z -ℤ pos 0 ≡ z
-unfolding over under
-minus-zero z = same (z -ℤ pos 0) z (omega (arith, minus z (pos 0)))
+    (constant-ext n (volatility Σ) (volatility Σ) s s′ (λ i b. refl) h)
 
 -- from the largest returns, their exponents, the moments over those and the largest returns over them
 module _ (n T limit : ℕ) (x : Matrix) (slice sizes over : List Float) (es : List ℤ) (is-sizes : sizes ≡ tab n (largest T x)) (is-es : es ≡ tab n (λ i. binaryExponent (nth sizes i))) where
   abbrev unit : ℕ → ℤ
-  unit i = getD es i (pos 0)
+  unit = exponentAt es
 
   at-size : (i : ℕ) → i < n → nth sizes i ≡ largest T x i
   at-size = nth-stored n (largest T x) is-sizes
@@ -136,10 +133,10 @@ module _ (n T limit : ℕ) (x : Matrix) (slice sizes over : List Float) (es : Li
   unfolding gathered
   at-over is-over i b =
       nth-stored n (λ i. pow2Scaled (nth sizes i) (negℤ (unit i) -ℤ pos 0)) is-over i b
-      ∙ (λ t. pow2Scaled (at-size i b t) (minus-zero (negℤ (unit i)) t))
+      ∙ (λ t. pow2Scaled (at-size i b t) (+ℤ-idr (negℤ (unit i)) t))
 
   pub bayes-stein-lists : (m : Moments) → m ≡ moments T n (scaled unit x) → over ≡ gathered n (nth sizes) (λ i. negℤ (unit i)) (pos 0) → bayesSteinOf n limit m unit (nth over) slice ≡ bayesSteinFrom n T limit x slice
   bayes-stein-lists m is-m is-over =
       ap (λ (m : Moments). bayesSteinOf n limit m unit (nth over) slice) is-m
       ∙ size-ext n limit (moments T n (scaled unit x)) unit (nth over) (largestIn unit T x) slice (at-over is-over)
-      ∙ ap (λ (l : List ℤ). let e : ℕ → ℤ = λ i. getD l i (pos 0) in bayesSteinOf n limit (moments T n (scaled e x)) e (largestIn e T x) slice) exponents
+      ∙ ap (λ (l : List ℤ). let e : ℕ → ℤ = exponentAt l in bayesSteinOf n limit (moments T n (scaled e x)) e (largestIn e T x) slice) exponents

@@ -1,9 +1,9 @@
 -- Laws of a table whose part below the diagonal becomes the mirror of the part above it. Assumes nothing.
-use mathlib.Core.Path.{_≡_, refl, sym, ap, _∙_}
+use mathlib.Core.Path.{_≡_, refl, sym, _∙_}
 use mathlib.Core.Bool.{Bool, true, false, cond}
 use mathlib.Core.List.{List}
 use mathlib.Core.Logic.{⊎-elim}
-use Prim.Native.Nat.{ℕ, _+_, _*_, _/_, _%_, _≤_, _<_}
+use Prim.Native.Nat.{ℕ, _+_, _*_, _≤_, _<_}
 use native.Mathlib.Omega.{arith}
 use lib.Dec.{eqb, ltb}
 use lib.ListN.{length, set, length-set}
@@ -12,17 +12,12 @@ use lib.Ieee.{Float, nan}
 use borrow.Author.Tests.{ne-eqb, lt-ltb, le-ltb, ltb-true, eqb-true, eqb-false}
 use Rattle.leaves.specs.Loops.{nth}
 use Rattle.leaves.proofs.Whole.{le-or-lt}
-use Rattle.leaves.proofs.Loops.{row, cell-row, cell-col}
-use Rattle.matrix.specs.Matrix.{Matrix, at, rows}
+use Rattle.leaves.proofs.Loops.{row}
+use Rattle.matrix.specs.Matrix.{at, rows}
 use Rattle.matrix.proofs.Stored.{rows-is}
+use Rattle.estimators.specs.Rows.{mirrored, mirroredTo}
 use Rattle.estimators.proofs.Stored.{passed, passed-before, passed-here, passed-more, at-stored}
-
-abbrev pub mirrored : ℕ → List Float → Matrix
-mirrored n old p q = cond (ltb q p) (at old n q p) (at old n p q)
-
--- row i up to column j
-abbrev pub mirroredTo : ℕ → ℕ → ℕ → List Float → Matrix
-mirroredTo n i j old p q = cond (eqb p i) (cond (ltb q j) (at old n q p) (at old n p q)) (at old n p q)
+use Rattle.matrix.proofs.Cells.{same-row, same-column}
 
 module _ (n i : ℕ) (old : List Float) where
   pub mirror-none : length old ≡ n * n → old ≡ rows n n (mirroredTo n i 0 old)
@@ -50,7 +45,7 @@ module _ (n i : ℕ) (old : List Float) where
     unfolding next
     other p q hp hq ne =
         getD-set-other out (i * n + j) (p * n + q) (nth out (j * n + i)) nan
-        (λ d. ne (sym (cell-row p n q hq) ∙ ap (λ (k : ℕ). k / n) d ∙ cell-row i n j (omega arith)) (sym (cell-col p n q hq) ∙ ap (λ (k : ℕ). k % n) d ∙ cell-col i n j (omega arith)))
+        (λ d. ne (same-row n i p q j hq (omega arith) d) (same-column n i p q j hq (omega arith) d))
         ∙ was p q hp hq
 
     entry : (p q : ℕ) → p < n → q < n → (b c : Bool) → eqb p i ≡ b → eqb q j ≡ c → at next n p q ≡ cond b (cond (ltb q (j + 1)) (at old n q p) (at old n p q)) (at old n p q)

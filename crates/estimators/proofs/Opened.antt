@@ -42,16 +42,16 @@ settle-part passes a b m f slice p fits e =
 settle-part (refuses c) a b m f slice p fits e =
     ap (λ (x : Answered). answered (x .answer) (x .slice ++ drop m slice)) e ∙ ap (answered (Refused c)) (take-append-drop m slice)
 
-module _ (r : List Float) (n T m : ℕ) (slice : List Float) (rest : List Check) (a : Answer) (f : ℕ → Float) where
-  -- what a call answers whose further checks are `rest`, and whose answer is `a` with the numbers f
-  abbrev pub answerOf : List Float → Answered
-  answerOf s = settle (first (opening r n T m s ++ rest)) s (answered a (fill m f s))
+-- what a call answers whose further checks are `rest`, and whose answer is `a` with the numbers f
+abbrev pub answerOf : List Float → ℕ → ℕ → ℕ → List Check → Answer → (ℕ → Float) → List Float → Answered
+answerOf r n T m rest a f slice = settle (first (opening r n T m slice ++ rest)) slice (answered a (fill m f slice))
 
-  pub shape-refuses : {c : Refusal} → refuses c ≡ first (byShape (length r) n T m (length slice)) → answered (Refused c) slice ≡ answerOf slice
+module _ (r : List Float) (n T m : ℕ) (slice : List Float) (rest : List Check) (a : Answer) (f : ℕ → Float) where
+  pub shape-refuses : {c : Refusal} → refuses c ≡ first (byShape (length r) n T m (length slice)) → answered (Refused c) slice ≡ answerOf r n T m rest a f slice
   unfolding first opening
   shape-refuses e = settle-refused _ _ (first-then (byShape (length r) n T m (length slice)) (byReturns T n (at r n) ++ rest) e)
 
-  pub shape-fits : {b : Answer} {p : List Float} → Shaped (length r) n T → m ≤ length slice → answered b p ≡ answerOf (take m slice) → answered b (p ++ drop m slice) ≡ answerOf slice
+  pub shape-fits : {b : Answer} {p : List Float} → Shaped (length r) n T → m ≤ length slice → answered b p ≡ answerOf r n T m rest a f (take m slice) → answered b (p ++ drop m slice) ≡ answerOf r n T m rest a f slice
   shape-fits {b} {p} shape fits e =
       let long = length-take-le m slice fits in
       let k = first (byReturns T n (at r n) ++ rest) in
@@ -60,7 +60,7 @@ module _ (r : List Float) (n T m : ℕ) (slice : List Float) (rest : List Check)
       settle-part k a b m f slice p fits (e ∙ ap (λ (k : Check). settle k (take m slice) (answered a (fill m f (take m slice)))) here)
       ∙ ap (λ (k : Check). settle k slice (answered a (fill m f slice))) (sym whole)
 
-  pub shaped : {k : Check} → Shaped (length r) n T → length slice ≡ m → k ≡ first (byReturns T n (at r n) ++ rest) → settle k slice (answered a (tab m f)) ≡ answerOf slice
+  pub shaped : {k : Check} → Shaped (length r) n T → length slice ≡ m → k ≡ first (byReturns T n (at r n) ++ rest) → settle k slice (answered a (tab m f)) ≡ answerOf r n T m rest a f slice
   shaped {k} shape long e =
       ap (λ (k : Check). settle k slice (answered a (tab m f))) (e ∙ sym (opened r n T m slice rest shape (omega (arith, long))))
       ∙ ap (λ (l : List Float). settle (first (opening r n T m slice ++ rest)) slice (answered a l)) (sym (fill-whole f m slice (omega (arith, long))))
@@ -69,13 +69,13 @@ module _ (r : List Float) (n T m : ℕ) (slice : List Float) (rest : List Check)
 
 module _ (r : List Float) (n T m : ℕ) (slice : List Float) (shape : Shaped (length r) n T) (long : length slice ≡ m) {k opens own setting : Check}
     (is-opens : opens ≡ first (byReturns T n (at r n))) (is-own : own ≡ setting) (is-k : k ≡ first (opens ∷ own ∷ [])) (rest : List Check) (a : Answer) (f : ℕ → Float) where
-  settled : settle (first (k ∷ rest)) slice (answered a (tab m f)) ≡ answerOf r n T m slice (setting ∷ rest) a f slice
+  settled : settle (first (k ∷ rest)) slice (answered a (tab m f)) ≡ answerOf r n T m (setting ∷ rest) a f slice
   settled = shaped r n T m slice (setting ∷ rest) a f shape long (first-with (byReturns T n (at r n)) rest is-opens is-own is-k)
 
-  pub setting-refused : {c : Refusal} → k ≡ refuses c → answered (Refused c) slice ≡ answerOf r n T m slice (setting ∷ rest) a f slice
+  pub setting-refused : {c : Refusal} → k ≡ refuses c → answered (Refused c) slice ≡ answerOf r n T m (setting ∷ rest) a f slice
   unfolding first
   setting-refused h = settle-refused _ _ (ap (λ (k : Check). first (k ∷ rest)) (sym h)) ∙ settled
 
-  pub setting-accepted : k ≡ passes → settle (first rest) slice (answered a (tab m f)) ≡ answerOf r n T m slice (setting ∷ rest) a f slice
+  pub setting-accepted : k ≡ passes → settle (first rest) slice (answered a (tab m f)) ≡ answerOf r n T m (setting ∷ rest) a f slice
   unfolding first
   setting-accepted h = ap (λ (k : Check). settle (first (k ∷ rest)) slice (answered a (tab m f))) (sym h) ∙ settled

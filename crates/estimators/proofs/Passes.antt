@@ -1,5 +1,5 @@
 -- Laws of what a loop over the periods makes of the columns: each period changes every column's number. Assumes nothing.
-use mathlib.Core.Path.{_≡_, sym, ap, _∙_}
+use mathlib.Core.Path.{_≡_, refl, sym, ap, _∙_}
 use mathlib.Core.List.{List}
 use Prim.Native.Nat.{ℕ, _+_}
 use lib.Ieee.{Float}
@@ -7,11 +7,6 @@ use Rattle.leaves.specs.Numbers.{zero⁺}
 use Rattle.leaves.specs.Loops.{loop, tab, nth}
 use Rattle.leaves.proofs.Loops.{tab-ext, loop-more}
 use Rattle.estimators.proofs.Stored.{tab-then}
-
--- a period, whose row y is stored as d: g changes column i's number by its number of the row
-pub period-passed : (g : Float → Float → Float) (m n : ℕ) (d out : List Float) (y : ℕ → Float) → m ≡ n → d ≡ tab n y → tab m (λ k. g (nth out k) (nth d k)) ≡ tab n (λ i. g (nth out i) (y i))
-period-passed g m n d out y em e =
-    ap (λ (m : ℕ). tab m (λ k. g (nth out k) (nth d k))) em ∙ tab-then d n y (λ k x. g (nth out k) x) e
 
 -- after t periods, of which period t changes column i's number by F t i
 abbrev pub after : ℕ → (ℕ → ℕ → Float → Float) → ℕ → List Float
@@ -24,5 +19,5 @@ module _ (n : ℕ) (F : ℕ → ℕ → Float → Float) where
 
   pub after-more : (t : ℕ) (out next : List Float) → out ≡ after n F t → next ≡ tab n (λ i. F t i (nth out i)) → next ≡ after n F (t + 1)
   after-more t out next e e′ =
-      e′ ∙ tab-then out n (λ i. loop t (λ t. F t i) zero⁺) (F t) e
+      e′ ∙ tab-then out n (λ i. loop t (λ t. F t i) zero⁺) (F t) refl e
       ∙ tab-ext _ (λ i. loop (t + 1) (λ t. F t i) zero⁺) n (λ i h. sym (loop-more (λ t. F t i) t zero⁺))

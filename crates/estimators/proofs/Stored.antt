@@ -27,8 +27,8 @@ pub nth-stored : (n : ℕ) (f : ℕ → Float) {l : List Float} → l ≡ tab n 
 nth-stored n f e k h = getD-stored n f nan e k h
 
 -- a list made of a list, number by number
-pub tab-then : (l : List Float) (n : ℕ) (f : ℕ → Float) (g : ℕ → Float → Float) → l ≡ tab n f → tab n (λ k. g k (nth l k)) ≡ tab n (λ k. g k (f k))
-tab-then l n f g e = tab-ext (λ k. g k (nth l k)) (λ k. g k (f k)) n (λ k b. ap (g k) (nth-stored n f e k b))
+pub tab-then : (l : List Float) {m : ℕ} (n : ℕ) (f : ℕ → Float) (g : ℕ → Float → Float) → m ≡ n → l ≡ tab n f → tab m (λ k. g k (nth l k)) ≡ tab n (λ k. g k (f k))
+tab-then l n f g em e = ap (λ (m : ℕ). tab m (λ k. g k (nth l k))) em ∙ tab-ext (λ k. g k (nth l k)) (λ k. g k (f k)) n (λ k b. ap (g k) (nth-stored n f e k b))
 
 -- ---- a part of m numbers from a on, and the list in which it is replaced
 

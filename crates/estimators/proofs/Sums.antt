@@ -13,7 +13,7 @@ use Rattle.leaves.specs.Loops.{loop, sumTo, tab, nth}
 use Rattle.leaves.proofs.Loops.{row, length-tab, loop-more, loop-ext}
 use Rattle.matrix.specs.Matrix.{Matrix, at, rows}
 use Rattle.matrix.proofs.Stored.{rows-ext}
-use Rattle.estimators.specs.Rows.{factor, joined, summand, start, plus, Sized}
+use Rattle.estimators.specs.Rows.{factor, joined, summand, start, plus, summed, Sized}
 use Rattle.estimators.specs.declared.tables.Term.{Term}
 use Rattle.estimators.specs.declared.tables.Term.the-variants.{Product, Square, Cube}
 use Rattle.estimators.proofs.Stored.{nth-stored, part-nth, replaced, row-replaced, rows-then}
@@ -137,9 +137,6 @@ periods-added term s n d d′ y y′ e e′ l =
     rows-ext n n _ _ (λ p q hp hq. plus-stored term s n d′ y′ e′ p q (plus term s (nth d) p q (at l n p q)) hp hq ∙ ap (plus term s y′ p q) (plus-stored term s n d y e p q (at l n p q) hp hq))
 
 -- ---- period after period: F t changes each entry in period t
-
-abbrev pub summed : ℕ → (ℕ → ℕ → ℕ → Float → Float) → ℕ → List Float
-summed n F t = rows n n (λ p q. loop t (λ t. F t p q) zero⁺)
 
 module _ (n : ℕ) (F : ℕ → ℕ → ℕ → Float → Float) where
   pub summed-none : (m : ℕ) (out : List Float) → m ≡ n * n → out ≡ tab m (λ k. zero⁺) → out ≡ summed n F 0

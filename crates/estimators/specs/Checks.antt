@@ -1,4 +1,4 @@
--- What the code's checks answer, as the order of refusals has it. Definitions only.
+-- What only the contracts of this crate's inner functions cite: what the code's checks answer, as the order of refusals has it. Definitions only.
 use Prim.Native.Nat.{ℕ}
 use Rattle.matrix.specs.Matrix.{Matrix}
 use Rattle.matrix.specs.Jacobi.{Decomposition}

@@ -1,5 +1,5 @@
--- The adjusted covariance from the checks of its settings on, as the code takes it in parts. What only the contracts of this crate's inner functions
--- cite. Definitions only.
+-- What only the contracts of this crate's inner functions cite: the adjusted covariance as the code takes it in parts, its given matrix, and the
+-- answer from the checks of the settings on. Definitions only.
 use Prim.Native.Nat.{ℕ}
 use mathlib.Core.List.{List}
 use lib.Ieee.{Float}

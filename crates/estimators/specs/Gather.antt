@@ -1,12 +1,11 @@
--- What only the contracts of the functions that gather numbers over one power of two cite. Definitions only.
-use Prim.Native.Nat.{ℕ, _+_, _≤_, _<_}
+-- What only the contracts of this crate's inner functions cite: numbers gathered over one power of two. Definitions only.
+use Prim.Native.Nat.{ℕ, _≤_}
 use mathlib.Core.Path.{_≡_}
 use mathlib.Core.List.{List}
 use mathlib.Core.Option.{Option, none, some}
-use lib.IntN.{ℤ, pos, natAbs}
-use lib.ListN.{length, getD}
+use lib.IntN.{ℤ, natAbs}
 use lib.Ieee.{Float}
-use Rattle.estimators.specs.Held.{maxExponent}
+use Rattle.estimators.specs.Exponents.{twoExponents}
 use Rattle.estimators.specs.BayesStein.{orZero, commonExponent, gathered}
 use Rattle.estimators.specs.declared.gather.Largest.{Largest}
 use Rattle.estimators.specs.declared.gather.Largest.the-variants.{Nothing, Exponent}
@@ -14,14 +13,6 @@ use Rattle.estimators.specs.declared.gather.Largest.the-variants.{Nothin
 abbrev pub largestOf : Largest → Option ℤ
 largestOf Nothing = none
 largestOf (Exponent k) = some k
-
--- each is one of an f64
-abbrev pub Exponents : List ℤ → Type 0
-Exponents es = (i : ℕ) → i < length es → natAbs (getD es i (pos 0)) ≤ maxExponent
-
--- a sum of two of them is at most this in size
-abbrev pub twoExponents : ℕ
-twoExponents = maxExponent + maxExponent
 
 abbrev pub Summed : Option ℤ → Type 0
 Summed found = natAbs (orZero found) ≤ twoExponents

@@ -7,7 +7,7 @@ use mathlib.Core.List.{List}
 use lib.Dec.{eqb}
 use lib.Ieee.{Float, lt}
 use Rattle.leaves.specs.Numbers.{_⊖_, _⊗_, _⊘_, count, zero⁺, clamp01}
-use Rattle.leaves.specs.Loops.{sumTo}
+use Rattle.leaves.specs.Loops.{meanTo}
 use Rattle.leaves.specs.Scaling.{binaryExponent}
 use Rattle.matrix.specs.Matrix.{Matrix, at, rows, identity, trace, amax, sumOver, total, squares}
 use Rattle.estimators.specs.Sample.{deviation, volatility, correlation, gram, scaled}
@@ -42,17 +42,20 @@ distance² x y = (x ⊖ y) ⊗ (x ⊖ y)
 
 -- π ᵢⱼ, the variance of √T sᵢⱼ
 unfoldable pub variation : ℕ → Matrix → Matrix → Matrix
-variation T z s i j = sumTo T (λ t. distance² (z t i ⊗ z t j) (s i j)) ⊘ count T
+variation T z s i j = meanTo T (λ t. distance² (z t i ⊗ z t j) (s i j))
 
 -- θ ᵢⱼ, the covariance of √T sᵢᵢ and √T sᵢⱼ
 unfoldable pub covariation : ℕ → Matrix → Matrix → Matrix
-covariation T z s i j = sumTo T (λ t. (z t i ⊗ z t i ⊖ s i i) ⊗ z t i ⊗ z t j) ⊘ count T
+covariation T z s i j = meanTo T (λ t. (z t i ⊗ z t i ⊖ s i i) ⊗ z t i ⊗ z t j)
+
+-- its share in ρ, by the average correlation r and the volatilities v
+abbrev pub crossVariation : Float → (ℕ → Float) → Matrix → Matrix
+crossVariation r v θ i j = r ⊗ v j ⊘ v i ⊗ θ i j
 
 -- ρ, the covariance of the target with the sample
 unfoldable pub targetVariation : ℕ → ℕ → Matrix → Matrix → Float
 targetVariation T n z s =
-    let r = averageCorrelation n s in
-    sumOver n apart (λ i j. r ⊗ volatility s j ⊘ volatility s i ⊗ covariation T z s i j) (trace n (variation T z s))
+    sumOver n apart (crossVariation (averageCorrelation n s) (volatility s) (covariation T z s)) (trace n (variation T z s))
 
 -- the estimation error: π, less ρ for [b]
 unfoldable pub error : Target → ℕ → ℕ → Matrix → Matrix → Float
@@ -70,14 +73,16 @@ intensityBy error T γ = elim (lt zero⁺ γ) [ true ↦ clamp01 (error ⊘ coun
 unfoldable pub intensityOf : Target → ℕ → ℕ → Matrix → Matrix → Float
 intensityOf F T n z s = intensityBy (error F T n z s) T (distance F n s)
 
--- s, stored by rows
+-- s, stored by rows; and δ from z alone
 abbrev pub secondMoments : ℕ → ℕ → Matrix → List Float
 secondMoments T n z = rows n n (λ i j. gram T z i j ⊘ count T)
+
+abbrev pub intensityFrom : Target → ℕ → ℕ → Matrix → Float
+intensityFrom F T n z = let s = secondMoments T n z in intensityOf F T n z (at s n)
 
 -- δ is a ratio of fourth moments: the centered returns are taken over a power of two near the largest
 unfoldable pub ledoitWolf : Target → ℕ → ℕ → Matrix → Float
 ledoitWolf F T n x =
     let e = binaryExponent (amax T n (deviation T x)) in
     let z = rows T n (scaled (λ i. e) (deviation T x)) in
-    let s = secondMoments T n (at z n) in
-    intensityOf F T n (at z n) (at s n)
+    intensityFrom F T n (at z n)

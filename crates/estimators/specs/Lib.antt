@@ -11,6 +11,7 @@ pub mod Settings
 pub mod Adjusted
 pub mod Moments
 pub mod Held
+pub mod Exponents
 pub mod Shrinking
 pub mod JamesStein
 pub mod BayesStein

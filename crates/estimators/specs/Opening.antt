@@ -1,4 +1,4 @@
--- Document 01, "Causes", number 4: the room that an answer needs. What only the contracts of this crate's inner functions cite. Definitions only.
+-- What only the contracts of this crate's inner functions cite: the room that an answer needs (document 01, "Causes", number 4). Definitions only.
 use Prim.Native.Nat.{ℕ, _*_}
 use Rattle.estimators.specs.declared.opening.Filled.{Filled}
 use Rattle.estimators.specs.declared.opening.Filled.the-variants.{Table, Vector, Nothing}

@@ -30,6 +30,9 @@ use Rattle.estimators.specs.declared.Field.the-variants.{RegularizationF
 use Rattle.estimators.specs.declared.Refusal.the-variants.{NoAssets, TooLarge, TooFewPeriods, WrongLength, NotFinite, CovarianceNotFinite, BadSetting, NotTheSample, ZeroVariance, WrongSide, Asymmetric, Indefinite, NotDecomposed, Singular}
 
 -- the assets' limit is the matrices' side's
+abbrev pub minPeriods : ℕ
+minPeriods = 2
+
 abbrev pub maxPeriods : ℕ
 maxPeriods = 4096
 
@@ -42,13 +45,13 @@ abbrev pub byShape : ℕ → ℕ → ℕ → ℕ → ℕ → List Check
 byShape length n T needed room =
     when (eqb n 0) NoAssets ∷
     when (ltb maxSide n || ltb maxPeriods T) TooLarge ∷
-    when (ltb T 2) (TooFewPeriods T) ∷
+    when (ltb T minPeriods) (TooFewPeriods T) ∷
     when (not (eqb length (T * n)) || ltb room needed) WrongLength ∷
     []
 
 -- what `byShape` lets pass, but for the answer's room
 abbrev pub Shaped : ℕ → ℕ → ℕ → Type 0
-Shaped length n T = (0 < n) × (n ≤ maxSide) × (2 ≤ T) × (T ≤ maxPeriods) × (length ≡ T * n)
+Shaped length n T = (0 < n) × (n ≤ maxSide) × (minPeriods ≤ T) × (T ≤ maxPeriods) × (length ≡ T * n)
 
 -- 5, sample 6
 abbrev pub byReturns : ℕ → ℕ → Matrix → List Check
@@ -108,21 +111,28 @@ notTheSample Unshrunk estimate = passes
 notTheSample (Fixed δ) estimate = passes
 notTheSample (LedoitWolf F) estimate = when (not (isSample estimate)) NotTheSample
 
+-- 9 at the first asset that is constant under the covariance s, and at the first variance of b that is 0
+abbrev pub constantReturns : ℕ → Matrix → (ℕ → Float) → Check
+constantReturns n s largest = whenSome (constantAsset n s largest) ZeroVariance
+
+abbrev pub zeroVariance : ℕ → Matrix → Check
+zeroVariance n b = whenSome (firstTo n (λ i. eq (b i i) zero⁺)) ZeroVariance
+
 -- 9 by constant correlation
 unfoldable pub noCorrelation : Shrinkage → ℕ → ℕ → Matrix → Check
 noCorrelation Unshrunk T n x = passes
 noCorrelation (Fixed δ) T n x = passes
 noCorrelation (LedoitWolf ConstantVariance) T n x = passes
-noCorrelation (LedoitWolf ConstantCorrelation) T n x = whenSome (constantAsset n (covariance T x) (largest T x)) ZeroVariance
+noCorrelation (LedoitWolf ConstantCorrelation) T n x = constantReturns n (covariance T x) (largest T x)
 
 -- unadjusted 9: a given variance is exact, one from the returns is 0 to rounding
 unfoldable pub noVariance : Bool → Estimate → ℕ → ℕ → Matrix → Matrix → Check
 noVariance true estimate T n x b = passes
-noVariance false estimate T n x b =
-    elim (isGiven estimate) [
-      | true ↦ whenSome (firstTo n (λ i. eq (b i i) zero⁺)) ZeroVariance
-      | false ↦ whenSome (constantAsset n b (largest T x)) ZeroVariance
-    ]
+noVariance false estimate T n x b = elim (isGiven estimate) [ true ↦ zeroVariance n b | false ↦ constantReturns n b (largest T x) ]
+
+-- 10 (side)
+abbrev pub wrongSide : Estimate → ℕ → ℕ → Check
+wrongSide estimate side n = when (isGiven estimate && not (eqb side n)) (WrongSide side)
 
 -- fields 1 to 4; 8; 9 by constant correlation; 10 (side)
 abbrev pub bySettings : Settings → ℕ → ℕ → ℕ → Matrix → List Check
@@ -132,7 +142,7 @@ bySettings s T n side x =
     badEstimate (s .estimate) ∷
     notTheSample (s .shrinkage) (s .estimate) ∷
     noCorrelation (s .shrinkage) T n x ∷
-    when (isGiven (s .estimate) && not (eqb side n)) (WrongSide side) ∷
+    wrongSide (s .estimate) side n ∷
     []
 
 -- 6 and 14, by the answer a
@@ -149,11 +159,19 @@ ofSettings s δ T n side x b a = bySettings s T n side x ++ byEstimate s δ T n 
 
 -- 9, and 14 by the correlations C
 abbrev pub byCorrelations : ℕ → (ℕ → Float) → Matrix → Matrix → List Check
-byCorrelations n largest Σ C = whenSome (constantAsset n Σ largest) ZeroVariance ∷ when (not (allFinite n n C)) Singular ∷ []
+byCorrelations n largest Σ C = constantReturns n Σ largest ∷ when (not (allFinite n n C)) Singular ∷ []
+
+-- 14 of a mean whose decomposition fails
+abbrev pub notFound : Decomposition → Check
+notFound d = when (not (d .found)) Singular
 
 -- 14 by their decomposition
 abbrev pub byDecomposition : ℕ → Decomposition → List Check
-byDecomposition n d = when (not (d .found)) Singular ∷ when (singular n d) Singular ∷ []
+byDecomposition n d = notFound d ∷ when (singular n d) Singular ∷ []
+
+-- Bayes-Stein's 9 and 14
+abbrev pub ofCorrelations : ℕ → (ℕ → Float) → Matrix → Matrix → Decomposition → List Check
+ofCorrelations n largest Σ C d = byCorrelations n largest Σ C ++ byDecomposition n d
 
 -- ---- the five calls
 
@@ -167,8 +185,8 @@ unfoldable pub weightedOrder : List Float → ℕ → ℕ → Float → List Flo
 weightedOrder r n T halfLife slice = opening r n T n slice ++ badHalfLife halfLife ∷ []
 
 unfoldable pub jamesSteinOrder : List Float → ℕ → ℕ → ℕ → List Float → Decomposition → List Check
-jamesSteinOrder r n T limit slice d = opening r n T n slice ++ sweepLimit limit ∷ when (not (d .found)) Singular ∷ []
+jamesSteinOrder r n T limit slice d = opening r n T n slice ++ sweepLimit limit ∷ notFound d ∷ []
 
 -- in each asset's unit: the largest returns, the covariance Σ, and its correlations C with their decomposition
 unfoldable pub bayesSteinOrder : List Float → ℕ → ℕ → ℕ → List Float → (ℕ → Float) → Matrix → Matrix → Decomposition → List Check
-bayesSteinOrder r n T limit slice largest Σ C d = opening r n T n slice ++ (sweepLimit limit ∷ byCorrelations n largest Σ C ++ byDecomposition n d)
+bayesSteinOrder r n T limit slice largest Σ C d = opening r n T n slice ++ sweepLimit limit ∷ ofCorrelations n largest Σ C d

@@ -1,23 +1,22 @@
--- What only the contracts of the two Stein means' functions cite. Definitions only.
+-- What only the contracts of this crate's inner functions cite: the two Stein means in parts. Definitions only.
 use Prim.Native.Nat.{ℕ}
-use mathlib.Core.Bool.{not}
+use mathlib.Core.Bool.{Bool}
 use mathlib.Core.Path.{_≡_}
-use mathlib.Core.List.{List, _++_}
-use lib.IntN.{ℤ, pos}
-use lib.ListN.{getD}
+use mathlib.Core.List.{List}
+use lib.IntN.{ℤ}
 use lib.Ieee.{Float}
 use Rattle.leaves.specs.Loops.{tab, nth}
 use Rattle.matrix.specs.Matrix.{Matrix, at}
 use Rattle.matrix.specs.Jacobi.{Decomposition}
-use Rattle.estimators.specs.Refusals.{when, first}
+use Rattle.estimators.specs.Exponents.{exponentAt}
+use Rattle.estimators.specs.Refusals.{first}
 use Rattle.estimators.specs.Sample.{scaled, volatility}
 use Rattle.estimators.specs.Moments.{Moments, moments}
 use Rattle.estimators.specs.Shrinking.{shrunkBy}
-use Rattle.estimators.specs.JamesStein.{jamesStein}
+use Rattle.estimators.specs.JamesStein.{unevenness, decomposeUneven, jamesSteinIntensity, jamesStein}
 use Rattle.estimators.specs.BayesStein.{Pull, bayesSteinPull, exponentsOf, largestIn, correlations, bayesStein}
-use Rattle.estimators.specs.Order.{byCorrelations, byDecomposition}
+use Rattle.estimators.specs.Order.{notFound, ofCorrelations}
 use Rattle.estimators.specs.Calls.{Answered, answered, settle}
-use Rattle.estimators.specs.declared.Refusal.the-variants.{Singular}
 
 abbrev pub pullOf : Float → Float → Pull
 pullOf α μ₀ = record { intensity = α; target = μ₀ }
@@ -26,7 +25,13 @@ pullOf α μ₀ = record { intensity = α; target = μ₀ }
 abbrev pub Pulls : ℕ → List Float → List Float → List ℤ → Float → List Float → List Float → Float → Float → Type 0
 Pulls n μ v e T values vectors α μ₀ =
     (Σ : Matrix) (d : Decomposition) → v ≡ tab n (volatility Σ) → d .values ≡ values → d .vectors ≡ vectors
-    → pullOf α μ₀ ≡ bayesSteinPull n T (nth μ) Σ (λ i. getD e i (pos 0)) d
+    → pullOf α μ₀ ≡ bayesSteinPull n T (nth μ) Σ (exponentAt e) d
+
+-- found, α and the counts are those of every d that is the means' decomposition, with the target μ₀
+abbrev pub PullsEven : ℕ → ℕ → Moments → Float → Bool → Float → ℕ → ℕ → Type 0
+PullsEven n limit m μ₀ found α sweeps rotations =
+    (d : Decomposition) → d ≡ decomposeUneven limit n (unevenness n (nth (m .mean)) μ₀) (at (m .covariance) n)
+    → (found ≡ d .found) × (α ≡ jamesSteinIntensity n m μ₀ d) × (sweeps ≡ d .sweeps) × (rotations ≡ d .rotations)
 
 -- ---- the two calls from the moments on, for an answer slice of n numbers
 
@@ -34,13 +39,13 @@ Pulls n μ v e T values vectors α μ₀ =
 abbrev pub jamesSteinOf : ℕ → ℕ → Moments → ℤ → List Float → Answered
 jamesSteinOf n limit m e slice =
     let w = jamesStein n limit m e in
-    settle (when (not (w .decomposition .found)) Singular) slice (answered (shrunkBy w) (tab n (w .mean)))
+    settle (notFound (w .decomposition)) slice (answered (shrunkBy w) (tab n (w .mean)))
 
 -- the moments are in the units 2 ^ eᵢ, and so are the largest returns
 abbrev pub bayesSteinOf : ℕ → ℕ → Moments → (ℕ → ℤ) → (ℕ → Float) → List Float → Answered
 bayesSteinOf n limit m e largest slice =
     let w = bayesStein n limit m e in
-    settle (first (byCorrelations n largest (at (m .covariance) n) (correlations n m) ++ byDecomposition n (w .decomposition))) slice (answered (shrunkBy w) (tab n (w .mean)))
+    settle (first (ofCorrelations n largest (at (m .covariance) n) (correlations n m) (w .decomposition))) slice (answered (shrunkBy w) (tab n (w .mean)))
 
 -- the same of the returns x
 abbrev pub bayesSteinFrom : ℕ → ℕ → ℕ → Matrix → List Float → Answered

@@ -3,7 +3,7 @@
 use Prim.Native.Nat.{ℕ, _-_}
 use mathlib.Core.Bool.{Bool, true, _&&_}
 use mathlib.Core.List.{List}
-use lib.IntN.{pos, negℤ}
+use lib.IntN.{ℤ, pos, negℤ}
 use lib.Ieee.{Float, fin, neg, lt, le}
 use Rattle.leaves.specs.Numbers.{_⊖_, _⊗_, _⊘_, count, zero⁺, two}
 use Rattle.leaves.specs.Loops.{sumTo, tab, nth}
@@ -17,18 +17,24 @@ use Rattle.estimators.specs.Sample.{gram, largest}
 unfoldable pub logDecay : Float → Float
 logDecay h = neg ln2 ⊘ h
 
+-- -708
+abbrev pub minLogDecay : Float
+minLogDecay = fin true 177 (pos 2)
+
 -- in [-708, 0)
 unfoldable pub accepted : Float → Bool
-accepted l = le (fin true 177 (pos 2)) l && lt l zero⁺
+accepted l = le minLogDecay l && lt l zero⁺
 
 unfoldable pub weights : ℕ → Float → List Float
 weights T l = tab T (λ t. exp (count (T - 1 - t) ⊗ l))
 
--- Σ wₜ xₜ / Σ wₜ, in units of a power of two near the largest xₜ
+-- Σ wₜ xₜ / Σ wₜ, in the unit 2 ^ e
+abbrev pub scaledMean : ℕ → List Float → Matrix → ℕ → ℤ → Float
+scaledMean T w x i e = sumTo T (λ t. nth w t ⊗ pow2Scaled (x t i) (negℤ e)) ⊘ sumTo T (nth w)
+
+-- by way of a power of two near the largest xₜ
 unfoldable pub weightedMean : ℕ → List Float → Matrix → ℕ → Float
-weightedMean T w x i =
-    let e = binaryExponent (largest T x i) in
-    pow2Scaled (sumTo T (λ t. nth w t ⊗ pow2Scaled (x t i) (negℤ e)) ⊘ sumTo T (nth w)) e
+weightedMean T w x i = let e = binaryExponent (largest T x i) in pow2Scaled (scaledMean T w x i e) e
 
 -- Σ wₜ - Σ wₜ² / Σ wₜ, as 2 λ (1 - λ ^ (T - 1)) / (1 - λ ^ 2)
 unfoldable pub denominator : ℕ → Float → Float

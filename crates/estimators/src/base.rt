@@ -1,6 +1,6 @@
 // What the adjustments apply to (covariance.rs, `Estimate`), and the checks of the numbers that an estimate carries.
 ghost use mathlib.Core.Path.{_≡_};
-ghost use Prim.Native.Nat.{_*_, _≤_, _<_};
+ghost use Prim.Native.Nat.{_*_, _≤_};
 ghost use lib.ListN.{length};
 ghost use Rattle.matrix.specs.Limits.{maxSide};
 ghost use Rattle.matrix.specs.Matrix.{at, rows};
@@ -27,7 +27,7 @@ pub(crate) fn put_base(
     given: &[f64],
     out: &mut [f64],
 )
-    requires { ⌜ (length (now r) ≡ periods * n) × (0 < n) × (n ≤ maxSide) × (1 ≤ periods) × (periods ≤ maxPeriods) × (now sample ≡ rows n n (Sample.covariance periods (at (now r) n))) × (length (now given) ≡ n * n) × (length (now out) ≡ n * n) ⌝ }
+    requires { ⌜ (length (now r) ≡ periods * n) × (n ≤ maxSide) × (1 ≤ periods) × (periods ≤ maxPeriods) × (now sample ≡ rows n n (Sample.covariance periods (at (now r) n))) × (length (now given) ≡ n * n) × (length (now out) ≡ n * n) ⌝ }
     ensures { λ _. ⌜ now (out .exit) ≡ rows n n (Adjusted.base estimate periods (at (now (r .entry)) n) (at (now (given .entry)) n)) ⌝ }
 {
     match estimate {

@@ -2,10 +2,9 @@
 ghost use mathlib.Core.Path.{_≡_};
 ghost use mathlib.Core.List.{List};
 ghost use Prim.Native.Nat.{ℕ, _*_, _≤_, _<_};
-ghost use lib.IntN.{pos, natAbs};
-ghost use lib.ListN.{length, getD};
+ghost use lib.IntN.{natAbs};
+ghost use lib.ListN.{length};
 ghost use lib.Ieee.{Float};
-ghost use Rattle.leaves.specs.Numbers.{_⊘_};
 ghost use Rattle.leaves.specs.Loops.{tab, nth};
 ghost use Rattle.matrix.specs.Limits.{maxSide, maxSweeps};
 ghost use Rattle.matrix.specs.Matrix.{at, rows};
@@ -16,8 +15,9 @@ ghost use Rattle.estimators.specs.Refusals as Refusals;
 ghost use Rattle.estimators.specs.Sample as Sample;
 ghost use Rattle.estimators.specs.BayesStein as BayesStein;
 ghost use Rattle.estimators.specs.Checks.{checked};
-ghost use Rattle.estimators.specs.Gather.{Exponents, twoExponents};
-ghost use Rattle.estimators.specs.Held.{momentsOf, held};
+ghost use Rattle.estimators.specs.Exponents.{exponentAt, Exponents, twoExponents};
+ghost use Rattle.estimators.specs.Held.{held};
+ghost use Rattle.estimators.specs.Moments.{momentsOf};
 ghost use Rattle.estimators.specs.Calls.{answered};
 ghost use Rattle.estimators.specs.Stein.{pullOf, Pulls, bayesSteinOf};
 ghost use Rattle.estimators.specs.Order.{byCorrelations, byDecomposition};
@@ -41,7 +41,7 @@ use matrix::jacobi::decompose;
 // The covariances over both assets' volatilities, one after the other.
 fn put_correlations(covariance: &[f64], volatilities: &[f64], n: usize, out: &mut [f64])
     requires { ⌜ (length (now covariance) ≡ n * n) × (length (now volatilities) ≡ n) × (length (now out) ≡ n * n) ⌝ }
-    ensures { λ _. ⌜ now (out .exit) ≡ rows n n (λ (i j : ℕ). at (now (covariance .entry)) n i j ⊘ nth (now (volatilities .entry)) i ⊘ nth (now (volatilities .entry)) j) ⌝ }
+    ensures { λ _. ⌜ now (out .exit) ≡ rows n n (Sample.correlationBy (nth (now (volatilities .entry))) (at (now (covariance .entry)) n)) ⌝ }
 {
     let size = n * n;
     let mut k = 0;
@@ -66,7 +66,7 @@ struct Pulled {
     target: f64,
 }
 
-// From the ratio 2^(b - a) · μ₀ and the squared distance of the means from it, over 4^b.
+// From the ratio, μ₀ over 2^(b - a), and the squared distance over 4^b.
 fn pulled_by(n: usize, periods: f64, ratio: f64, squared: f64, a: i32, b: i32) -> Pulled
     requires { ⌜ (natAbs a ≤ twoExponents) × (natAbs b ≤ twoExponents) ⌝ }
     ensures { λ r. ⌜ pullOf (r .intensity) (r .target) ≡ pulledBy n periods ratio squared a b ⌝ }
@@ -168,7 +168,7 @@ fn judge(d: Outcome, values: &[f64], n: usize) -> Check
 // The means moved towards the target, each out of its unit.
 fn put_pulled(means: &[f64], exponents: &[i32], intensity: f64, target: f64, out: &mut [f64])
     requires { ⌜ (length (now means) ≡ length (now out)) × (length (now exponents) ≡ length (now out)) × Exponents (now exponents) ⌝ }
-    ensures { λ _. ⌜ now (out .exit) ≡ tab (length (now (out .entry))) (λ (i : ℕ). BayesStein.pulled (pullOf intensity target) (nth (now (means .entry)) i) (getD (now (exponents .entry)) i (pos 0))) ⌝ }
+    ensures { λ _. ⌜ now (out .exit) ≡ tab (length (now (out .entry))) (λ (i : ℕ). BayesStein.pulled (pullOf intensity target) (nth (now (means .entry)) i) (exponentAt (now (exponents .entry)) i)) ⌝ }
 {
     let mut i = 0;
     while i < out.len() {
@@ -193,7 +193,7 @@ fn shrink_in(
     out: &mut [f64],
 ) -> Answer
     requires { ⌜ (0 < n) × (n ≤ maxSide) × (limit ≤ maxSweeps) × (length (now means) ≡ n) × (length (now covariance) ≡ n * n) × (length (now exponents) ≡ n) × Exponents (now exponents) × (length (now sizes) ≡ n) × (length (now volatilities) ≡ n) × (length (now correlations) ≡ n * n) × (length (now values) ≡ n) × (length (now vectors) ≡ n * n) × (length (now out) ≡ n) ⌝ }
-    ensures { λ r. ⌜ answered r (now (out .exit)) ≡ bayesSteinOf n limit (momentsOf (now (means .entry)) (now (covariance .entry)) periods) (λ (i : ℕ). getD (now (exponents .entry)) i (pos 0)) (nth (now (sizes .entry))) (now (out .entry)) ⌝ }
+    ensures { λ r. ⌜ answered r (now (out .exit)) ≡ bayesSteinOf n limit (momentsOf (now (means .entry)) (now (covariance .entry)) periods) (exponentAt (now (exponents .entry))) (nth (now (sizes .entry))) (now (out .entry)) ⌝ }
 {
     let constant = correlate(covariance, n, sizes, volatilities, correlations);
     if let Check::Refuses(refusal) = constant {
@@ -219,7 +219,7 @@ pub(crate) fn shrink(
     out: &mut [f64],
 ) -> Answer
     requires { ⌜ (0 < n) × (n ≤ maxSide) × (limit ≤ maxSweeps) × (length (now exponents) ≡ n) × Exponents (now exponents) × (length (now sizes) ≡ n) × (length (now out) ≡ n) ⌝ }
-    ensures { λ r. ⌜ answered r (now (out .exit)) ≡ bayesSteinOf n limit (held n m) (λ (i : ℕ). getD (now (exponents .entry)) i (pos 0)) (nth (now (sizes .entry))) (now (out .entry)) ⌝ }
+    ensures { λ r. ⌜ answered r (now (out .exit)) ≡ bayesSteinOf n limit (held n m) (exponentAt (now (exponents .entry))) (nth (now (sizes .entry))) (now (out .entry)) ⌝ }
 {
     let size = n * n;
     let mean = m.mean;

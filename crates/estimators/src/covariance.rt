@@ -1,12 +1,8 @@
 // The adjusted covariance and the Ledoit-Wolf intensity, on inputs of the right shape (covariance.rs, `adjusted_covariance`).
 ghost use mathlib.Core.Path.{_≡_};
-ghost use mathlib.Core.Bool.{true, not, _&&_};
-ghost use lib.Dec.{eqb};
-ghost use Prim.Native.Nat.{ℕ, _*_, _≤_, _<_};
+ghost use mathlib.Core.Bool.{true};
+ghost use Prim.Native.Nat.{_*_, _≤_, _<_};
 ghost use lib.ListN.{length, take};
-ghost use lib.Ieee.{eq};
-ghost use Rattle.leaves.specs.Numbers.{zero⁺};
-ghost use Rattle.leaves.specs.Loops.{firstTo};
 ghost use Rattle.matrix.specs.Limits.{maxSide};
 ghost use Rattle.matrix.specs.Matrix.{Matrix, at, rows, averaged};
 ghost use Rattle.estimators.specs.Refusals as Refusals;
@@ -46,7 +42,7 @@ use crate::validate::not_the_sample;
 // Refusal 9: the first asset whose volatility under the covariance s is at most 1e-10 of its largest return.
 fn check_constant(s: &[f64], r: &[f64], n: usize, periods: usize) -> Check
     requires { ⌜ (length (now r) ≡ periods * n) × (n ≤ maxSide) × (length (now s) ≡ n * n) ⌝ }
-    ensures { λ k. ⌜ checked k ≡ Refusals.whenSome (Sample.constantAsset n (at (now (s .entry)) n) (Sample.largest periods (at (now (r .entry)) n))) Refusal.ZeroVariance ⌝ }
+    ensures { λ k. ⌜ checked k ≡ Order.constantReturns n (at (now (s .entry)) n) (Sample.largest periods (at (now (r .entry)) n)) ⌝ }
 {
     let mut one = [0.0; matrix::MAX_SIDE];
     let mut other = [0.0; matrix::MAX_SIDE];
@@ -80,7 +76,7 @@ fn no_correlation(
 
 // Refusal 10, for a given matrix whose side is not the number of assets.
 fn wrong_side(estimate: Estimate, side: usize, n: usize) -> Check
-    ensures { λ k. ⌜ checked k ≡ Refusals.when (Adjusted.isGiven estimate && not (eqb side n)) (Refusal.WrongSide side) ⌝ }
+    ensures { λ k. ⌜ checked k ≡ Order.wrongSide estimate side n ⌝ }
 {
     if is_given(estimate) {
         return when(side != n, Refusal::WrongSide(side));
@@ -120,7 +116,7 @@ fn check_settings(
 // Refusal 9 of a given covariance: the first variance that is 0.
 fn zero_variance(b: &[f64], n: usize) -> Check
     requires { ⌜ length (now b) ≡ n * n ⌝ }
-    ensures { λ k. ⌜ checked k ≡ Refusals.whenSome (firstTo n (λ (i : ℕ). eq (at (now (b .entry)) n i i) zero⁺)) Refusal.ZeroVariance ⌝ }
+    ensures { λ k. ⌜ checked k ≡ Order.zeroVariance n (at (now (b .entry)) n) ⌝ }
 {
     let mut i = 0;
     while i < n {
@@ -168,7 +164,7 @@ fn check_answer(a: &[f64], n: usize) -> Check
 
 // δ, the intensity of the shrinkage, 0 where there is none.
 fn intensity(shrinkage: Shrinkage, r: &[f64], n: usize, periods: usize) -> f64
-    requires { ⌜ (length (now r) ≡ periods * n) × (0 < n) × (n ≤ maxSide) × (1 ≤ periods) ⌝ }
+    requires { ⌜ (length (now r) ≡ periods * n) × (0 < n) × (n ≤ maxSide) ⌝ }
     ensures { λ d. ⌜ d ≡ Adjusted.intensity shrinkage periods n (at (now (r .entry)) n) ⌝ }
 {
     match shrinkage {

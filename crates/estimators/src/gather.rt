@@ -2,13 +2,13 @@
 ghost use mathlib.Core.Path.{_≡_};
 ghost use Prim.Native.Nat.{ℕ, _+_, _≤_};
 ghost use lib.IntN.{pos, negℤ, natAbs};
-ghost use lib.ListN.{length, getD};
+ghost use lib.ListN.{length};
 ghost use Rattle.leaves.specs.Numbers.{_⊘_, one};
 ghost use Rattle.leaves.specs.Loops.{tab, nth};
 ghost use Rattle.matrix.specs.Limits.{maxSide};
-ghost use Rattle.estimators.specs.Held.{maxExponent};
+ghost use Rattle.estimators.specs.Exponents.{exponentAt, maxExponent, Exponents, twoExponents};
 ghost use Rattle.estimators.specs.BayesStein as BayesStein;
-ghost use Rattle.estimators.specs.Gather.{largestOf, Exponents, Summed, Gathered, twoExponents};
+ghost use Rattle.estimators.specs.Gather.{largestOf, Summed, Gathered};
 ghost use Rattle.estimators.specs.BayesStein.{withExponent};
 use crate::moments::exponent;
 
@@ -56,7 +56,7 @@ fn with_exponent(largest: Largest, x: f64, e: i32) -> Largest
 // The largest exponent of the numbers that are not 0; 0 if all are.
 fn common_exponent(xs: &[f64], exponents: &[i32]) -> i32
     requires { ⌜ (length (now xs) ≡ length (now exponents)) × Exponents (now exponents) ⌝ }
-    ensures { λ r. ⌜ (r ≡ BayesStein.commonExponent (length (now (xs .entry))) (nth (now (xs .entry))) (λ (i : ℕ). negℤ (getD (now (exponents .entry)) i (pos 0)))) × (natAbs r ≤ twoExponents) ⌝ }
+    ensures { λ r. ⌜ (r ≡ BayesStein.commonExponent (length (now (xs .entry))) (nth (now (xs .entry))) (λ (i : ℕ). negℤ (exponentAt (now (exponents .entry)) i))) × (natAbs r ≤ twoExponents) ⌝ }
 {
     let mut largest = Largest::Nothing;
     let mut i = 0;
@@ -82,7 +82,7 @@ fn divide(xs: &[f64], volatilities: &[f64], out: &mut [f64])
 // Each number xᵢ becomes xᵢ · 2^-eᵢ · 2^-e: into its unit and over the common power. `scales::scale` takes numbers out of their units.
 pub(crate) fn scale(exponents: &[i32], e: i32, out: &mut [f64])
     requires { ⌜ (length (now exponents) ≡ length (now out)) × Exponents (now exponents) × (natAbs e ≤ twoExponents) ⌝ }
-    ensures { λ _. ⌜ now (out .exit) ≡ BayesStein.gathered (length (now (out .entry))) (nth (now (out .entry))) (λ (i : ℕ). negℤ (getD (now (exponents .entry)) i (pos 0))) e ⌝ }
+    ensures { λ _. ⌜ now (out .exit) ≡ BayesStein.gathered (length (now (out .entry))) (nth (now (out .entry))) (λ (i : ℕ). negℤ (exponentAt (now (exponents .entry)) i)) e ⌝ }
 {
     let mut i = 0;
     while i < out.len() {
@@ -94,7 +94,7 @@ pub(crate) fn scale(exponents: &[i32], e: i32, out: &mut [f64])
 // The numbers xᵢ / vᵢ · 2^-eᵢ, gathered in `out`. Their power of two is 2 to what is returned.
 fn gather(xs: &[f64], volatilities: &[f64], exponents: &[i32], out: &mut [f64]) -> i32
     requires { ⌜ (length (now xs) ≡ length (now out)) × (length (now volatilities) ≡ length (now out)) × (length (now exponents) ≡ length (now out)) × Exponents (now exponents) ⌝ }
-    ensures { λ r. ⌜ Gathered (length (now (out .entry))) (λ (i : ℕ). nth (now (xs .entry)) i ⊘ nth (now (volatilities .entry)) i) (λ (i : ℕ). negℤ (getD (now (exponents .entry)) i (pos 0))) r (now (out .exit)) ⌝ }
+    ensures { λ r. ⌜ Gathered (length (now (out .entry))) (λ (i : ℕ). nth (now (xs .entry)) i ⊘ nth (now (volatilities .entry)) i) (λ (i : ℕ). negℤ (exponentAt (now (exponents .entry)) i)) r (now (out .exit)) ⌝ }
 {
     divide(xs, volatilities, out);
     let e = common_exponent(out, exponents);
@@ -105,7 +105,7 @@ fn gather(xs: &[f64], volatilities: &[f64], exponents: &[i32], out: &mut [f64]) 
 // The numbers 1 / vᵢ · 2^-eᵢ.
 pub(crate) fn gather_ones(volatilities: &[f64], exponents: &[i32], n: usize, out: &mut [f64]) -> i32
     requires { ⌜ (n ≤ maxSide) × (length (now volatilities) ≡ n) × (length (now exponents) ≡ n) × Exponents (now exponents) × (length (now out) ≡ n) ⌝ }
-    ensures { λ r. ⌜ Gathered n (λ (i : ℕ). one ⊘ nth (now (volatilities .entry)) i) (λ (i : ℕ). negℤ (getD (now (exponents .entry)) i (pos 0))) r (now (out .exit)) ⌝ }
+    ensures { λ r. ⌜ Gathered n (λ (i : ℕ). one ⊘ nth (now (volatilities .entry)) i) (λ (i : ℕ). negℤ (exponentAt (now (exponents .entry)) i)) r (now (out .exit)) ⌝ }
 {
     let ones = [1.0; matrix::MAX_SIDE];
     gather(&ones[..n], volatilities, exponents, out)

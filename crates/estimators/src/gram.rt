@@ -7,7 +7,7 @@ ghost use Rattle.matrix.specs.Limits.{maxSide};
 ghost use Rattle.matrix.specs.Matrix.{at, rows, Symmetric};
 ghost use Rattle.estimators.specs.Sample as Sample;
 ghost use Rattle.estimators.specs.LedoitWolf as LedoitWolf;
-ghost use Rattle.estimators.specs.Rows.{rowsOf};
+ghost use Rattle.estimators.specs.Rows.{rowsOf, centered};
 use crate::rows::Row;
 use crate::tables;
 use crate::tables::Term;
@@ -54,7 +54,7 @@ pub(crate) fn variation(
     out: &mut [f64],
 )
     requires { ⌜ (length (now r) ≡ periods * n) × (n ≤ maxSide) × (length (now centers) ≡ n) × (length (now s) ≡ n * n) × Symmetric n (now s) × (length (now out) ≡ n * n) ⌝ }
-    ensures { λ _. ⌜ now (out .exit) ≡ rows n n (LedoitWolf.variation periods (rowsOf row n [] (now (centers .entry)) [] (at (now (r .entry)) n)) (at (now (s .entry)) n)) ⌝ }
+    ensures { λ _. ⌜ now (out .exit) ≡ rows n n (LedoitWolf.variation periods (centered row n (now (centers .entry)) (now (r .entry))) (at (now (s .entry)) n)) ⌝ }
 {
     let none = [0.0; 0];
     tables::sum(
@@ -84,7 +84,7 @@ pub(crate) fn covariation(
     out: &mut [f64],
 )
     requires { ⌜ (length (now r) ≡ periods * n) × (n ≤ maxSide) × (length (now centers) ≡ n) × (length (now s) ≡ n * n) × (length (now out) ≡ n * n) ⌝ }
-    ensures { λ _. ⌜ now (out .exit) ≡ rows n n (LedoitWolf.covariation periods (rowsOf row n [] (now (centers .entry)) [] (at (now (r .entry)) n)) (at (now (s .entry)) n)) ⌝ }
+    ensures { λ _. ⌜ now (out .exit) ≡ rows n n (LedoitWolf.covariation periods (centered row n (now (centers .entry)) (now (r .entry))) (at (now (s .entry)) n)) ⌝ }
 {
     let none = [0.0; 0];
     tables::sum(

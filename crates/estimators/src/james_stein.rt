@@ -9,12 +9,13 @@ ghost use Rattle.leaves.specs.Numbers.{zero⁺};
 ghost use Rattle.leaves.specs.Loops.{tab, nth};
 ghost use Rattle.leaves.specs.Scaling.{pow2Scaled};
 ghost use Rattle.matrix.specs.Limits.{maxSide, maxSweeps};
-ghost use Rattle.matrix.specs.Matrix.{at};
 ghost use Rattle.matrix.specs.Jacobi.{Decomposition};
-ghost use Rattle.estimators.specs.Held.{momentsOf, held, maxExponent};
+ghost use Rattle.estimators.specs.Held.{held};
+ghost use Rattle.estimators.specs.Exponents.{maxExponent};
+ghost use Rattle.estimators.specs.Moments.{momentsOf};
 ghost use Rattle.estimators.specs.JamesStein as JamesStein;
 ghost use Rattle.estimators.specs.Calls.{answered};
-ghost use Rattle.estimators.specs.Stein.{jamesSteinOf};
+ghost use Rattle.estimators.specs.Stein.{PullsEven, jamesSteinOf};
 use crate::Answer;
 use crate::Refusal;
 use crate::moments::Moments;
@@ -99,7 +100,7 @@ fn pull(
     vectors: &mut [f64],
 ) -> Pulled
     requires { ⌜ (0 < n) × (n ≤ maxSide) × (limit ≤ maxSweeps) × (length (now means) ≡ n) × (length (now covariance) ≡ n * n) × (length (now values) ≡ n) × (length (now vectors) ≡ n * n) ⌝ }
-    ensures { λ r. ⌜ ((d : Decomposition) → d ≡ JamesStein.decomposeUneven limit n (JamesStein.unevenness n (nth (now (means .entry))) target) (at (now (covariance .entry)) n) → (r .found ≡ d .found) × (r .intensity ≡ JamesStein.jamesSteinIntensity n (momentsOf (now (means .entry)) (now (covariance .entry)) periods) target d) × (r .sweeps ≡ d .sweeps) × (r .rotations ≡ d .rotations)) ⌝ }
+    ensures { λ r. ⌜ PullsEven n limit (momentsOf (now (means .entry)) (now (covariance .entry)) periods) target (r .found) (r .intensity) (r .sweeps) (r .rotations) ⌝ }
 {
     let largest = unevenness(means, target);
     if largest == 0.0 {
@@ -136,7 +137,7 @@ fn put_means(means: &[f64], intensity: f64, target: f64, exponent: i32, out: &mu
 // `pull` of the moments, in arrays of the largest size.
 fn pull_held(m: Moments, n: usize, target: f64, limit: usize) -> Pulled
     requires { ⌜ (0 < n) × (n ≤ maxSide) × (limit ≤ maxSweeps) ⌝ }
-    ensures { λ r. ⌜ ((d : Decomposition) → d ≡ JamesStein.decomposeUneven limit n (JamesStein.unevenness n (nth (held n m .mean)) target) (at (held n m .covariance) n) → (r .found ≡ d .found) × (r .intensity ≡ JamesStein.jamesSteinIntensity n (held n m) target d) × (r .sweeps ≡ d .sweeps) × (r .rotations ≡ d .rotations)) ⌝ }
+    ensures { λ r. ⌜ PullsEven n limit (held n m) target (r .found) (r .intensity) (r .sweeps) (r .rotations) ⌝ }
 {
     let size = n * n;
     let mean = m.mean;

@@ -4,15 +4,15 @@ ghost use mathlib.Core.Path.{_≡_};
 ghost use Prim.Native.Nat.{ℕ, _*_, _≤_, _<_};
 ghost use lib.IntN.{natAbs};
 ghost use lib.ListN.{length};
-ghost use Rattle.leaves.specs.Numbers.{_⊖_, _⊗_, _⊘_};
+ghost use Rattle.leaves.specs.Numbers.{_⊖_};
 ghost use Rattle.leaves.specs.Loops.{tab, nth};
 ghost use Rattle.leaves.specs.Scaling.{binaryExponent};
 ghost use Rattle.matrix.specs.Limits.{maxSide};
 ghost use Rattle.matrix.specs.Matrix.{Matrix, at, rows, trace, amax, sumOver, squares, Symmetric, sumRow};
-ghost use Rattle.estimators.specs.Held.{maxExponent};
+ghost use Rattle.estimators.specs.Exponents.{maxExponent};
 ghost use Rattle.estimators.specs.Sample as Sample;
 ghost use Rattle.estimators.specs.LedoitWolf as LedoitWolf;
-ghost use Rattle.estimators.specs.LedoitWolf.{apart, variation, covariation, intensityOf, secondMoments};
+ghost use Rattle.estimators.specs.LedoitWolf.{apart, variation, covariation, crossVariation, intensityOf, intensityFrom, secondMoments};
 ghost use Rattle.estimators.specs.Rows.{centered};
 use crate::Target;
 use crate::columns;
@@ -36,7 +36,7 @@ fn distance(s: &[f64], n: usize, work: &mut [f64]) -> f64
 // The summands of ρ in row i, added to `sum`.
 fn add_variations(r: f64, sd: &[f64], theta: &[f64], n: usize, i: usize, sum: f64) -> f64
     requires { ⌜ (i < n) × (length (now sd) ≡ n) × (length (now theta) ≡ n * n) ⌝ }
-    ensures { λ t. ⌜ t ≡ sumRow n apart (λ (i j : ℕ). r ⊗ nth (now (sd .entry)) j ⊘ nth (now (sd .entry)) i ⊗ at (now (theta .entry)) n i j) i sum ⌝ }
+    ensures { λ t. ⌜ t ≡ sumRow n apart (crossVariation r (nth (now (sd .entry))) (at (now (theta .entry)) n)) i sum ⌝ }
 {
     let base = i * n;
     let mut t = sum;
@@ -51,7 +51,7 @@ fn add_variations(r: f64, sd: &[f64], theta: &[f64], n: usize, i: usize, sum: f6
 // ρ, from the average correlation r and the volatilities.
 fn target_variation(r: f64, sd: &[f64], pi: &[f64], theta: &[f64], n: usize) -> f64
     requires { ⌜ (length (now sd) ≡ n) × (length (now pi) ≡ n * n) × (length (now theta) ≡ n * n) ⌝ }
-    ensures { λ t. ⌜ t ≡ sumOver n apart (λ (i j : ℕ). r ⊗ nth (now (sd .entry)) j ⊘ nth (now (sd .entry)) i ⊗ at (now (theta .entry)) n i j) (trace n (at (now (pi .entry)) n)) ⌝ }
+    ensures { λ t. ⌜ t ≡ sumOver n apart (crossVariation r (nth (now (sd .entry))) (at (now (theta .entry)) n)) (trace n (at (now (pi .entry)) n)) ⌝ }
 {
     let mut t = matrix::sums::trace(pi, n);
     let mut i = 0;
@@ -130,7 +130,7 @@ fn of_rows_in(
     work: &mut [f64],
 ) -> f64
     requires { ⌜ (0 < n) × (n ≤ maxSide) × (length (now r) ≡ periods * n) × (length (now centers) ≡ n) × (length (now s) ≡ n * n) × (length (now pi) ≡ n * n) × (length (now theta) ≡ n * n) × (length (now sd) ≡ n) × (length (now work) ≡ n * n) ⌝ }
-    ensures { λ d. ⌜ d ≡ intensityOf target periods n (centered row n (now (centers .entry)) (now (r .entry))) (at (secondMoments periods n (centered row n (now (centers .entry)) (now (r .entry)))) n) ⌝ }
+    ensures { λ d. ⌜ d ≡ intensityFrom target periods n (centered row n (now (centers .entry)) (now (r .entry))) ⌝ }
 {
     put_moments(row, r, n, periods, centers, s);
     gram::variation(row, r, n, periods, centers, s, pi);
@@ -145,7 +145,7 @@ fn of_rows_in(
 
 fn of_rows(target: Target, row: Row, r: &[f64], n: usize, periods: usize, centers: &[f64]) -> f64
     requires { ⌜ (0 < n) × (n ≤ maxSide) × (length (now r) ≡ periods * n) × (length (now centers) ≡ n) ⌝ }
-    ensures { λ d. ⌜ d ≡ intensityOf target periods n (centered row n (now (centers .entry)) (now (r .entry))) (at (secondMoments periods n (centered row n (now (centers .entry)) (now (r .entry)))) n) ⌝ }
+    ensures { λ d. ⌜ d ≡ intensityFrom target periods n (centered row n (now (centers .entry)) (now (r .entry))) ⌝ }
 {
     let mut s = [0.0; matrix::MAX_SIDE * matrix::MAX_SIDE];
     let mut pi = [0.0; matrix::MAX_SIDE * matrix::MAX_SIDE];
@@ -170,7 +170,7 @@ fn of_rows(target: Target, row: Row, r: &[f64], n: usize, periods: usize, center
 
 // The exponent of the largest distance from the mean. `sizes` is to reckon in.
 fn largest_exponent(r: &[f64], n: usize, periods: usize, means: &[f64], sizes: &mut [f64]) -> i32
-    requires { ⌜ (0 < n) × (n ≤ maxSide) × (length (now r) ≡ periods * n) × (length (now means) ≡ n) × (length (now sizes) ≡ n) ⌝ }
+    requires { ⌜ (n ≤ maxSide) × (length (now r) ≡ periods * n) × (length (now means) ≡ n) × (length (now sizes) ≡ n) ⌝ }
     ensures { λ e. ⌜ (natAbs e ≤ maxExponent) × (now (means .entry) ≡ tab n (Sample.mean periods (at (now (r .entry)) n)) → e ≡ binaryExponent (amax periods n (Sample.deviation periods (at (now (r .entry)) n)))) ⌝ }
 {
     let none = [0.0; 0];
@@ -180,7 +180,7 @@ fn largest_exponent(r: &[f64], n: usize, periods: usize, means: &[f64], sizes: &
 
 // δ of the returns: the second moments, π and θ of the deviations over a power of two near the largest.
 pub(crate) fn ledoit_wolf(target: Target, r: &[f64], n: usize, periods: usize) -> f64
-    requires { ⌜ (length (now r) ≡ periods * n) × (0 < n) × (n ≤ maxSide) × (1 ≤ periods) ⌝ }
+    requires { ⌜ (length (now r) ≡ periods * n) × (0 < n) × (n ≤ maxSide) ⌝ }
     ensures { λ d. ⌜ d ≡ LedoitWolf.ledoitWolf target periods n (at (now (r .entry)) n) ⌝ }
 {
     let mut means = [0.0; matrix::MAX_SIDE];

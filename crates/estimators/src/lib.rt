@@ -27,7 +27,9 @@ mod validate;
 mod vectors;
 mod weighted;
 
-// The most periods of a return matrix: the definitions' `maxPeriods`.
+// The fewest and the most periods of a return matrix: the definitions' `minPeriods` and `maxPeriods`.
+pub const MIN_PERIODS: usize = 2;
+
 pub const MAX_PERIODS: usize = 4096;
 
 // The weighted case carries its half-life, in periods, and the case below a threshold the threshold.

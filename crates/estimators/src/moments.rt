@@ -1,16 +1,16 @@
 // The moments record, and the powers of two that its returns are taken over.
 ghost use mathlib.Core.Path.{_≡_};
-ghost use Prim.Native.Nat.{ℕ, _+_, _*_, _≤_, _<_};
-ghost use lib.IntN.{pos, natAbs};
-ghost use lib.ListN.{length, getD};
+ghost use Prim.Native.Nat.{ℕ, _+_, _*_, _≤_};
+ghost use lib.IntN.{natAbs};
+ghost use lib.ListN.{length};
 ghost use Rattle.leaves.specs.Loops.{tab};
 ghost use Rattle.leaves.specs.Scaling.{binaryExponent};
 ghost use Rattle.matrix.specs.Limits.{maxSide};
 ghost use Rattle.matrix.specs.Matrix.{at, rows};
 ghost use Rattle.estimators.specs.Sample as Sample;
 ghost use Rattle.estimators.specs.Moments.{moments};
-ghost use Rattle.estimators.specs.Held.{held, maxExponent};
-ghost use Rattle.estimators.specs.Gather.{Exponents};
+ghost use Rattle.estimators.specs.Held.{held};
+ghost use Rattle.estimators.specs.Exponents.{exponentAt, maxExponent, Exponents};
 use crate::powers::put_units;
 use crate::sample::covariance_in;
 use crate::sample::means_in;
@@ -40,7 +40,7 @@ fn put_moments(
     covariance: &mut [f64],
 )
     requires { ⌜ (length (now r) ≡ periods * n) × (n ≤ maxSide) × (1 ≤ periods) × (length (now exponents) ≡ n) × Exponents (now exponents) × (length (now units) ≡ n + n) × (length (now mean) ≡ n) × (length (now covariance) ≡ n * n) ⌝ }
-    ensures { λ _. ⌜ (now (mean .exit) ≡ tab n (Sample.mean periods (Sample.scaled (λ (i : ℕ). getD (now (exponents .entry)) i (pos 0)) (at (now (r .entry)) n)))) × (now (covariance .exit) ≡ rows n n (Sample.covariance periods (Sample.scaled (λ (i : ℕ). getD (now (exponents .entry)) i (pos 0)) (at (now (r .entry)) n)))) ⌝ }
+    ensures { λ _. ⌜ (now (mean .exit) ≡ tab n (Sample.mean periods (Sample.scaled (exponentAt (now (exponents .entry))) (at (now (r .entry)) n)))) × (now (covariance .exit) ≡ rows n n (Sample.covariance periods (Sample.scaled (exponentAt (now (exponents .entry))) (at (now (r .entry)) n)))) ⌝ }
 {
     put_units(exponents, n, units);
     means_in(r, n, periods, units, mean);
@@ -49,8 +49,8 @@ fn put_moments(
 
 // The moments of the returns, each asset's over its power of two.
 pub(crate) fn of_returns(r: &[f64], n: usize, periods: usize, exponents: &[i32]) -> Moments
-    requires { ⌜ (0 < n) × (length (now r) ≡ periods * n) × (n ≤ maxSide) × (1 ≤ periods) × (length (now exponents) ≡ n) × Exponents (now exponents) ⌝ }
-    ensures { λ m. ⌜ held n m ≡ moments periods n (Sample.scaled (λ (i : ℕ). getD (now (exponents .entry)) i (pos 0)) (at (now (r .entry)) n)) ⌝ }
+    requires { ⌜ (length (now r) ≡ periods * n) × (n ≤ maxSide) × (1 ≤ periods) × (length (now exponents) ≡ n) × Exponents (now exponents) ⌝ }
+    ensures { λ m. ⌜ held n m ≡ moments periods n (Sample.scaled (exponentAt (now (exponents .entry))) (at (now (r .entry)) n)) ⌝ }
 {
     let mut units = [0.0; 2 * matrix::MAX_SIDE];
     let mut mean = [0.0; matrix::MAX_SIDE];
@@ -75,7 +75,7 @@ pub(crate) fn of_returns(r: &[f64], n: usize, periods: usize, exponents: &[i32])
 
 // All assets' over one power of two.
 pub(crate) fn moments_over(r: &[f64], n: usize, periods: usize, exponent: i32) -> Moments
-    requires { ⌜ (0 < n) × (length (now r) ≡ periods * n) × (n ≤ maxSide) × (1 ≤ periods) × (natAbs exponent ≤ maxExponent) ⌝ }
+    requires { ⌜ (length (now r) ≡ periods * n) × (n ≤ maxSide) × (1 ≤ periods) × (natAbs exponent ≤ maxExponent) ⌝ }
     ensures { λ m. ⌜ held n m ≡ moments periods n (Sample.scaled (λ (i : ℕ). exponent) (at (now (r .entry)) n)) ⌝ }
 {
     let exponents = [exponent; matrix::MAX_SIDE];

@@ -53,7 +53,7 @@ pub(crate) fn check_shape(
     if periods > crate::MAX_PERIODS {
         return Check::Refuses(Refusal::TooLarge);
     }
-    if periods < 2 {
+    if periods < crate::MIN_PERIODS {
         return Check::Refuses(Refusal::TooFewPeriods(periods));
     }
     if length != periods * n {

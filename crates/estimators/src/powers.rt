@@ -3,8 +3,7 @@ ghost use mathlib.Core.Path.{_≡_};
 ghost use Prim.Native.Nat.{_+_, _≤_};
 ghost use lib.IntN.{natAbs};
 ghost use lib.ListN.{length};
-ghost use Rattle.estimators.specs.Held.{maxExponent};
-ghost use Rattle.estimators.specs.Gather.{Exponents};
+ghost use Rattle.estimators.specs.Exponents.{maxExponent, Exponents};
 ghost use Rattle.estimators.specs.Powers.{Factored, Units};
 use leaves::scaling::cut;
 use leaves::scaling::pow2_scaled;
@@ -29,7 +28,7 @@ pub(crate) fn factors(k: i32) -> Power
 // 2^-e for each of n exponents e: first all near factors, then all far ones.
 pub(crate) fn put_units(exponents: &[i32], n: usize, out: &mut [f64])
     requires { ⌜ (length (now exponents) ≡ n) × Exponents (now exponents) × (length (now out) ≡ n + n) ⌝ }
-    ensures { λ _. ⌜ (length (now (out .exit)) ≡ n + n) × Units n n (now (exponents .entry)) (now (out .exit)) ⌝ }
+    ensures { λ _. ⌜ (length (now (out .exit)) ≡ n + n) × Units n (now (exponents .entry)) (now (out .exit)) ⌝ }
 {
     let mut i = 0;
     while i < n {

@@ -5,11 +5,11 @@ ghost use lib.ListN.{length};
 ghost use Rattle.leaves.specs.Loops.{tab, nth};
 ghost use Rattle.matrix.specs.Limits.{maxSide};
 ghost use Rattle.matrix.specs.Matrix.{Matrix, at, rows};
-ghost use Rattle.estimators.specs.Refusals as Refusals;
 ghost use Rattle.estimators.specs.Sample as Sample;
 ghost use Rattle.estimators.specs.Sample.{volatility};
+ghost use Rattle.estimators.specs.Order.{constantReturns};
 ghost use Rattle.estimators.specs.Checks.{checked};
-ghost use Rattle.estimators.specs.Powers.{inUnits};
+ghost use Rattle.estimators.specs.Rows.{inUnits};
 use crate::Refusal;
 use crate::checks::Check;
 use crate::columns;
@@ -89,7 +89,7 @@ pub(crate) fn put_volatilities(s: &[f64], n: usize, out: &mut [f64])
 // The first asset with a volatility of at most 1e-10 of its largest return.
 pub(crate) fn constant_asset(volatilities: &[f64], n: usize, sizes: &[f64]) -> Check
     requires { ⌜ (length (now volatilities) ≡ n) × (length (now sizes) ≡ n) ⌝ }
-    ensures { λ r. ⌜ ((s : Matrix) → now (volatilities .entry) ≡ tab n (volatility s) → checked r ≡ Refusals.whenSome (Sample.constantAsset n s (nth (now (sizes .entry)))) Refusal.ZeroVariance) ⌝ }
+    ensures { λ r. ⌜ ((s : Matrix) → now (volatilities .entry) ≡ tab n (volatility s) → checked r ≡ constantReturns n s (nth (now (sizes .entry)))) ⌝ }
 {
     let mut i = 0;
     while i < n {

@@ -1,11 +1,10 @@
 // The powers of two near numbers, one for each.
 ghost use mathlib.Core.Path.{_≡_};
 ghost use Prim.Native.Nat.{ℕ};
-ghost use lib.IntN.{pos};
-ghost use lib.ListN.{length, getD};
+ghost use lib.ListN.{length};
 ghost use Rattle.leaves.specs.Loops.{tab, nth};
 ghost use Rattle.leaves.specs.Scaling.{binaryExponent, pow2Scaled};
-ghost use Rattle.estimators.specs.Gather.{Exponents};
+ghost use Rattle.estimators.specs.Exponents.{exponentAt, Exponents};
 use crate::moments::exponent;
 
 // b(x) of each number.
@@ -23,7 +22,7 @@ pub(crate) fn put_exponents(xs: &[f64], out: &mut [i32])
 // Each number xₖ becomes xₖ · 2^eₖ: out of its unit. `gather::scale` takes numbers into their units.
 pub(crate) fn scale(exponents: &[i32], out: &mut [f64])
     requires { ⌜ (length (now exponents) ≡ length (now out)) × Exponents (now exponents) ⌝ }
-    ensures { λ _. ⌜ now (out .exit) ≡ tab (length (now (out .entry))) (λ (k : ℕ). pow2Scaled (nth (now (out .entry)) k) (getD (now (exponents .entry)) k (pos 0))) ⌝ }
+    ensures { λ _. ⌜ now (out .exit) ≡ tab (length (now (out .entry))) (λ (k : ℕ). pow2Scaled (nth (now (out .entry)) k) (exponentAt (now (exponents .entry)) k)) ⌝ }
 {
     let mut k = 0;
     while k < out.len() {

@@ -3,11 +3,9 @@ ghost use mathlib.Core.Path.{_≡_};
 ghost use Prim.Native.Nat.{ℕ, _*_, _≤_};
 ghost use lib.ListN.{length};
 ghost use lib.Ieee.{Float};
-ghost use Rattle.leaves.specs.Numbers.{_⊘_, count};
 ghost use Rattle.leaves.specs.Loops.{tab};
 ghost use Rattle.matrix.specs.Limits.{maxSide};
 ghost use Rattle.matrix.specs.Matrix.{at, rows};
-ghost use Rattle.estimators.specs.Sample as Sample;
 ghost use Rattle.estimators.specs.Semi as Semi;
 use crate::gram::gram;
 use crate::rows::Row;
@@ -17,7 +15,7 @@ use crate::vectors;
 // The second moments of the shortfalls below the floors, over the degrees of freedom.
 fn put_below(floors: &[f64], r: &[f64], n: usize, periods: usize, degrees: usize, out: &mut [f64])
     requires { ⌜ (length (now r) ≡ periods * n) × (n ≤ maxSide) × (length (now floors) ≡ n) × (length (now out) ≡ n * n) ⌝ }
-    ensures { λ _. ⌜ ((f : ℕ → Float) → now (floors .entry) ≡ tab n f → now (out .exit) ≡ rows n n (λ (i j : ℕ). Sample.gram periods (Semi.shortfall f (at (now (r .entry)) n)) i j ⊘ count degrees)) ⌝ }
+    ensures { λ _. ⌜ ((f : ℕ → Float) → now (floors .entry) ≡ tab n f → now (out .exit) ≡ rows n n (Semi.below f degrees periods (at (now (r .entry)) n))) ⌝ }
 {
     let none = [0.0; 0];
     gram(Row::Shortfall, r, n, periods, &none, floors, &none, out);

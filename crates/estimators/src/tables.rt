@@ -3,14 +3,14 @@
 ghost use mathlib.Core.Path.{_≡_};
 ghost use mathlib.Core.Bool.{cond};
 ghost use Prim.Native.Nat.{ℕ, _+_, _*_, _≤_, _<_};
-ghost use lib.Dec.{eqb, ltb};
+ghost use lib.Dec.{eqb};
 ghost use lib.ListN.{length};
-ghost use Rattle.leaves.specs.Numbers.{_⊕_, zero⁺};
-ghost use Rattle.leaves.specs.Loops.{loop, tab, nth};
+ghost use Rattle.leaves.specs.Numbers.{_⊕_};
+ghost use Rattle.leaves.specs.Loops.{tab, nth};
 ghost use Rattle.matrix.specs.Limits.{maxSide};
 ghost use Rattle.matrix.specs.Matrix.{at, rows};
 ghost use Rattle.estimators.specs.Rows as Rows;
-ghost use Rattle.estimators.specs.Rows.{rowsOf, joined, plus, Sized};
+ghost use Rattle.estimators.specs.Rows.{rowsOf, joined, plus, summed, mirrored, mirroredTo, Sized};
 use crate::rows::Row;
 use crate::rows::form;
 use crate::vectors;
@@ -22,13 +22,20 @@ pub(crate) enum Term {
     Cube,
 }
 
+// The last multiple of 4 up to i.
+fn aligned(i: usize) -> usize
+    ensures { λ r. ⌜ r ≡ Rows.aligned i ⌝ }
+{
+    i - i % 4
+}
+
 // The first column of row i that is added up.
 fn start(term: Term, i: usize) -> usize
     ensures { λ r. ⌜ r ≡ Rows.start term i ⌝ }
 {
     match term {
-        Term::Product => i - i % 4,
-        Term::Square => i - i % 4,
+        Term::Product => aligned(i),
+        Term::Square => aligned(i),
         Term::Cube => 0,
     }
 }
@@ -214,7 +221,7 @@ pub(crate) fn sum(
     out: &mut [f64],
 )
     requires { ⌜ (length (now r) ≡ periods * n) × (n ≤ maxSide) × (length (now centers) ≡ n) × Sized term (n * n) (now s) × (length (now out) ≡ n * n) ⌝ }
-    ensures { λ _. ⌜ now (out .exit) ≡ rows n n (λ (p q : ℕ). loop periods (λ (t : ℕ). plus term (at (now (s .entry)) n) (rowsOf row n (now (units .entry)) (now (centers .entry)) (now (weights .entry)) (at (now (r .entry)) n) t) p q) zero⁺) ⌝ }
+    ensures { λ _. ⌜ now (out .exit) ≡ summed n (λ (t : ℕ). plus term (at (now (s .entry)) n) (rowsOf row n (now (units .entry)) (now (centers .entry)) (now (weights .entry)) (at (now (r .entry)) n) t)) periods ⌝ }
 {
     vectors::fill(0.0, out);
     let mut t = 0;
@@ -230,7 +237,7 @@ pub(crate) fn sum(
 // Row i left of the diagonal becomes column i above it.
 fn mirror_row(n: usize, i: usize, out: &mut [f64])
     requires { ⌜ (i < n) × (length (now out) ≡ n * n) ⌝ }
-    ensures { λ _. ⌜ now (out .exit) ≡ rows n n (λ (p q : ℕ). cond (eqb p i) (cond (ltb q i) (at (now (out .entry)) n q p) (at (now (out .entry)) n p q)) (at (now (out .entry)) n p q)) ⌝ }
+    ensures { λ _. ⌜ now (out .exit) ≡ rows n n (mirroredTo n i i (now (out .entry))) ⌝ }
 {
     let base = i * n;
     let mut j = 0;
@@ -243,7 +250,7 @@ fn mirror_row(n: usize, i: usize, out: &mut [f64])
 // Each entry below the diagonal becomes the one above it.
 pub(crate) fn mirror(n: usize, out: &mut [f64])
     requires { ⌜ length (now out) ≡ n * n ⌝ }
-    ensures { λ _. ⌜ now (out .exit) ≡ rows n n (λ (p q : ℕ). cond (ltb q p) (at (now (out .entry)) n q p) (at (now (out .entry)) n p q)) ⌝ }
+    ensures { λ _. ⌜ now (out .exit) ≡ rows n n (mirrored n (now (out .entry))) ⌝ }
 {
     let mut i = 0;
     while i < n {

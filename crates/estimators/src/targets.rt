@@ -5,11 +5,11 @@ ghost use mathlib.Core.Bool.{cond};
 ghost use Prim.Native.Nat.{ℕ, _*_, _≤_, _<_};
 ghost use lib.Dec.{eqb};
 ghost use lib.ListN.{length};
-ghost use Rattle.leaves.specs.Numbers.{_⊗_, _⊘_};
+ghost use Rattle.leaves.specs.Numbers.{_⊗_};
 ghost use Rattle.leaves.specs.Loops.{tab, nth};
 ghost use Rattle.matrix.specs.Limits.{maxSide};
 ghost use Rattle.matrix.specs.Matrix.{at, rows, addKept, sumRow};
-ghost use Rattle.estimators.specs.Sample.{volatility};
+ghost use Rattle.estimators.specs.Sample.{volatility, correlationBy};
 ghost use Rattle.estimators.specs.LedoitWolf as LedoitWolf;
 ghost use Rattle.estimators.specs.LedoitWolf.{apart};
 
@@ -31,7 +31,7 @@ pub(crate) fn add_apart(i: usize, j: usize, sum: f64, x: f64) -> f64
 // The correlations of asset i with the others, added to `sum`.
 fn add_correlations(s: &[f64], sd: &[f64], n: usize, i: usize, sum: f64) -> f64
     requires { ⌜ (i < n) × (length (now s) ≡ n * n) × (length (now sd) ≡ n) ⌝ }
-    ensures { λ r. ⌜ r ≡ sumRow n apart (λ (i j : ℕ). at (now (s .entry)) n i j ⊘ nth (now (sd .entry)) i ⊘ nth (now (sd .entry)) j) i sum ⌝ }
+    ensures { λ r. ⌜ r ≡ sumRow n apart (correlationBy (nth (now (sd .entry))) (at (now (s .entry)) n)) i sum ⌝ }
 {
     let base = i * n;
     let mut t = sum;

@@ -1,17 +1,15 @@
 // The exponentially weighted mean and covariance (expected_returns.rs, covariance.rs). Below the settings everything takes l = ln λ.
 ghost use mathlib.Core.Path.{_≡_};
 ghost use Prim.Native.Nat.{ℕ, _*_, _≤_, _<_};
-ghost use lib.IntN.{pos, negℤ};
-ghost use lib.ListN.{length, getD};
-ghost use Rattle.leaves.specs.Numbers.{_⊗_, _⊘_};
-ghost use Rattle.leaves.specs.Loops.{sumTo, tab, nth};
-ghost use Rattle.leaves.specs.Scaling.{pow2Scaled};
+ghost use lib.ListN.{length};
+ghost use Rattle.leaves.specs.Numbers.{_⊘_};
+ghost use Rattle.leaves.specs.Loops.{tab, nth};
 ghost use Rattle.leaves.specs.Root.{sqrt};
 ghost use Rattle.matrix.specs.Limits.{maxSide};
 ghost use Rattle.matrix.specs.Matrix.{at, rows};
 ghost use Rattle.estimators.specs.Checks.{checked};
 ghost use Rattle.estimators.specs.Weighted as Weighted;
-ghost use Rattle.estimators.specs.Gather.{Exponents};
+ghost use Rattle.estimators.specs.Exponents.{exponentAt, Exponents};
 ghost use Rattle.estimators.specs.Order as Order;
 ghost use Rattle.estimators.specs.Order.{maxPeriods};
 use crate::Field;
@@ -33,12 +31,15 @@ pub(crate) fn log_decay(h: f64) -> f64
     -leaves::exponential::LN_2 / h
 }
 
+// The source's MIN_LOG.
+const MIN_LOG_DECAY: f64 = -708.0;
+
 // ln λ in [-708, 0).
 pub(crate) fn check_half_life(h: f64) -> Check
     ensures { λ r. ⌜ checked r ≡ Order.badHalfLife h ⌝ }
 {
     let l = log_decay(h);
-    let good = -708.0 <= l && l < 0.0;
+    let good = MIN_LOG_DECAY <= l && l < 0.0;
     when(!good, Refusal::BadSetting(Field::HalfLifeField))
 }
 
@@ -87,7 +88,7 @@ fn put_means(
     out: &mut [f64],
 )
     requires { ⌜ (length (now r) ≡ periods * n) × (n ≤ maxSide) × (length (now exponents) ≡ n) × Exponents (now exponents) × (length (now weights) ≡ periods) × (length (now out) ≡ n) ⌝ }
-    ensures { λ _. ⌜ now (out .exit) ≡ tab n (λ (i : ℕ). sumTo periods (λ (t : ℕ). nth (now (weights .entry)) t ⊗ pow2Scaled (at (now (r .entry)) n t i) (negℤ (getD (now (exponents .entry)) i (pos 0)))) ⊘ sumTo periods (nth (now (weights .entry)))) ⌝ }
+    ensures { λ _. ⌜ now (out .exit) ≡ tab n (λ (i : ℕ). Weighted.scaledMean periods (now (weights .entry)) (at (now (r .entry)) n) i (exponentAt (now (exponents .entry)) i)) ⌝ }
 {
     let zeros = [0.0; matrix::MAX_SIDE];
     let mut buffer = [0.0; 2 * matrix::MAX_SIDE];
@@ -100,7 +101,7 @@ fn put_means(
 
 // Σ wₜ xₜ / Σ wₜ of each asset, in units of a power of two near its largest return.
 pub(crate) fn means(r: &[f64], n: usize, periods: usize, weights: &[f64], out: &mut [f64])
-    requires { ⌜ (length (now r) ≡ periods * n) × (0 < n) × (n ≤ maxSide) × (length (now weights) ≡ periods) × (length (now out) ≡ n) ⌝ }
+    requires { ⌜ (length (now r) ≡ periods * n) × (n ≤ maxSide) × (length (now weights) ≡ periods) × (length (now out) ≡ n) ⌝ }
     ensures { λ _. ⌜ now (out .exit) ≡ tab n (Weighted.weightedMean periods (now (weights .entry)) (at (now (r .entry)) n)) ⌝ }
 {
     let mut buffer = [0; matrix::MAX_SIDE];
@@ -122,7 +123,7 @@ fn covariance_in(
     centers: &mut [f64],
     out: &mut [f64],
 )
-    requires { ⌜ (length (now r) ≡ periods * n) × (0 < n) × (n ≤ maxSide) × (1 ≤ periods) × (length (now weights) ≡ periods) × (length (now roots) ≡ periods) × (length (now centers) ≡ n) × (length (now out) ≡ n * n) ⌝ }
+    requires { ⌜ (length (now r) ≡ periods * n) × (n ≤ maxSide) × (1 ≤ periods) × (length (now weights) ≡ periods) × (length (now roots) ≡ periods) × (length (now centers) ≡ n) × (length (now out) ≡ n * n) ⌝ }
     ensures { λ _. ⌜ now (out .exit) ≡ rows n n (Weighted.weightedCovariance periods l (at (now (r .entry)) n)) ⌝ }
 {
     let none = [0.0; 0];
@@ -133,7 +134,7 @@ fn covariance_in(
 }
 
 pub(crate) fn covariance(l: f64, r: &[f64], n: usize, periods: usize, out: &mut [f64])
-    requires { ⌜ (length (now r) ≡ periods * n) × (0 < n) × (n ≤ maxSide) × (1 ≤ periods) × (periods ≤ maxPeriods) × (length (now out) ≡ n * n) ⌝ }
+    requires { ⌜ (length (now r) ≡ periods * n) × (n ≤ maxSide) × (1 ≤ periods) × (periods ≤ maxPeriods) × (length (now out) ≡ n * n) ⌝ }
     ensures { λ _. ⌜ now (out .exit) ≡ rows n n (Weighted.weightedCovariance periods l (at (now (r .entry)) n)) ⌝ }
 {
     let mut weights = [0.0; crate::MAX_PERIODS];
@@ -153,7 +154,7 @@ pub(crate) fn covariance(l: f64, r: &[f64], n: usize, periods: usize, out: &mut 
 
 // The means with the weights of l.
 pub(crate) fn mean_of(l: f64, r: &[f64], n: usize, periods: usize, out: &mut [f64])
-    requires { ⌜ (length (now r) ≡ periods * n) × (0 < n) × (n ≤ maxSide) × (1 ≤ periods) × (periods ≤ maxPeriods) × (length (now out) ≡ n) ⌝ }
+    requires { ⌜ (length (now r) ≡ periods * n) × (n ≤ maxSide) × (periods ≤ maxPeriods) × (length (now out) ≡ n) ⌝ }
     ensures { λ _. ⌜ now (out .exit) ≡ tab n (Weighted.weightedMean periods (Weighted.weights periods l) (at (now (r .entry)) n)) ⌝ }
 {
     let mut buffer = [0.0; crate::MAX_PERIODS];

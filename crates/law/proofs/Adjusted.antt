@@ -11,8 +11,7 @@ use lib.Dec.{eqb, lit≤}
 use lib.IntN.{pos}
 use lib.ListN.{length}
 use lib.Ieee.{Float, nan, binary64, fits, lt, le, eq}
-use lib.Ieee.Fits.{div-fits}
-use Rattle.leaves.specs.Numbers.{_⊗_, zero⁺, one, 1e-10, isFinite, clamp01}
+use Rattle.leaves.specs.Numbers.{_⊗_, zero⁺, one, 1e-10, isFinite}
 use Rattle.leaves.specs.Loops.{fill, nth}
 use Rattle.leaves.specs.Root.{sqrt}
 use Rattle.leaves.specs.Shift.{shift}
@@ -20,7 +19,7 @@ use Rattle.leaves.proofs.Loops.{first-all}
 use Rattle.leaves.proofs.Shift.{isFinite-shift, eq-shift, shift-zero⁺}
 use Rattle.leaves.proofs.Units.{sign}
 use Rattle.leaves.proofs.Range.{range-zero}
-use Rattle.leaves.proofs.Operations.{Moved, moved-weaken}
+use Rattle.leaves.proofs.Operations.{moved-weaken}
 use Rattle.leaves.proofs.Signs.{sign-not-below}
 use Rattle.leaves.proofs.SqrtNearest.{moved-sqrt}
 use Rattle.matrix.specs.Matrix.{Matrix, at, rows, trace, allFinite}
@@ -29,10 +28,10 @@ use Rattle.matrix.proofs.Stored.{entry-at, rows-at, by-cell}
 use Rattle.matrix.proofs.Alike.{finite-same, finite-all}
 use Rattle.estimators.specs.Refusals.{Check, passes, when, first}
 use Rattle.estimators.specs.Sample.{covariance, largest, constantAsset}
-use Rattle.estimators.specs.LedoitWolf.{constantCorrelation, intensityBy, intensityOf, ledoitWolf}
+use Rattle.estimators.specs.LedoitWolf.{constantCorrelation, ledoitWolf}
 use Rattle.estimators.specs.Adjusted.{isSample, isGiven, decompositionOf, base, intensity, shrunk, regularized, isAdjusted}
 use Rattle.estimators.specs.Adjusted as Spec
-use Rattle.estimators.specs.Order.{opening, badRegularization, badShrinkage, badEstimate, notTheSample, noCorrelation, noVariance, ofSettings, ledoitWolfOrder, adjustedOrder}
+use Rattle.estimators.specs.Order.{opening, badRegularization, badShrinkage, badEstimate, notTheSample, noCorrelation, noVariance, ofSettings, ledoitWolfOrder, adjustedOrder, byAnswer}
 use Rattle.estimators.specs.Calls.{answered, settle, ledoitWolfIntensity, adjustedCovariance}
 use Rattle.estimators.specs.Settings.{settings}
 use Rattle.estimators.specs.declared.Estimate.{Estimate}
@@ -48,14 +47,14 @@ use Rattle.estimators.specs.declared.Answer.the-variants.{Covariance, Intensity
 use Rattle.law.specs.Law.{All, Sized, AtLeast, answerParts, Alike, ask, EstimateInRange, ShrinkageInRange, CopiedEstimate, maxPower, returnRange, covarianceRange, intensityRange}
 use Rattle.law.specs.Law as Law
 use Rattle.law.proofs.Bits.{intensityLeast, intensityGrain}
-use Rattle.law.proofs.Numbers.{times-itself, means-alike}
+use Rattle.law.proofs.Numbers.{times-itself, filled-alike}
 use Rattle.law.proofs.Chain.{Chain, ends, pass-must, pass-some, chain-same, chain-test, chain-must, chain-map, chain-append, chained, parts, settled}
 use Rattle.law.proofs.Sizes.{le-not-lt}
-use Rattle.law.proofs.Sample.{tolerance-moved}
+use Rattle.law.proofs.Sample.{tolerance-moved, Sampled}
 use Rattle.law.proofs.Matrices.{trace-moved, rows-moved}
 use Rattle.law.proofs.Opening.{Shape, returns, sample-moved, opening-chain}
-use Rattle.law.proofs.LedoitWolf.{ledoitWolf-same, correlation-same}
-use Rattle.law.proofs.Correlation.{sign-variance, sign-largest, above-zero, target-moved}
+use Rattle.law.proofs.LedoitWolf.{ledoitWolf-same, correlation-same, ledoitWolf-cases}
+use Rattle.law.proofs.Correlation.{sign-variance, sign-largest, above-zero, target-moved, Targeted}
 use Rattle.law.proofs.Given.{average}
 use Rattle.law.proofs.Shrinkage.{Estimated, Shrunken, Adjusted, correlation-mixed, variance-mixed, nan-mixed, Regularized}
 use Rattle.law.proofs.Shrinkage as Shrinking
@@ -77,13 +76,7 @@ module _ (r : List Float) (n P : ℕ) (opens : (ds : List Check) → first (open
   answers F e = ap (λ (c : Check). settle c [] (answered (Intensity (ledoitWolf F P n (at r n))) []) .answer) (opens (noCorrelation (LedoitWolf F) P n (at r n) ∷ []) ∙ ap (λ (c : Check). first (c ∷ [])) e)
 
   ledoitWolf-known : (F : Target) → AtLeast intensityRange (ledoitWolf F P n (at r n)) → (ledoitWolf F P n (at r n) ≡ nan) ⊎ Shrinking.Intensity (ledoitWolf F P n (at r n))
-  unfolding ledoitWolf intensityOf intensityBy
-  ledoitWolf-known F a = go (lt zero⁺ _) _ (div-fits binary64 _ _) a
-    where
-      go : (b : Bool) (w : Float) → lib.Dec.T (fits binary64 w) → AtLeast intensityRange (elim b [ true ↦ clamp01 w | false ↦ zero⁺ ])
-          → ((elim b [ true ↦ clamp01 w | false ↦ zero⁺ ]) ≡ nan) ⊎ Shrinking.Intensity (elim b [ true ↦ clamp01 w | false ↦ zero⁺ ])
-      go true w t a = clamped-range intensityRange (lit≤ tt) w t a
-      go false w t a = inr (range-zero intensityGrain (2 ^ intensityLeast) (2 ^ 1074))
+  ledoitWolf-known F = ledoitWolf-cases (λ z. AtLeast intensityRange z → (z ≡ nan) ⊎ Shrinking.Intensity z) F P n (at r n) (λ a. inr (range-zero intensityGrain (2 ^ intensityLeast) (2 ^ 1074))) (clamped-range intensityRange (lit≤ tt))
 
   no : {F : Target} → LedoitWolf F ≡ Unshrunk → ⊥
   no e = let z : true ≡ false = cc in subst lib.Dec.T z tt
@@ -129,12 +122,12 @@ module _ (k : ℕ) (small : k ≤ maxPower) (r : List Float) (sizes : All (Sized
     estimated = rows-moved n n (base E P x G) (base E' P y G') (e .entries e₃ e₆)
 
     -- constant correlation needs the sample, and variances above zero
-    correlated : isSample E ≡ true → constantAsset n (covariance P x) (largest P x) ≡ none → (i j : ℕ) → i < n → j < n → Moved (k + k) 194 246 1644 (constantCorrelation n b i j) (constantCorrelation n b' i j)
+    correlated : isSample E ≡ true → constantAsset n (covariance P x) (largest P x) ≡ none → (i j : ℕ) → i < n → j < n → Targeted (k + k) (constantCorrelation n b i j) (constantCorrelation n b' i j)
     unfolding constantAsset
     correlated q nothing =
         let is : (i j : ℕ) → i < n → j < n → b i j ≡ covariance P x i j = λ i j l m. rows-at (base E P x G) n n i j l m ∙ e .sampled q i j .0 in
         let is' : (i j : ℕ) → i < n → j < n → b' i j ≡ covariance P y i j = λ i j l m. rows-at (base E' P y G') n n i j l m ∙ e .sampled q i j .1 in
-        let moved : (i j : ℕ) → i < n → j < n → Moved (k + k) 698 750 1192 (b i j) (b' i j) = λ i j l m. subst₂ (Moved (k + k) 698 750 1192) (sym (is i j l m)) (sym (is' i j l m)) (sample-moved k small r sizes n P s i j l m) in
+        let moved : (i j : ℕ) → i < n → j < n → Sampled (k + k) (b i j) (b' i j) = λ i j l m. subst₂ (Sampled (k + k)) (sym (is i j l m)) (sym (is' i j l m)) (sample-moved k small r sizes n P s i j l m) in
         let plus : (i : ℕ) → i < n → sign (b i i) ≡ false = λ i l. ap sign (is i i l l) ∙ sign-variance P x i in
         target-moved k n small (s .0) (s .1) b b' moved plus
         (λ i l. above-zero (b i i) (largest P x i) (moved-sqrt (moved i i l l) (sign-not-below (b i i) (plus i l)) 860 1133 (lit≤ tt) (lit≤ tt) .range)
@@ -182,7 +175,7 @@ module _ (k : ℕ) (small : k ≤ maxPower) (r : List Float) (sizes : All (Sized
       either false = e .variance b b' (λ i l. estimated e₃ e₆ i i l l .copy)
 
   last-checks : badEstimate E ≡ passes → (isGiven E && not (eqb side n)) ≡ false → notTheSample S E ≡ passes → noCorrelation S P n (at r n) ≡ passes → Known S δ
-      → Chain Done (when (not (allFinite n n a)) CovarianceNotFinite ∷ when (eq (trace n a) zero⁺) Singular ∷ []) (when (not (allFinite n n a')) CovarianceNotFinite ∷ when (eq (trace n a') zero⁺) Singular ∷ [])
+      → Chain Done (byAnswer n a) (byAnswer n a')
   last-checks e₃ e₆ e₄ e₅ (inr d) =
       let moved : Done = rows-moved n n (regularized H (shrunk S δ n b)) (regularized H' (shrunk S δ n b')) (λ i j l m. h .entries (shrunk S δ n b) (shrunk S δ n b') i j (shrunk-moved e₃ e₆ S d e₄ e₅ i j l m)) in
       let t = trace-moved n a a' (s .1) (omega arith) (λ i l. moved i i l l) in
@@ -262,7 +255,7 @@ module _ (k : ℕ) (small : k ≤ maxPower) (r : List Float) (sizes : All (Sized
       settled (chained (order slice slice' e)) (pos k) n slice slice' (answered (Covariance (δ r) (d E H g .sweeps) (d E H g .rotations)) (fill (n * n) (nth a) slice)) (answered (Covariance (δ r') (d E' H' g' .sweeps) (d E' H' g' .rotations)) (fill (n * n) (nth a') slice'))
       (λ p p' o. record {
         refusal = refl;
-        entries = means-alike (k + k) (n * n) (nth a) (nth a') slice slice' (λ c l.
+        entries = filled-alike (k + k) (n * n) (nth a) (nth a') slice slice' (λ c l.
             let m = by-cell n n (λ i j. Adjusted (k + k) (at a n i j) (at a' n i j)) (o .entries) c l in
             subst₂ (λ (u v : Float). lib.Dec.T (fits binary64 u) × (v ≡ shift (pos (k + k)) u)) (entry-at a n c) (entry-at a' n c) (m .range .fit, m .copy));
         meansAndTarget = tt;

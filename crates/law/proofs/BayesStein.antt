@@ -1,14 +1,13 @@
 -- The Bayes-Stein mean: the call. Moments, correlations and decomposition are the same in both runs, so the checks are; `Pull` has what is answered where they pass. Assumes nothing.
 use mathlib.Core.Path.{_≡_, refl, ap, _∙_, subst}
 use Prim.Native.Nat.{ℕ, _≤_, _<_}
-use mathlib.Core.List.{List, _++_, map}
+use mathlib.Core.List.{List, map}
 use lib.Dec.{ltb, lit≤}
 use lib.IntN.{pos}
 use lib.ListN.{length, length-map}
 use lib.Ieee.{Float, binary64, le}
 use lib.Ieee.Fits.{add-fits}
 use Rattle.leaves.specs.Numbers.{_⊗_, 1e-10}
-use Rattle.leaves.specs.Loops.{fill, nth}
 use Rattle.leaves.specs.Root.{sqrt}
 use Rattle.leaves.specs.Shift.{shift}
 use Rattle.leaves.proofs.Loops.{first-all}
@@ -18,45 +17,38 @@ use Rattle.matrix.specs.Matrix.{at, allFinite}
 use Rattle.estimators.specs.Refusals.{Check}
 use Rattle.estimators.specs.Sample.{constantAsset}
 use Rattle.estimators.specs.Moments.{Moments}
-use Rattle.estimators.specs.BayesStein.{singular, pulled}
+use Rattle.estimators.specs.BayesStein.{singular, pulled, exponentsOf, correlations, bayesStein}
+use Rattle.estimators.specs.Shrinking.{Shrinking}
 use Rattle.estimators.specs.Order.{sweepLimit, bayesSteinOrder}
-use Rattle.estimators.specs.Calls.{Answered, answered, settle, bayesSteinMean}
+use Rattle.estimators.specs.Calls.{bayesSteinMean}
 use Rattle.estimators.specs.declared.Field.the-variants.{SweepLimitField}
 use Rattle.estimators.specs.declared.Refusal.the-variants.{BadSetting, ZeroVariance, Singular}
-use Rattle.estimators.specs.declared.Answer.the-variants.{Shrunk}
 use borrow.Author.Tests.{ltb-false}
 use Rattle.estimators.proofs.Firsts.{pass-test}
 use Rattle.law.specs.Law.{All, Sized, AtLeast, Alike, ask, maxPower, returnRange, meanRange}
 use Rattle.law.specs.Law as Law
 use Rattle.law.proofs.Chain.{Chain, ends, chain-same, chain-test, chain-must, chain-some, chained, parts, settled}
-use Rattle.law.proofs.Moments.{large, Copied, shrunk-alike}
-use Rattle.law.proofs.Opening.{Shape, returns, opening-chain}
-use Rattle.law.proofs.Columns.{C, column, constant-same, exps, exps-at, found, found-same, pull, sizeOf, taken, Σ}
+use Rattle.law.proofs.Moments.{large, Copied, shrunk-alike, shrunkInto, Large}
+use Rattle.law.proofs.Opening.{Shape, returns, opening-chain, column}
+use Rattle.law.proofs.Columns.{constant-same, exponent-at, found, found-same, sizeOf, taken, Σ}
 use Rattle.law.proofs.Pull.{Passed, target-fits, target-moved, intensity-same, means-moved}
 
 -- ---- the call
 module _ (k : ℕ) (small : k ≤ maxPower) (r : List Float) (sizes : All (Sized returnRange) r) (sizes' : All (Sized returnRange) (map (shift (pos k)) r)) (n P limit : ℕ) where
-  abbrev result : List Float → List Float → Answered
-  result r slice =
-      let m = found P n (at r n) in
-      let e = exps P n (at r n) in
-      let w = pull limit n m e in
-      answered (Shrunk (w .intensity) (w .target) (taken limit n m .sweeps) (taken limit n m .rotations)) (fill n (λ i. pulled w (nth (m .mean) i) (e i)) slice)
+  abbrev w : List Float → Shrinking
+  w r = bayesStein n limit (found P n (at r n)) (exponentsOf P n (at r n))
 
   abbrev order : List Float → List Float → List Check
-  order r slice = let m = found P n (at r n) in bayesSteinOrder r n P limit slice (sizeOf P n (at r n)) (Σ n m) (C n m) (taken limit n m)
+  order r slice = let m = found P n (at r n) in bayesSteinOrder r n P limit slice (sizeOf P n (at r n)) (Σ n m) (correlations n m) (taken limit n m)
 
-  pub bayes-stein-law : (slice slice' : List Float) → length slice' ≡ length slice
-      → All (AtLeast meanRange) (parts n (ask r n P (Law.bayesStein limit) slice) .meansAndTarget ++ parts n (ask r n P (Law.bayesStein limit) slice) .intensity)
-      → All (AtLeast meanRange) (parts n (ask (map (shift (pos k)) r) n P (Law.bayesStein limit) slice') .meansAndTarget ++ parts n (ask (map (shift (pos k)) r) n P (Law.bayesStein limit) slice') .intensity)
+  pub bayes-stein-law : (slice slice' : List Float) → length slice' ≡ length slice → Large (parts n (ask r n P (Law.bayesStein limit) slice)) → Large (parts n (ask (map (shift (pos k)) r) n P (Law.bayesStein limit) slice'))
       → Alike (pos k) (parts n (ask r n P (Law.bayesStein limit) slice)) (parts n (ask (map (shift (pos k)) r) n P (Law.bayesStein limit) slice'))
-  unfolding bayesSteinMean settle
+  unfolding bayesSteinMean
   bayes-stein-law slice slice' e large₁ large₂ =
       let r' = map (shift (pos k)) r in
-      settled (chained chain) (pos k) n slice slice' (result r slice) (result r' slice') (λ p p' q.
-      let a = large n _ _ _ slice (subst (λ (c : Check). All (AtLeast meanRange) (parts n (settle c slice (result r slice)) .meansAndTarget ++ parts n (settle c slice (result r slice)) .intensity)) p large₁) in
-      let b = large n _ _ _ slice' (subst (λ (c : Check). All (AtLeast meanRange) (parts n (settle c slice' (result r' slice')) .meansAndTarget ++ parts n (settle c slice' (result r' slice')) .intensity)) p' large₂) in
-      shrunk-alike slice slice' (copied (q .0) (q .1) (a .intensity) (a .target) (b .target)))
+      settled (chained chain) (pos k) n slice slice' (shrunkInto n (w r) slice) (shrunkInto n (w r') slice') (λ p p' q.
+      let a = large n (w r) slice p large₁ in
+      shrunk-alike slice slice' (copied (q .0) (q .1) (a .0) (a .1) (large n (w r') slice' p' large₂ .1)))
     where
       chain : Chain (Shape r n P × Passed limit n (found P n (at r n)) (sizeOf P n (at r n))) (order r slice) (order (map (shift (pos k)) r) slice')
       chain = unfold bayesSteinOrder in
@@ -66,7 +58,7 @@ module _ (k : ℕ) (small : k ≤ maxPower) (r : List Float) (sizes : All (Sized
           let same = found-same small R in
           chain-same (sweepLimit limit) refl (λ e₁.
           chain-some (constantAsset n (Σ n m) (sizeOf P n (at r n))) ZeroVariance (ap (λ (m : Moments). constantAsset n (Σ n m) (sizeOf P n (at (map (shift (pos k)) r) n))) same ∙ constant-same small R m) (λ e₂.
-          chain-must (allFinite n n (C n m)) Singular (ap (λ (m : Moments). allFinite n n (C n m)) same) (λ e₃.
+          chain-must (allFinite n n (correlations n m)) Singular (ap (λ (m : Moments). allFinite n n (correlations n m)) same) (λ e₃.
           chain-must (taken limit n m .found) Singular (ap (λ (m : Moments). taken limit n m .found) same) (λ e₄.
           chain-test (singular n (taken limit n m)) Singular (ap (λ (m : Moments). singular n (taken limit n m)) same) (λ e₅. ends (
             s,
@@ -77,25 +69,18 @@ module _ (k : ℕ) (small : k ≤ maxPower) (r : List Float) (sizes : All (Sized
             },
           )))))))
 
-      copied : (s : Shape r n P) → Passed limit n (found P n (at r n)) (sizeOf P n (at r n)) → AtLeast meanRange (pull limit n (found P n (at r n)) (exps P n (at r n)) .intensity) → AtLeast meanRange (pull limit n (found P n (at r n)) (exps P n (at r n)) .target)
-          → AtLeast meanRange (pull limit n (found P n (at (map (shift (pos k)) r) n)) (exps P n (at (map (shift (pos k)) r) n)) .target)
-          → Copied k n (pull limit n (found P n (at r n)) (exps P n (at r n)) .intensity) (pull limit n (found P n (at (map (shift (pos k)) r) n)) (exps P n (at (map (shift (pos k)) r) n)) .intensity)
-          (pull limit n (found P n (at r n)) (exps P n (at r n)) .target) (pull limit n (found P n (at (map (shift (pos k)) r) n)) (exps P n (at (map (shift (pos k)) r) n)) .target)
-          (taken limit n (found P n (at r n)) .sweeps) (taken limit n (found P n (at (map (shift (pos k)) r) n)) .sweeps) (taken limit n (found P n (at r n)) .rotations) (taken limit n (found P n (at (map (shift (pos k)) r) n)) .rotations)
-          (λ i. pulled (pull limit n (found P n (at r n)) (exps P n (at r n))) (nth (found P n (at r n) .mean) i) (exps P n (at r n) i))
-          (λ i. pulled (pull limit n (found P n (at (map (shift (pos k)) r) n)) (exps P n (at (map (shift (pos k)) r) n))) (nth (found P n (at (map (shift (pos k)) r) n) .mean) i) (exps P n (at (map (shift (pos k)) r) n) i))
+      copied : (s : Shape r n P) → Passed limit n (found P n (at r n)) (sizeOf P n (at r n)) → AtLeast meanRange (w r .intensity) → AtLeast meanRange (w r .target) → AtLeast meanRange (w (map (shift (pos k)) r) .target) → Copied k n (w r) (w (map (shift (pos k)) r))
       copied s q a b c =
           let r' = map (shift (pos k)) r in
           let R = returns k small r sizes n P s in
-          let f = exps P n (at r' n) in
+          let v : Moments → Shrinking = λ m. bayesStein n limit m (exponentsOf P n (at r' n)) in
           let same = found-same small R in
           let s' : Shape r' n P = (s .0, s .1, s .2, s .3, length-map r (shift (pos k)) ∙ s .4) in
-          let tops : (i : ℕ) → i < n → over (exps P n (at r' n) i) ≤ returnRange = λ i l. rw (exps-at P n (at r' n) i l) (column (lit≤ {m = 0} tt) (returns 0 (lit≤ tt) r' sizes' n P s') i l .small .0) in
-          let c' = subst (λ (m : Moments). AtLeast meanRange (pull limit n m f .target)) same c in
+          let tops : (i : ℕ) → i < n → over (exponentsOf P n (at r' n) i) ≤ returnRange = λ i l. rw (exponent-at P n (at r' n) i l) (column (lit≤ {m = 0} tt) (returns 0 (lit≤ tt) r' sizes' n P s') i l .small .0) in
+          let c' = subst (λ (m : Moments). AtLeast meanRange (v m .target)) same c in
           record {
-            intensity = ap (λ (m : Moments). pull limit n m f .intensity) same ∙ intensity-same small R tops limit q;
-            target = (target-fits small R tops limit q, ap (λ (m : Moments). pull limit n m f .target) same ∙ target-moved small R tops limit q b c');
-            sweeps = ap (λ (m : Moments). taken limit n m .sweeps) same;
-            rotations = ap (λ (m : Moments). taken limit n m .rotations) same;
-            means = λ i l. (unfold pulled in add-fits binary64 _ _, ap (λ (m : Moments). pulled (pull limit n m f) (nth (m .mean) i) (f i)) same ∙ means-moved small R tops limit q a b c' i l);
+            intensity = ap (λ (m : Moments). v m .intensity) same ∙ intensity-same small R tops limit q;
+            target = (target-fits small R tops limit q, ap (λ (m : Moments). v m .target) same ∙ target-moved small R tops limit q b c');
+            decomposition = ap (λ (m : Moments). v m .decomposition) same;
+            means = λ i l. (unfold pulled in add-fits binary64 _ _, ap (λ (m : Moments). v m .mean i) same ∙ means-moved small R tops limit q a b c' i l);
           }

@@ -1,4 +1,4 @@
--- Powers of two that document 01's limits on assets and periods do not exceed: a sum over assets, periods or entries of a matrix grows by no more. And its ranges, in units of
+-- Powers of two that document 01's limits on assets, periods and half-lives do not exceed: a sum over assets, periods or entries of a matrix grows by no more. And its ranges, in units of
 -- 2 ^ -1074. Assumes nothing.
 use Prim.Native.Nat.{ℕ, _+_, _-_, _*_, _^_, _≤_}
 use native.Mathlib.Nat.{le-trans, le-of-eq, mul-le-mul}
@@ -20,6 +20,10 @@ periodBits = 12
 
 pub period-bits : {n : ℕ} → n ≤ maxPeriods → n ≤ 2 ^ periodBits
 period-bits few = le-trans few (lit≤ tt)
+
+-- the half-lives of the first weight's age
+abbrev pub halfLifeBits : ℕ
+halfLifeBits = 6
 
 -- of the entries of a matrix
 abbrev pub cellBits : ℕ

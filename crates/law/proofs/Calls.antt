@@ -7,29 +7,26 @@ use lib.IntN.{ℤ}
 use lib.Ieee.{Float}
 use Rattle.leaves.specs.Loops.{fill, nth}
 use Rattle.leaves.specs.Scaling.{binaryExponent, pow2Scaled}
-use Rattle.matrix.specs.Matrix.{Matrix, at, amax}
+use Rattle.matrix.specs.Matrix.{at, amax}
 use Rattle.matrix.specs.Jacobi.{Decomposition}
 use Rattle.estimators.specs.Refusals.{Check, when, first}
 use Rattle.estimators.specs.Moments.{Moments}
-use Rattle.estimators.specs.Given.{averagedOf}
 use Rattle.estimators.specs.Adjusted.{decompositionOf, intensity, baseOf, adjustedOf}
 use Rattle.estimators.specs.JamesStein.{jamesSteinIntensity, towards}
-use Rattle.estimators.specs.BayesStein.{Pull, bayesSteinPull, pulled}
+use Rattle.estimators.specs.BayesStein.{Pull, bayesSteinPull, pulled, exponentsOf, correlations}
 use Rattle.estimators.specs.Order.{opening, sweepLimit, ofGiven, ofSettings, byCorrelations, byDecomposition, adjustedOrder, jamesSteinOrder, bayesSteinOrder}
 use Rattle.estimators.specs.Calls.{Answered, answered, settle, adjustedCovariance, jamesSteinMean, bayesSteinMean}
 use Rattle.estimators.specs.declared.Settings.{Settings}
 use Rattle.estimators.specs.declared.Refusal.the-variants.{Singular}
 use Rattle.estimators.specs.declared.Answer.the-variants.{Covariance, Shrunk}
 use Rattle.law.proofs.JamesStein as James
-use Rattle.law.proofs.Columns.{exps, found, Σ, C, taken, sizeOf}
+use Rattle.law.proofs.Columns.{found, Σ, taken, sizeOf}
+use Rattle.law.proofs.Given.{average}
 
 -- ---- the adjusted covariance
 module _ (r : List Float) (n P : ℕ) (s : Settings) (given : List Float) (side : ℕ) where
-  abbrev pub averages : Matrix
-  averages = at (averagedOf given side) side
-
   abbrev pub estimated : List Float
-  estimated = baseOf s P n (at r n) averages
+  estimated = baseOf s P n (at r n) (average side given)
 
   abbrev pub covariances : List Float
   covariances = adjustedOf s (intensity (s .shrinkage) P n (at r n)) n estimated
@@ -40,7 +37,7 @@ module _ (r : List Float) (n P : ℕ) (s : Settings) (given : List Float) (side 
   abbrev pub covarianceBy : List Float → Decomposition → List Check → Answered
   covarianceBy slice d cs = settle (first (opening r n P (n * n) slice ++ cs ++ ofAnswer)) slice (answered (Covariance (intensity (s .shrinkage) P n (at r n)) (d .sweeps) (d .rotations)) (fill (n * n) (nth covariances) slice))
 
-  pub covariance-is : (slice : List Float) → let d = decompositionOf s side averages in adjustedCovariance r n P s given side slice ≡ covarianceBy slice d (ofGiven s given side d)
+  pub covariance-is : (slice : List Float) → let d = decompositionOf s side (average side given) in adjustedCovariance r n P s given side slice ≡ covarianceBy slice d (ofGiven s given side d)
   unfolding adjustedCovariance adjustedOrder
   covariance-is slice = refl
 
@@ -56,7 +53,7 @@ module _ (r : List Float) (n P : ℕ) where
   centre = James.centre n inUnit
 
   abbrev pub uneven : ℕ → Decomposition
-  uneven limit = James.taken limit n inUnit
+  uneven limit = James.shrunk limit P n (at r n) .decomposition
 
   abbrev pub jamesBy : List Float → Decomposition → Check → Answered
   jamesBy slice d c =
@@ -70,13 +67,13 @@ module _ (r : List Float) (n P : ℕ) where
 
   -- ---- the Bayes-Stein mean
   abbrev pub pullBy : Decomposition → Pull
-  pullBy d = let m = found P n (at r n) in bayesSteinPull n (m .periods) (nth (m .mean)) (Σ n m) (exps P n (at r n)) d
+  pullBy d = let m = found P n (at r n) in bayesSteinPull n (m .periods) (nth (m .mean)) (Σ n m) (exponentsOf P n (at r n)) d
 
   abbrev pub bayesBy : List Float → Decomposition → Check → Answered
   bayesBy slice d c =
       let m = found P n (at r n) in
-      settle (first (opening r n P n slice ++ (c ∷ byCorrelations n (sizeOf P n (at r n)) (Σ n m) (C n m) ++ byDecomposition n d))) slice
-      (answered (Shrunk (pullBy d .intensity) (pullBy d .target) (d .sweeps) (d .rotations)) (fill n (λ i. pulled (pullBy d) (nth (m .mean) i) (exps P n (at r n) i)) slice))
+      settle (first (opening r n P n slice ++ (c ∷ byCorrelations n (sizeOf P n (at r n)) (Σ n m) (correlations n m) ++ byDecomposition n d))) slice
+      (answered (Shrunk (pullBy d .intensity) (pullBy d .target) (d .sweeps) (d .rotations)) (fill n (λ i. pulled (pullBy d) (nth (m .mean) i) (exponentsOf P n (at r n) i)) slice))
 
   pub bayes-is : (limit : ℕ) (slice : List Float) → bayesSteinMean r n P limit slice ≡ bayesBy slice (taken limit n (found P n (at r n))) (sweepLimit limit)
   unfolding bayesSteinMean bayesSteinOrder

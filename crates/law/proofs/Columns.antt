@@ -1,5 +1,5 @@
 -- The Bayes-Stein mean: each column over the power of two of its largest return. The scaled columns are the same in both runs, so the moments are. A column that is not refused is not zero, so
--- its exponent grows by k; its deviation is at least 2 ^ -34 in its unit. Assumes nothing.
+-- its exponent grows by k; its volatility is at least 2 ^ -34 in its unit. Assumes nothing.
 use mathlib.Core.Path.{_≡_, refl, sym, ap, _∙_, subst}
 use mathlib.Core.Logic.{inl, inr}
 use Prim.Native.Nat.{ℕ, zero, suc, _-_, _*_, _^_, _≤_, _<_, zero-le}
@@ -9,7 +9,7 @@ use mathlib.Core.Bool.{false}
 use lib.Dec.{lit≤}
 use lib.IntN.{ℤ, pos, negℤ, _+ℤ_}
 use lib.Pow.{pow-pos}
-use lib.Ieee.{Float, nan, le, eq, ofBits}
+use lib.Ieee.{Float, le, eq, ofBits}
 use Rattle.leaves.specs.Numbers.{_⊗_, _⊘_, zero⁺, one, 1e-10}
 use Rattle.leaves.specs.Loops.{nth}
 use Rattle.leaves.specs.Root.{sqrt}
@@ -30,83 +30,72 @@ use Rattle.matrix.specs.Jacobi.{Decomposition, decompose}
 use Rattle.matrix.proofs.Stored.{rows-at}
 use Rattle.estimators.specs.Sample.{mean, deviation, gram, covariance, largest, constantAsset, scaled}
 use Rattle.estimators.specs.Moments.{Moments, moments}
-use Rattle.estimators.specs.BayesStein.{Pull, bayesSteinPull, exponentsOf, largestIn, correlations}
+use Rattle.estimators.specs.BayesStein.{exponentsOf, largestIn, correlations}
 use borrow.Author.Tests.{ne-eqb}
+use Rattle.estimators.proofs.SameReturns.{moments-same}
 use Rattle.law.specs.Law.{maxPower, returnRange}
 use Rattle.law.proofs.Bits.{returnGrain, returnLeast, returnMost, unitGrain}
 use Rattle.law.proofs.Sizes.{plus-val, le-no}
-use Rattle.law.proofs.Sample.{Returns, entries-as, mean-moved, covariance-moved, largest-moved, largest-above, tenth-moved, tenth-above}
+use Rattle.law.proofs.Sample.{Returns, entries-as, covariance-moved, largest-moved, largest-above, tenth-moved, tenth-above}
 use Rattle.law.proofs.Scaled.{sign-scaled, Scaling, scaling, scaled-least, exponent-within, exponent-null}
 use Rattle.law.proofs.Correlation.{sign-variance, sign-largest, above-zero}
 use Rattle.law.proofs.Shrinkage.{one-moved}
-use Rattle.law.proofs.Moments.{moments-same}
+use Rattle.law.proofs.Moments.{means-moved}
+use Rattle.law.proofs.Opening.{column}
 use Rattle.law.proofs.Ratio.{product-is, quotient-is}
 
 -- ---- the parts of the call
-abbrev pub exps : ℕ → ℕ → Matrix → ℕ → ℤ
-exps P n x = exponentsOf P n x
-
 abbrev pub found : ℕ → ℕ → Matrix → Moments
-found P n x = moments P n (scaled (exps P n x) x)
+found P n x = moments P n (scaled (exponentsOf P n x) x)
 
 abbrev pub Σ : ℕ → Moments → Matrix
 Σ n m = at (m .covariance) n
 
-abbrev pub C : ℕ → Moments → Matrix
-C n m = correlations n m
-
 abbrev pub taken : ℕ → ℕ → Moments → Decomposition
-taken limit n m = decompose limit n (C n m)
+taken limit n m = decompose limit n (correlations n m)
 
 abbrev pub sizeOf : ℕ → ℕ → Matrix → ℕ → Float
-sizeOf P n x = largestIn (exps P n x) P x
+sizeOf P n x = largestIn (exponentsOf P n x) P x
 
-abbrev pub pull : ℕ → ℕ → Moments → (ℕ → ℤ) → Pull
-pull limit n m e = bayesSteinPull n (m .periods) (nth (m .mean)) (Σ n m) e (taken limit n m)
-
-pub exps-at : (P n : ℕ) (x : Matrix) (i : ℕ) → i < n → exps P n x i ≡ binaryExponent (largest P x i)
-exps-at P n x i l = nth-tab n (λ i. binaryExponent (largest P x i)) i (pos 0) l
+pub exponent-at : (P n : ℕ) (x : Matrix) (i : ℕ) → i < n → exponentsOf P n x i ≡ binaryExponent (largest P x i)
+exponent-at P n x i l = nth-tab n (λ i. binaryExponent (largest P x i)) i (pos 0) l
 
 -- ---- each column over its power of two
 module _ {k n P : ℕ} {x y : Matrix} (small : k ≤ maxPower) (r : Returns k n P returnGrain returnLeast returnMost x y) where
-  pub column : (i : ℕ) → i < n → Scaling k returnGrain returnLeast returnMost (largest P x i) (largest P y i)
-  column i a = scaling (largest-moved r i a) (lit≤ tt) (lit≤ tt) (lit≤ tt) (lit≤ tt) (lit≤ tt) (lit≤ tt) (omega arith)
-
-  entry-same : (t i : ℕ) → t < P → i < n → scaled (exps P n y) y t i ≡ scaled (exps P n x) x t i
+  entry-same : (t i : ℕ) → t < P → i < n → scaled (exponentsOf P n y) y t i ≡ scaled (exponentsOf P n x) x t i
   unfolding scaled
   entry-same t i a b =
-      ap (λ (e : ℤ). pow2Scaled (y t i) (negℤ e)) (exps-at P n y i b) ∙ column i b .same (r .entries t i a b) (largest-above r t i a b) ∙ sym (ap (λ (e : ℤ). pow2Scaled (x t i) (negℤ e)) (exps-at P n x i b))
+      ap (λ (e : ℤ). pow2Scaled (y t i) (negℤ e)) (exponent-at P n y i b) ∙ column small r i b .same (r .entries t i a b) (largest-above r t i a b) ∙ sym (ap (λ (e : ℤ). pow2Scaled (x t i) (negℤ e)) (exponent-at P n x i b))
 
   pub found-same : found P n y ≡ found P n x
-  found-same = moments-same P n (scaled (exps P n y) y) (scaled (exps P n x) x) entry-same
+  found-same = moments-same n P (scaled (exponentsOf P n y) y) (scaled (exponentsOf P n x) x) entry-same
 
   size-same : (i : ℕ) → i < n → sizeOf P n y i ≡ sizeOf P n x i
   size-same i b =
-      ap (λ (e : ℤ). pow2Scaled (largest P y i) (negℤ e)) (exps-at P n y i b) ∙ column i b .same (largest-moved r i b) (le-refl (mag (largest P x i))) ∙ sym (ap (λ (e : ℤ). pow2Scaled (largest P x i) (negℤ e)) (exps-at P n x i b))
+      ap (λ (e : ℤ). pow2Scaled (largest P y i) (negℤ e)) (exponent-at P n y i b) ∙ column small r i b .same (largest-moved r i b) (le-refl (mag (largest P x i))) ∙ sym (ap (λ (e : ℤ). pow2Scaled (largest P x i) (negℤ e)) (exponent-at P n x i b))
 
   pub constant-same : (m : Moments) → constantAsset n (Σ n m) (sizeOf P n y) ≡ constantAsset n (Σ n m) (sizeOf P n x)
   unfolding constantAsset
   constant-same m = first-ext n (λ i. le (sqrt (Σ n m i i)) (1e-10 ⊗ sizeOf P n y i)) (λ i. le (sqrt (Σ n m i i)) (1e-10 ⊗ sizeOf P n x i)) (λ i l. ap (λ (s : Float). le (sqrt (Σ n m i i)) (1e-10 ⊗ s)) (size-same i l))
 
   abbrev u : Matrix
-  u = scaled (exps P n x) x
+  u = scaled (exponentsOf P n x) x
 
-  entry-is : (t i : ℕ) → t < P → i < n → scaled (exps P n x) x t i ≡ pow2Scaled (x t i) (negℤ (binaryExponent (largest P x i)))
+  entry-is : (t i : ℕ) → t < P → i < n → scaled (exponentsOf P n x) x t i ≡ pow2Scaled (x t i) (negℤ (binaryExponent (largest P x i)))
   unfolding scaled
-  entry-is t i a b = ap (λ (e : ℤ). pow2Scaled (x t i) (negℤ e)) (exps-at P n x i b)
+  entry-is t i a b = ap (λ (e : ℤ). pow2Scaled (x t i) (negℤ e)) (exponent-at P n x i b)
 
   -- below 2 in size
-  units : Returns 0 n P unitGrain unitGrain 1075 (scaled (exps P n x) x) (scaled (exps P n x) x)
-  units = entries-as r (λ t i a b. still unitGrain 1075 (subst (Range unitGrain (2 ^ unitGrain) (2 ^ 1075)) (sym (entry-is t i a b)) (column i b .moved (r .entries t i a b) (largest-above r t i a b) .range)))
+  units : Returns 0 n P unitGrain unitGrain 1075 (scaled (exponentsOf P n x) x) (scaled (exponentsOf P n x) x)
+  units = entries-as r (λ t i a b. still unitGrain 1075 (subst (Range unitGrain (2 ^ unitGrain) (2 ^ 1075)) (sym (entry-is t i a b)) (column small r i b .moved (r .entries t i a b) (largest-above r t i a b) .range)))
 
   abbrev m : Moments
   m = found P n x
 
   pub μ-range : (i : ℕ) → i < n → Range 878 (2 ^ 930) (2 ^ 1087) (nth (found P n x .mean) i)
-  unfolding moments
-  μ-range i a = rw (nth-tab n (mean P u) i nan a) (mean-moved units 878 (lit≤ tt) (lit≤ tt) i a .range)
+  μ-range i a = means-moved units zero-le i a .range
 
-  variance-is : (i : ℕ) → i < n → Σ n (found P n x) i i ≡ covariance P (scaled (exps P n x) x) i i
+  variance-is : (i : ℕ) → i < n → Σ n (found P n x) i i ≡ covariance P (scaled (exponentsOf P n x) x) i i
   unfolding moments
   variance-is i a = rows-at (covariance P u) n n i i a a
 
@@ -128,10 +117,10 @@ module _ {k n P : ℕ} {x y : Matrix} (small : k ≤ maxPower) (r : Returns k n 
     A-range = largest-moved r i a .range
 
     size-range : Range unitGrain (2 ^ unitGrain) (2 ^ 1075) (sizeOf P n x i)
-    size-range = rw (exps-at P n x i a) (column i a .moved (largest-moved r i a) (le-refl (mag A)) .range)
+    size-range = rw (exponent-at P n x i a) (column small r i a .moved (largest-moved r i a) (le-refl (mag A)) .range)
 
     size-plus : sign (sizeOf P n x i) ≡ false
-    size-plus = sign-scaled A (negℤ (exps P n x i)) (sign-largest P x i)
+    size-plus = sign-scaled A (negℤ (exponentsOf P n x i)) (sign-largest P x i)
 
     tolerance-range : Range 856 (2 ^ 908) (2 ^ 1042) (1e-10 ⊗ sizeOf P n x i)
     tolerance-range = moved-mul tenth-moved (still unitGrain 1075 size-range) 856 908 1042 (lit≤ tt) (lit≤ tt) (lit≤ tt) (lit≤ tt) .range
@@ -139,7 +128,7 @@ module _ {k n P : ℕ} {x y : Matrix} (small : k ≤ maxPower) (r : Returns k n 
     v-above : 0 < mag (sqrt (Σ n (found P n x) i i))
     v-above = above-zero (Σ n m i i) (sizeOf P n x i) (v-range i a) tolerance-range (variance-plus i a) size-plus h
 
-    -- the column is not zero: zeros would be their own doubles, and so would their deviation
+    -- the column is not zero: zeros would be their own doubles, and so would their volatility
     pub not-zero : 0 < mag (largest P x i)
     not-zero = elim (eq-zero-or-pos (mag A)) [ inr p ↦ p | inl z ↦ absurd (zeros z) ]
       where
@@ -148,7 +137,7 @@ module _ {k n P : ℕ} {x y : Matrix} (small : k ≤ maxPower) (r : Returns k n 
         alone (suc zero) b l e = refl
         alone (suc (suc s)) b l e = absurd (omega arith)
 
-        same-column : covariance P (λ t j. scaled (exps P n x) x t i) i i ≡ shift (pos 2) (covariance P (λ t j. scaled (exps P n x) x t i) i i) → covariance P (scaled (exps P n x) x) i i ≡ shift (pos 2) (covariance P (scaled (exps P n x) x) i i)
+        same-column : covariance P (λ t j. scaled (exponentsOf P n x) x t i) i i ≡ shift (pos 2) (covariance P (λ t j. scaled (exponentsOf P n x) x t i) i i) → covariance P (scaled (exponentsOf P n x) x) i i ≡ shift (pos 2) (covariance P (scaled (exponentsOf P n x) x) i i)
         same-column e = unfold covariance gram deviation mean in e
 
         vanish : (a : ℕ) → a ≡ a * 2 → a ≤ 0
@@ -160,7 +149,7 @@ module _ {k n P : ℕ} {x y : Matrix} (small : k ≤ maxPower) (r : Returns k n 
             let s : Scaling 1 returnGrain returnLeast returnMost (largest P x i) (largest P x i) = scaling (doubled A A-range z) (lit≤ tt) (lit≤ tt) (lit≤ tt) (lit≤ tt) (lit≤ tt) (lit≤ tt) (lit≤ tt) in
             let one-still : s .still ≡ 1 = alone (s .still) (binaryExponent A) (s .few) (s .exponent) in
             let null : (t : ℕ) → t < P → mag (x t i) ≡ 0 = λ t l. le-antisymm (le-trans (largest-above r t i l a) (le-of-eq z)) zero-le in
-            let w : Matrix = λ t j. scaled (exps P n x) x t i in
+            let w : Matrix = λ t j. scaled (exponentsOf P n x) x t i in
             let R : Returns 1 n P unitGrain unitGrain 1075 w w = entries-as r (λ t j l b. rw (entry-is t i l a) (subst (λ (c : ℕ). Moved c unitGrain unitGrain 1075 (pow2Scaled (x t i) (negℤ (binaryExponent (largest P x i)))) (pow2Scaled (x t i) (negℤ (binaryExponent (largest P x i))))) one-still
             (s .moved (doubled (x t i) (r .entries t i l a .range) (null t l)) (largest-above r t i l a)))) in
             let e : covariance P w i i ≡ shift (pos 2) (covariance P w i i) = covariance-moved R 878 (lit≤ tt) (lit≤ tt) 682 (lit≤ tt) 618 (lit≤ tt) 1102 (lit≤ tt) (lit≤ tt) i i a a .copy in
@@ -169,20 +158,20 @@ module _ {k n P : ℕ} {x y : Matrix} (small : k ≤ maxPower) (r : Returns k n 
             let d : mag (sqrt (Σ n m i i)) ≡ mag (sqrt (Σ n m i i)) * 2 = ap mag g ∙ mag-shift 1 (sqrt (Σ n m i i)) (v-range i a .fit) (v-range i a .finite) in
             lt-irrefl 0 (lt-of-lt-of-le v-above (vanish (mag (sqrt (Σ n m i i))) d))
 
-    pub grows : exps P n y i ≡ exps P n x i +ℤ pos k
-    grows = exps-at P n y i a ∙ ap binaryExponent (largest-moved r i a .copy) ∙ exponent-shift (pos k) A (A-range .finite) not-zero ∙ ap (λ (e : ℤ). e +ℤ pos k) (sym (exps-at P n x i a))
+    pub grows : exponentsOf P n y i ≡ exponentsOf P n x i +ℤ pos k
+    grows = exponent-at P n y i a ∙ ap binaryExponent (largest-moved r i a .copy) ∙ exponent-shift (pos k) A (A-range .finite) not-zero ∙ ap (λ (e : ℤ). e +ℤ pos k) (sym (exponent-at P n x i a))
 
-    pub exponent-small : (over (exps P n x i) ≤ returnRange) × (under (exps P n x i) ≤ suc returnRange)
-    exponent-small = rw (exps-at P n x i a) (column i a .small)
+    pub exponent-small : (over (exponentsOf P n x i) ≤ returnRange) × (under (exponentsOf P n x i) ≤ suc returnRange)
+    exponent-small = rw (exponent-at P n x i a) (column small r i a .small)
 
     -- at least 2 ^ -34: the tolerance of a column whose largest is at least 1
     v-least : 2 ^ 1040 ≤ mag (sqrt (Σ n (found P n x) i i))
     v-least =
         let t = 1e-10 ⊗ sizeOf P n x i in
-        let one : 2 ^ 1074 ≤ mag (sizeOf P n x i) = rw (exps-at P n x i a) (scaled-least returnLeast returnMost A A-range not-zero (lit≤ tt) (lit≤ tt) (lit≤ tt)) in
+        let one : 2 ^ 1074 ≤ mag (sizeOf P n x i) = rw (exponent-at P n x i a) (scaled-least returnLeast returnMost A A-range not-zero (lit≤ tt) (lit≤ tt) (lit≤ tt)) in
         let least : 2 ^ 1040 ≤ mag t = rw (product-is 1e-10 (sizeOf P n x i) (tenth-moved .range .fit) (size-range .fit) (tolerance-range .finite))
         (near-least (mag 1e-10 * mag (sizeOf P n x i)) U (2 ^ 1040) U-pos (held-pow 1040) (le-trans (le-of-eq (ap (λ (z : ℕ). 2 ^ 1040 * z) U-is)) (mul-le-mul (tenth-moved .range .least tenth-above) one))) in
-        le-of-lt (lt-of-le-of-lt least (le-no (sqrt (Σ n m i i)) t (plus-val (v-range i a) (sign-sqrt (Σ n m i i) (variance-plus i a))) (plus-val tolerance-range (sign-mul 1e-10 (sizeOf P n x i) (unfold sign ofBits in sym size-plus))) h))
+        le-of-lt (lt-of-le-of-lt least (le-no (sqrt (Σ n m i i)) t (plus-val (sqrt (Σ n m i i)) (v-range i a .fit) (v-range i a .finite) (sign-sqrt (Σ n m i i) (variance-plus i a))) (plus-val t (tolerance-range .fit) (tolerance-range .finite) (sign-mul 1e-10 (sizeOf P n x i) (unfold sign ofBits in sym size-plus))) h))
 
     pub v-moved : Moved 0 988 1040 1094 (sqrt (Σ n (found P n x) i i)) (sqrt (Σ n (found P n x) i i))
     v-moved = still 1040 1094 (range-size 988 (2 ^ 1094) (sqrt (Σ n m i i)) (v-range i a .fit) (v-range i a .finite) (inr v-least) (v-range i a .most))

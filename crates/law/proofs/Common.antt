@@ -15,7 +15,7 @@ use Rattle.leaves.specs.Loops.{loop}
 use Rattle.leaves.specs.Scaling.{binaryExponent}
 use Rattle.leaves.proofs.Whole.{over, under, plus, same, over-neg, under-neg, lt-yes, lt-no}
 use Rattle.leaves.proofs.Zero.{no}
-use Rattle.estimators.specs.BayesStein.{largerZ, orZero, commonExponent}
+use Rattle.estimators.specs.BayesStein.{largerZ, orZero, commonExponent, withExponent}
 
 abbrev pub LeZ : ℤ → ℤ → Type 0
 LeZ a b = over a + under b ≤ over b + under a
@@ -24,14 +24,13 @@ module _ (m : ℕ → Float) (k : ℕ → ℤ) where
   abbrev pub exponent : ℕ → ℤ
   exponent i = binaryExponent (m i) +ℤ k i
 
-  step : ℕ → Option ℤ → Option ℤ
-  step i found = elim (eq (m i) zero⁺) [ true ↦ found | false ↦ largerZ found (binaryExponent (m i) +ℤ k i) ]
+  abbrev step : ℕ → Option ℤ → Option ℤ
+  step i found = withExponent found (m i) (k i)
 
   -- after n numbers: all were zero, or o is the exponent of one, and none is larger
   record Top (n : ℕ) (o : ℤ) : Type 0 where
     at : ℕ
     below : at < n
-    some-there : eq (m at) zero⁺ ≡ false
     is : o ≡ binaryExponent (m at) +ℤ k at
     largest : (i : ℕ) → i < n → eq (m i) zero⁺ ≡ false → LeZ (binaryExponent (m i) +ℤ k i) o
 
@@ -44,7 +43,6 @@ module _ (m : ℕ → Float) (k : ℕ → ℤ) where
   stays n o r h = record {
     at = r .at;
     below = lt-trans (r .below) (lt-suc-self n);
-    some-there = r .some-there;
     is = r .is;
     largest = λ i l z. elim (eq-or-lt-of-le (le-of-suc-le-suc l)) [ inl q ↦ subst (λ (j : ℕ). LeZ (exponent j) o) (sym q) (h (subst (λ (j : ℕ). eq (m j) zero⁺ ≡ false) q z)) | inr q ↦ r .largest i q z ];
   }
@@ -53,7 +51,6 @@ module _ (m : ℕ → Float) (k : ℕ → ℤ) where
   rises n e h = record {
     at = n;
     below = lt-suc-self n;
-    some-there = e;
     is = refl;
     largest = λ i l z. elim (eq-or-lt-of-le (le-of-suc-le-suc l)) [ inl q ↦ subst (λ (j : ℕ). LeZ (exponent j) (exponent n)) (sym q) (le-refl (over (exponent n) + under (exponent n))) | inr q ↦ h i q z ];
   }
@@ -69,13 +66,13 @@ module _ (m : ℕ → Float) (k : ℕ → ℤ) where
       go false h = stays n o r (λ z. lt-no o (exponent n) h)
 
   reached : (n : ℕ) → Reached n (loop n step none)
-  unfolding loop step
+  unfolding loop
   reached zero = λ i l. absurd (not-suc-le-zero l)
   reached (suc n) = next n (loop n step none) (reached n) (eq (m n) zero⁺) refl
 
   -- what holds of 0 and of every exponent holds of the common one
   pub common-in : (P : ℤ → Type 0) (n : ℕ) → P (pos 0) → ((i : ℕ) → i < n → P (binaryExponent (m i) +ℤ k i)) → P (commonExponent n m k)
-  unfolding commonExponent step
+  unfolding commonExponent
   common-in P n z h = go (loop n step none) (reached n)
     where
       go : (o : Option ℤ) → Reached n o → P (orZero o)
@@ -83,7 +80,7 @@ module _ (m : ℕ → Float) (k : ℕ → ℤ) where
       go (some o) r = subst P (sym (r .is)) (h (r .at) (r .below))
 
   pub common-above : (n i : ℕ) → i < n → eq (m i) zero⁺ ≡ false → LeZ (binaryExponent (m i) +ℤ k i) (commonExponent n m k)
-  unfolding commonExponent step
+  unfolding commonExponent
   common-above n i l z = go (loop n step none) (reached n)
     where
       go : (o : Option ℤ) → Reached n o → LeZ (binaryExponent (m i) +ℤ k i) (orZero o)
@@ -91,7 +88,7 @@ module _ (m : ℕ → Float) (k : ℕ → ℤ) where
       go (some o) r = r .largest i l z
 
   common-at : (n : ℕ) → 0 < n → ((i : ℕ) → i < n → eq (m i) zero⁺ ≡ false) → (i : ℕ) × (i < n) × (commonExponent n m k ≡ binaryExponent (m i) +ℤ k i)
-  unfolding commonExponent step
+  unfolding commonExponent
   common-at n p z = go (loop n step none) (reached n)
     where
       go : (o : Option ℤ) → Reached n o → (i : ℕ) × (i < n) × (orZero o ≡ binaryExponent (m i) +ℤ k i)

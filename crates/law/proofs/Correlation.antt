@@ -1,12 +1,13 @@
--- The constant-correlation target of a covariance s whose variances are above zero, and of its copy s', each entry 4 ^ k times as large: deviations are 2 ^ k times as large and correlations the same.
+-- The constant-correlation target of a covariance s whose variances are above zero, and of its copy s', each entry 4 ^ k times as large: volatilities are 2 ^ k times as large and correlations the same.
 -- Products are in the normal range all the way, so nothing rounds differently. Assumes nothing.
-use mathlib.Core.Path.{_≡_, refl, sym, subst}
-use Prim.Native.Nat.{ℕ, zero, suc, _+_, _-_, _*_, _^_, _≤_, _<_, zero-le}
-use native.Mathlib.Nat.{le-trans, sub-le, lt-of-le-of-lt, zero-add, mul-pos, not-suc-le-zero}
+use mathlib.Core.Path.{_≡_, refl, sym}
+use Prim.Native.Nat.{ℕ, _+_, _-_, _*_, _^_, _≤_, _<_, zero-le}
+use native.Mathlib.Nat.{le-trans, sub-le, lt-of-le-of-lt, zero-add, mul-pos}
 use native.Mathlib.Omega.{arith}
 use mathlib.Core.Bool.{Bool, true, false, cond}
-use lib.Dec.{T, eqb, eqb-refl, lit≤}
+use lib.Dec.{T, eqb, lit≤}
 use lib.Ieee.{Float, le, ofBits}
+use borrow.Author.Tests.{eqb-false}
 use Rattle.leaves.specs.Numbers.{_⊗_, _⊘_, 1e-10, count}
 use Rattle.leaves.specs.Root.{sqrt}
 use Rattle.leaves.proofs.Units.{sign, mag}
@@ -22,7 +23,7 @@ use Rattle.matrix.specs.Limits.{maxSide}
 use Rattle.law.specs.Law.{maxPower}
 use Rattle.law.proofs.Bits.{cellBits, cell-bits}
 use Rattle.law.proofs.Sizes.{plus-val, le-no}
-use Rattle.law.proofs.Sample.{count-moved}
+use Rattle.law.proofs.Sample.{count-moved, Sampled}
 use Rattle.law.proofs.Matrices.{over-moved}
 
 -- ---- signs
@@ -36,20 +37,23 @@ pub sign-largest : (T : ℕ) (x : Matrix) (i : ℕ) → sign (largest T x i) ≡
 unfolding largest sign
 sign-largest T x i = amax-one (λ z. sign z ≡ false) T (λ t. x t i) refl (λ t l. sign-abs (x t i))
 
--- a deviation above the tolerance is not zero
+-- a volatility above the tolerance is not zero
 pub above-zero : {g L B g' L' B' : ℕ} (v a : Float) → Range g L B (sqrt v) → Range g' L' B' (1e-10 ⊗ a) → sign v ≡ false → sign a ≡ false → le (sqrt v) (1e-10 ⊗ a) ≡ false → 0 < mag (sqrt v)
-above-zero v a p q sv sa h = lt-of-le-of-lt zero-le (le-no (sqrt v) (1e-10 ⊗ a) (plus-val p (sign-sqrt v sv)) (plus-val q (sign-mul 1e-10 a (unfold sign ofBits in sym sa))) h)
+above-zero v a p q sv sa h = lt-of-le-of-lt zero-le (le-no (sqrt v) (1e-10 ⊗ a) (plus-val (sqrt v) (p .fit) (p .finite) (sign-sqrt v sv)) (plus-val (1e-10 ⊗ a) (q .fit) (q .finite) (sign-mul 1e-10 a (unfold sign ofBits in sym sa))) h)
 
 -- ---- the target
-module _ (k n : ℕ) (small : k ≤ maxPower) (assets : 0 < n) (few : n ≤ maxSide) (s s' : Matrix) (each : (i j : ℕ) → i < n → j < n → Moved (k + k) 698 750 1192 (s i j) (s' i j))
+abbrev pub Targeted : ℕ → Float → Float → Type 0
+Targeted k x x' = Moved k 194 246 1644 x x'
+
+module _ (k n : ℕ) (small : k ≤ maxPower) (assets : 0 < n) (few : n ≤ maxSide) (s s' : Matrix) (each : (i j : ℕ) → i < n → j < n → Sampled (k + k) (s i j) (s' i j))
     (plus : (i : ℕ) → i < n → sign (s i i) ≡ false) (above : (i : ℕ) → i < n → 0 < mag (sqrt (s i i))) where
-  deviation-moved : (i : ℕ) → i < n → Moved k 860 912 1133 (sqrt (s i i)) (sqrt (s' i i))
-  deviation-moved i a = moved-sqrt (each i i a a) (sign-not-below (s i i) (plus i a)) 860 1133 (lit≤ tt) (lit≤ tt)
+  volatility-moved : (i : ℕ) → i < n → Moved k 860 912 1133 (sqrt (s i i)) (sqrt (s' i i))
+  volatility-moved i a = moved-sqrt (each i i a a) (sign-not-below (s i i) (plus i a)) 860 1133 (lit≤ tt) (lit≤ tt)
 
   correlation-moved : (i j : ℕ) → i < n → j < n → Moved 0 580 632 1516 (s i j ⊘ sqrt (s i i) ⊘ sqrt (s j j)) (s' i j ⊘ sqrt (s' i i) ⊘ sqrt (s' j j))
   correlation-moved i j a b =
-      let once = moved-div {i = k} {j = k} (each i j a b) (deviation-moved i a) (above i a) 639 1354 (lit≤ tt) (lit≤ tt) (omega arith) in
-      moved-div {i = 0} {j = k} (rw (sym (zero-add k)) at once) (deviation-moved j b) (above j b) 580 1516 (lit≤ tt) (lit≤ tt) (lit≤ tt)
+      let once = moved-div {i = k} {j = k} (each i j a b) (volatility-moved i a) (above i a) 639 1354 (lit≤ tt) (lit≤ tt) (omega arith) in
+      moved-div {i = 0} {j = k} (rw (sym (zero-add k)) at once) (volatility-moved j b) (above j b) 580 1516 (lit≤ tt) (lit≤ tt) (lit≤ tt)
 
   average-moved : 2 ≤ n → Moved 0 518 570 1526 (averageCorrelation n s) (averageCorrelation n s')
   unfolding averageCorrelation
@@ -58,18 +62,13 @@ module _ (k n : ℕ) (small : k ≤ maxPower) (assets : 0 < n) (few : n ≤ maxS
       moved-over (over-moved n apart (correlation s) (correlation s') few (lit≤ tt) correlation-moved)
       (count-moved cellBits (n * (n - 1)) (lit≤ tt) pairs) (count-pos (n * (n - 1)) (mul-pos assets (omega arith)) (le-trans pairs (lit≤ tt))) 518 1526 (lit≤ tt) (lit≤ tt) (lit≤ tt)
 
-  pub target-moved : (i j : ℕ) → i < n → j < n → Moved (k + k) 194 246 1644 (constantCorrelation n s i j) (constantCorrelation n s' i j)
+  pub target-moved : (i j : ℕ) → i < n → j < n → Targeted (k + k) (constantCorrelation n s i j) (constantCorrelation n s' i j)
   unfolding constantCorrelation
   target-moved i j a b = go (eqb i j) refl
     where
-      two : (i j n : ℕ) → i < n → j < n → eqb i j ≡ false → 2 ≤ n
-      two i j zero a b e = absurd (not-suc-le-zero a)
-      two zero zero (suc n) a b e = absurd (subst T e (eqb-refl 0))
-      two zero (suc j) (suc n) a b e = omega arith
-      two (suc i) j (suc n) a b e = omega arith
-
-      go : (c : Bool) → eqb i j ≡ c → Moved (k + k) 194 246 1644 (cond c (s i i) (averageCorrelation n s ⊗ volatility s i ⊗ volatility s j)) (cond c (s' i i) (averageCorrelation n s' ⊗ volatility s' i ⊗ volatility s' j))
+      go : (c : Bool) → eqb i j ≡ c → Targeted (k + k) (cond c (s i i) (averageCorrelation n s ⊗ volatility s i ⊗ volatility s j)) (cond c (s' i i) (averageCorrelation n s' ⊗ volatility s' i ⊗ volatility s' j))
       go true e = moved-weaken 194 246 1644 (lit≤ tt) (lit≤ tt) (lit≤ tt) (each i i a a)
       go false e =
-          let once = rw (zero-add k) at (moved-mul-normal (average-moved (two i j n a b e)) (deviation-moved i a) 356 1585 (lit≤ tt) (lit≤ tt) (omega arith)) in
-          moved-mul-normal once (deviation-moved j b) 194 1644 (lit≤ tt) (lit≤ tt) (omega arith)
+          let q = eqb-false i j e in
+          let once = rw (zero-add k) at (moved-mul-normal (average-moved (omega arith)) (volatility-moved i a) 356 1585 (lit≤ tt) (lit≤ tt) (omega arith)) in
+          moved-mul-normal once (volatility-moved j b) 194 1644 (lit≤ tt) (lit≤ tt) (omega arith)

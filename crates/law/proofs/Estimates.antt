@@ -17,7 +17,6 @@ use Rattle.leaves.specs.Shift.{shift}
 use Rattle.leaves.proofs.Loops.{first-ext}
 use Rattle.leaves.proofs.Shift.{isFinite-shift, eq-shift, shift-zero⁺}
 use Rattle.leaves.proofs.Zero.{no}
-use Rattle.leaves.proofs.Operations.{moved-weaken}
 use Rattle.matrix.specs.Matrix.{Matrix, at}
 use Rattle.estimators.specs.Refusals.{passes, when, whenSome}
 use Rattle.estimators.specs.Sample.{covariance, largest, constantAsset}
@@ -36,11 +35,11 @@ use Rattle.law.proofs.Bits.{returnGrain, returnLeast, returnMost}
 use Rattle.law.proofs.Numbers.{copy-shift}
 use Rattle.law.proofs.Chain.{Chain, ends, pass-must}
 use Rattle.law.proofs.Sizes.{sized-fits}
-use Rattle.law.proofs.Sample.{Returns, semicovariance-moved, semicovarianceBelow-moved, constant-same}
-use Rattle.law.proofs.Opening.{Shape, sized-moved, returns, sample-moved}
+use Rattle.law.proofs.Sample.{Returns, constant-same}
+use Rattle.law.proofs.Opening.{Shape, returns, sample-moved, semi-moved, semiBelow-moved}
 use Rattle.law.proofs.Weighted as Weighted
 use Rattle.law.proofs.Given.{average, average-moved, decomposition-same, given-chain}
-use Rattle.law.proofs.Shrinkage.{Estimated}
+use Rattle.law.proofs.Shrinkage.{Estimated, estimated}
 
 pub record Based (k n P side : ℕ) (E E' : Estimate) (x y G G' : Matrix) : Type 0 where
   pub bad : badEstimate E' ≡ badEstimate E
@@ -66,25 +65,11 @@ module _ (k : ℕ) (small : k ≤ maxPower) (r : List Float) (sizes : All (Sized
 
   from-sample : Based k n P side Sample Sample (at r n) (at (map (shift (pos k)) r) n) G G'
   unfolding badEstimate base noVariance
-  from-sample = record {
-    bad = refl;
-    sample = refl;
-    given = refl;
-    entries = λ e e' i j a b. moved-weaken 154 154 1522 (lit≤ tt) (lit≤ tt) (lit≤ tt) (sample-moved k small r sizes n P s i j a b);
-    variance = varies;
-    sampled = λ e i j. (refl, refl);
-  }
+  from-sample = record { bad = refl; sample = refl; given = refl; entries = λ e e' i j a b. estimated (lit≤ tt) (lit≤ tt) (lit≤ tt) (sample-moved k small r sizes n P s i j a b); variance = varies; sampled = λ e i j. (refl, refl) }
 
   from-semi : Based k n P side Semi Semi (at r n) (at (map (shift (pos k)) r) n) G G'
   unfolding badEstimate base noVariance
-  from-semi = record {
-    bad = refl;
-    sample = refl;
-    given = refl;
-    entries = λ e e' i j a b. moved-weaken 154 154 1522 (lit≤ tt) (lit≤ tt) (lit≤ tt) (semicovariance-moved R 918 (lit≤ tt) (omega arith) 762 (lit≤ tt) 698 (lit≤ tt) 1180 (lit≤ tt) (omega arith) i j a b);
-    variance = varies;
-    sampled = λ e. no e refl;
-  }
+  from-semi = record { bad = refl; sample = refl; given = refl; entries = λ e e' i j a b. estimated (lit≤ tt) (lit≤ tt) (lit≤ tt) (semi-moved k small r sizes n P s i j a b); variance = varies; sampled = λ e. no e refl }
 
   from-threshold : (θ θ' : Float) → Sized returnRange θ → θ' ≡ shift (pos k) θ → Based k n P side (SemiBelow θ) (SemiBelow θ') (at r n) (at (map (shift (pos k)) r) n) G G'
   unfolding badEstimate base noVariance
@@ -92,21 +77,14 @@ module _ (k : ℕ) (small : k ≤ maxPower) (r : List Float) (sizes : All (Sized
     bad = ap (λ (b : Bool). when (not b) (BadSetting ThresholdField)) (ap isFinite e ∙ isFinite-shift (pos k) θ);
     sample = refl;
     given = refl;
-    entries = λ q q' i j a b. moved-weaken 154 154 1522 (lit≤ tt) (lit≤ tt) (lit≤ tt) (semicovarianceBelow-moved R 918 (lit≤ tt) (omega arith) 762 (lit≤ tt) 698 (lit≤ tt) 1180 (lit≤ tt) (omega arith) (sized-moved k returnRange (lit≤ tt) θ θ' z e) i j a b);
+    entries = λ q q' i j a b. estimated (lit≤ tt) (lit≤ tt) (lit≤ tt) (semiBelow-moved k small r sizes n P θ θ' z e s i j a b);
     variance = varies;
     sampled = λ e. no e refl;
   }
 
   from-weights : (h : Float) → EstimateInRange P (Weighted h) → Based k n P side (Weighted h) (Weighted h) (at r n) (at (map (shift (pos k)) r) n) G G'
   unfolding badEstimate badHalfLife base noVariance
-  from-weights h long = record {
-    bad = refl;
-    sample = refl;
-    given = refl;
-    entries = λ q q' i j a b. Weighted.covariance-moved small R h long (pass-must (accepted (logDecay h)) (BadSetting HalfLifeField) q) i j a b;
-    variance = varies;
-    sampled = λ e. no e refl;
-  }
+  from-weights h long = record { bad = refl; sample = refl; given = refl; entries = λ q q' i j a b. Weighted.covariance-moved small R h long (pass-must (accepted (logDecay h)) (BadSetting HalfLifeField) q) i j a b; variance = varies; sampled = λ e. no e refl }
 
 -- a given matrix, where its slice has the right length
 module _ (k : ℕ) (small : k ≤ maxPower) (n P side : ℕ) (x y : Matrix) (g : List Float) (sizes : All (Sized covarianceRange) g) (full : length g ≡ side * side) where
@@ -118,7 +96,7 @@ module _ (k : ℕ) (small : k ≤ maxPower) (n P side : ℕ) (x y : Matrix) (g :
     given = refl;
     entries = λ q q' i j a b.
         let e : side ≡ n = eqb-true side n (not-false (eqb side n) q') in
-        moved-weaken 154 154 1522 (lit≤ tt) (lit≤ tt) (lit≤ tt) (average-moved (k + k) (omega arith) side 0 g sizes full i j (lt-of-lt-of-le a (le-of-eq (sym e))) (lt-of-lt-of-le b (le-of-eq (sym e))));
+        estimated (lit≤ tt) (lit≤ tt) (lit≤ tt) (average-moved (k + k) (omega arith) side 0 g sizes full i j (lt-of-lt-of-le a (le-of-eq (sym e))) (lt-of-lt-of-le b (le-of-eq (sym e))));
     variance = λ b b' e. ap (λ (o : Option ℕ). whenSome o ZeroVariance) (first-ext n (λ i. eq (b' i i) zero⁺) (λ i. eq (b i i) zero⁺) (λ i l. ap₂ eq (e i l) (sym (shift-zero⁺ (pos (k + k)))) ∙ eq-shift (pos (k + k)) (b i i) zero⁺));
     sampled = λ e. no e refl;
   }

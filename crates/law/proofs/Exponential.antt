@@ -4,7 +4,7 @@
 use mathlib.Core.Path.{_≡_, refl, sym, ap, ap₂, _∙_, subst, subst₂}
 use mathlib.Core.Logic.{_⊎_, inl, inr}
 use Prim.Native.Nat.{ℕ, zero, suc, _+_, _-_, _*_, _/_, _^_, _≤_, _<_, zero-le}
-use native.Mathlib.Nat.{le-refl, le-trans, le-of-eq, le-of-lt, le-of-suc-le-suc, lt-of-le-of-lt, mul-le-mul, mul-le-mul-left, mul-le-mul-right, mul-pos, mul-assoc, mul-right-comm, mul-one, one-mul, zero-mul, eq-zero-or-pos, le-of-mul-le-mul-right, lt-of-mul-lt-mul-right, zero-lt-suc, div-add-mod', mod-lt, div-eq-of-lt}
+use native.Mathlib.Nat.{le-refl, le-trans, le-of-eq, le-of-lt, le-of-suc-le-suc, lt-of-le-of-lt, mul-le-mul, mul-le-mul-left, mul-le-mul-right, mul-pos, mul-assoc, mul-right-comm, mul-one, zero-mul, eq-zero-or-pos, le-of-mul-le-mul-right, lt-of-mul-lt-mul-right, zero-lt-suc, div-add-mod', mod-lt, div-eq-of-lt, lt-of-lt-of-le}
 use native.Mathlib.Omega.{arith}
 use mathlib.Core.Bool.{Bool, true, false, not, cond, _&&_, _||_, or-true}
 use lib.Dec.{T, ltb, eqb, lit≤, lit<}
@@ -13,19 +13,21 @@ use lib.Pow.{pow-add, pow-pos, pow-mono}
 use lib.Ieee.{Float, nan, inf, fin, binary64, fits, up, down, unlike, ofInt, ofBits, lt, le, sub, neg}
 use lib.Ieee.Back.{round-whole}
 use lib.Ieee.Fits.{down-pos, add-fits, mul-fits}
+use lib.Ieee.Positive.{first-pos}
 use borrow.Author.Tests.{lt-ltb, le-ltb, eq-eqb}
 use Rattle.leaves.specs.Numbers.{_⊕_, _⊖_, _⊗_, _⊘_, zero⁺, half, one, count, isFinite}
 use Rattle.leaves.specs.Scaling.{pow2Scaled}
 use Rattle.leaves.specs.Shift.{shift}
-use Rattle.leaves.specs.Exp.{ln2, H, L, floor, horner, nearestPower, reduced, exp, expM1}
+use Rattle.leaves.specs.Exp.{minArgument, ln2, H, L, floor, horner, nearestPower, reduced, exp, expM1}
 use Rattle.leaves.proofs.Whole.{le-or-lt, over, under, over-neg, under-neg}
 use Rattle.leaves.proofs.Rounding.{near, Held, Near, near-most, near-least, near-error, near-held, held-times}
-use Rattle.leaves.proofs.Units.{U, U-pos, Top, Val, sign, mag, val-of, val-mag, val-finite, mag-val, mag-shift, zero-val, neg-val, rounded, rounded-val, lt-val, eq-val}
+use Rattle.leaves.proofs.Units.{U, U-pos, Top, Val, sign, mag, val-of, val-mag, val-finite, mag-shift, zero-val, neg-val, rounded, rounded-val, lt-val, eq-val, one-val}
 use Rattle.leaves.proofs.Arithmetic.{sumSign, total, total-le, add-rounded, mul-rounded, div-rounded}
 use Rattle.leaves.proofs.Range.{Range, count-val, range-size, range-finer, range-weaken}
 use Rattle.leaves.proofs.Shift.{shift-forth}
 use Rattle.leaves.proofs.Signs.{sign-shift}
 use Rattle.leaves.proofs.PowersOfTwo.{range-move, scaled-moves}
+use Rattle.law.proofs.Sizes.{plus-val}
 
 -- ---- 1/32
 unfoldable pub W : ℕ
@@ -63,8 +65,12 @@ module _ (c : ℕ) (few : c ≤ 8192) (x y : Float) (s t : Bool) (a b : ℕ) (v 
   pub add-most : total s a t b ≤ c * W → Val (x ⊕ y) (sumSign s a t b) (near (total s a t b) 1) × (near (total s a t b) 1 ≤ c * W)
   add-most h = within c few (x ⊕ y) (sumSign s a t b) (total s a t b) 1 (zero-lt-suc 0) (add-rounded x y s t a b v w) (le-trans h (le-of-eq (sym (mul-one (c * W)))))
 
-one-val : Val one false (32 * W)
-one-val = subst (Val one false) U-W (refl, ap (λ (z : ℕ). z * U) (one-mul 1) ∙ one-mul U ∙ sym (mul-one U))
+half-val : Val half false (16 * W)
+unfolding U W
+half-val = (refl, refl)
+
+one-W : Val one false (32 * W)
+one-W = subst (Val one false) U-W one-val
 
 -- 1 + t, for a t of c / 32 at most
 pub one-plus : (c : ℕ) → c ≤ 31 → (x : Float) (t : Bool) (b : ℕ) → Val x t b → b ≤ c * W → (d : ℕ) × Val (one ⊕ x) false d × ((32 - c) * W ≤ d) × (d ≤ (32 + c) * W)
@@ -81,10 +87,10 @@ one-plus c few x t b v h = go t v
 
     go : (t : Bool) → Val x t b → (d : ℕ) × Val (one ⊕ x) false d × ((32 - c) * W ≤ d) × (d ≤ (32 + c) * W)
     go false v =
-        let q = add-most (32 + c) (omega arith) one x false false (32 * W) b one-val v (omega (arith, less, more)) in
+        let q = add-most (32 + c) (omega arith) one x false false (32 * W) b one-W v (omega (arith, less, more)) in
         (near (32 * W + b) 1, q .0, least (32 * W + b) (omega (arith, less, more)), q .1)
     go true v =
-        let q = add-most (32 + c) (omega arith) one x false true (32 * W) b one-val v (omega (arith, less, more)) in
+        let q = add-most (32 + c) (omega arith) one x false true (32 * W) b one-W v (omega (arith, less, more)) in
         let n = 32 * W - b + (b - 32 * W) in
         let i : ltb (32 * W) b ≡ false = le-ltb (32 * W) b (omega (arith, less, more)) in
         (near n 1, subst (λ (s : Bool). Val (one ⊕ x) s (near n 1)) (ap (λ (z : Bool). cond z true false) i) (q .0), least n (omega (arith, less, more)), q .1)
@@ -228,10 +234,6 @@ module _ (y : Float) (Y : ℕ) (v : Val y true Y) (few : Y ≤ 96 * (32 * W)) wh
   unfolding Z
   Z-below = cancel-below Y (near (Y * U) N) N U U-pos (N-is .1) (near-below (near (Y * U) N) (Y * U) N (near-error (Y * U) N N-pos))
 
-  half-val : Val half false (16 * W)
-  unfolding U W
-  half-val = (refl, refl)
-
   quotient : Val (y ⊘ ln2) true Z
   unfolding Z
   quotient = div-most 8192 (lit≤ tt) y ln2 true false Y N v ln2-val N-pos
@@ -310,7 +312,7 @@ module _ (y : Float) (Y : ℕ) (v : Val y true Y) (few : Y ≤ 96 * (32 * W)) wh
         le-of-suc-le-suc (lt-of-mul-lt-mul-right u (let t = turns Y Z S D (K * u) u w e large z a f m in omega arith)),
         upper Y Z S D (K * u) (K * nh) u w e large z few a f m (omega arith),
         lower Y Z S D (K * u) (K * nh) u w e large z few b g l (omega arith),
-        positive K u S (omega arith) l,
+        first-pos K u (lt-of-lt-of-le (omega arith) l),
       )
         where
           upper : (Y Z S D q k u w : ℕ) → u ≡ 32 * w → 10000000 ≤ w → Z ≡ D + 16 * w → Y ≤ 96 * (32 * w) → 69314 * Z ≤ 100001 * Y + 50000 → 100000 * (S * 1) ≤ 100001 * D + 50000 * 1 → q < S + u → 100000 * k ≤ 69315 * q → k ≤ Y + 12 * w
@@ -318,10 +320,6 @@ module _ (y : Float) (Y : ℕ) (v : Val y true Y) (few : Y ≤ 96 * (32 * W)) wh
 
           lower : (Y Z S D q k u w : ℕ) → u ≡ 32 * w → 10000000 ≤ w → Z ≡ D + 16 * w → Y ≤ 96 * (32 * w) → 99999 * Y ≤ 69315 * Z + 50000 → 99999 * D ≤ 100000 * (S * 1) + 50000 * 1 → S ≤ q → 69314 * q ≤ 100000 * k → Y ≤ k + 12 * w
           lower Y Z S D q k u w e large z few b g l i = omega arith
-
-          positive : (K u S : ℕ) → 0 < S → S ≤ K * u → 0 < K
-          positive zero u S p l = absurd (omega arith)
-          positive (suc K) u S p l = omega arith
 
   power : Power y Y
   power = elim (le-or-lt Z (16 * W)) [ inl h ↦ zero-power h | inr h ↦ other-power h ]
@@ -369,6 +367,10 @@ reduced-val y Y v p =
         let q = add-most 12 (lit≤ tt) y x true false Y (p .K * NH) v w' (omega (arith, p .above, p .below)) in
         (sumSign true Y false (p .K * NH), near (Y - p .K * NH + (p .K * NH - Y)) 1, q .0, q .1)
 
+-- a weight's range: from 2 ^ -72 to 2
+abbrev pub Weight : Float → Type 0
+Weight w = Range 950 (2 ^ 1002) (2 ^ 1075) w
+
 -- ---- exp y, for y = -Y from -96 to 0: P / 2 ^ K with P from 5/16 to 27/16
 pub record Exp (y : Float) (Y : ℕ) : Type 0 where
   pub K : ℕ
@@ -379,9 +381,15 @@ pub record Exp (y : Float) (Y : ℕ) : Type 0 where
   pub most : P ≤ 54 * W
   pub fit : T (fits binary64 (exp y))
   pub finite : T (isFinite (exp y))
-  pub range : Y ≤ 48 * (32 * W) → Range 950 (2 ^ 1002) (2 ^ 1075) (exp y)
+  pub range : Y ≤ 48 * (32 * W) → Weight (exp y)
   pub plus : sign (exp y) ≡ false
   pub is : mag (exp y) * 2 ^ K ≡ P
+
+pub exp-above : {y : Float} {Y : ℕ} → Exp y Y → 0 < mag (exp y)
+exp-above {y} x = first-pos (mag (exp y)) (2 ^ (x .K)) (subst (λ (n : ℕ). 0 < n) (sym (x .is)) (lt-of-lt-of-le (mul-pos (lit< {m = 0} {n = 10} tt) W-pos) (x .least)))
+
+pub exp-val : {y : Float} {Y : ℕ} → Exp y Y → Val (exp y) false (mag (exp y))
+exp-val {y} x = plus-val (exp y) (x .fit) (x .finite) (x .plus)
 
 horner-fits : (r : Float) (d n : ℕ) (p : Float) → T (fits binary64 p) → T (fits binary64 (horner r d n p))
 unfolding horner
@@ -428,8 +436,8 @@ module _ (K : ℕ) (few : K ≤ 140) (p : Float) (P : ℕ) (fit : T (fits binary
 
 module _ (y : Float) (Y : ℕ) (v : Val y true Y) (few : Y ≤ 96 * (32 * W)) where
   -- 746 and more are not reached, and y is not above 0
-  not-less : lt y (fin true 373 (pos 1)) ≡ false
-  not-less = lt-val y (fin true 373 (pos 1)) true true Y (746 * U) v (unfold U in (refl, refl)) ∙ le-ltb (746 * U) Y (rw U-W (omega arith))
+  not-less : lt y minArgument ≡ false
+  not-less = lt-val y minArgument true true Y (746 * U) v (unfold U in (refl, refl)) ∙ le-ltb (746 * U) Y (rw U-W (omega arith))
 
   not-above : le y zero⁺ ≡ true
   unfolding le
@@ -445,7 +453,7 @@ module _ (y : Float) (Y : ℕ) (v : Val y true Y) (few : Y ≤ 96 * (32 * W)) wh
       let w = power y Y v few in
       let K = w .K in
       let q = reduced-val y Y v w in
-      let h = horner-last (reduced y (negℤ (pos K))) (q .0) (q .1) (q .2) (q .3) 13 (lit≤ tt) one (32 * W) one-val (omega arith) (omega arith) in
+      let h = horner-last (reduced y (negℤ (pos K))) (q .0) (q .1) (q .2) (q .3) 13 (lit≤ tt) one (32 * W) one-W (omega arith) (omega arith) in
       let p = horner (reduced y (negℤ (pos K))) 0 13 one in
       let fit = horner-fits (reduced y (negℤ (pos K))) 0 13 one one-fits in
       let e : exp y ≡ shift (negℤ (pos K)) p = rw (not-less, not-above) (ap (λ (k : ℤ). pow2Scaled (horner (reduced y k) 0 13 one) k) (w .is) ∙ lowered K (w .few) p (h .0) fit (h .1) (h .2) (h .3)) in
@@ -459,7 +467,7 @@ module _ (y : Float) (Y : ℕ) (v : Val y true Y) (few : Y ≤ 96 * (32 * W)) wh
         most = h .3;
         fit = subst (λ (z : Float). T (fits binary64 z)) (sym e) (R .fit);
         finite = subst (λ (z : Float). T (isFinite z)) (sym e) (R .finite);
-        range = λ l. subst (Range 950 (2 ^ 1002) (2 ^ 1075)) (sym e) (let n = w .near l in range-finer 950 (omega arith) (range-weaken (2 ^ 1002) (2 ^ 1075) (pow-mono {i = 1002} {j = 1072 - K} (omega arith)) (le-refl (2 ^ 1075)) R));
+        range = λ l. subst Weight (sym e) (let n = w .near l in range-finer 950 (omega arith) (range-weaken (2 ^ 1002) (2 ^ 1075) (pow-mono {i = 1002} {j = 1072 - K} (omega arith)) (le-refl (2 ^ 1075)) R));
         plus = ap sign e ∙ sign-shift (negℤ (pos K)) p ∙ val-mag p false (h .0) (h .1) .0;
         is = ap (λ (z : Float). mag z * 2 ^ K) e ∙ lowered-is K (w .few) p (h .0) fit (h .1) (h .2) (h .3);
       }
@@ -487,12 +495,12 @@ pub record ExpM1 (y : Float) (Y : ℕ) : Type 0 where
 
 module _ (y : Float) (Y : ℕ) (v : Val y true Y) (some : 0 < Y) (few : Y ≤ 96 * (32 * W)) where
   half-test : lt y (neg half) ≡ ltb (16 * W) Y
-  half-test = lt-val y (neg half) true true Y (16 * W) v (neg-val half false (16 * W) (half-val y Y v few))
+  half-test = lt-val y (neg half) true true Y (16 * W) v (neg-val half false (16 * W) half-val)
 
   close : Y ≤ 16 * W → ExpM1 y Y
   unfolding expM1
   close h =
-      let q = horner-within y true Y v h 0 13 (lit≤ tt) one (32 * W) one-val (omega arith) (omega arith) in
+      let q = horner-within y true Y v h 0 13 (lit≤ tt) one (32 * W) one-W (omega arith) (omega arith) in
       let p = horner y 1 13 one in
       let b = q .0 in
       let m = mul-most 4096 (lit≤ tt) y p true false Y b v (q .1) (le-trans (mul-le-mul h (q .3)) (le-trans (le-of-eq (regroup W)) (le-trans (mul-le-mul-right (32 * W) (mul-le-mul-right W (lit≤ {m = 22} {n = 4096} tt))) (le-of-eq (ap (λ (u : ℕ). 4096 * W * u) (sym U-W)))))) in
@@ -513,9 +521,8 @@ module _ (y : Float) (Y : ℕ) (v : Val y true Y) (some : 0 < Y) (few : Y ≤ 96
       let x = exp-within y Y v few in
       let e : expM1 y ≡ exp y ⊖ one = rw (half-test ∙ lt-ltb (16 * W) Y h) in
       let a = mag (exp y) in
-      let w : Val (exp y) false a = subst (λ (s : Bool). Val (exp y) s a) (x .plus) (mag-val (exp y) (x .fit) (x .finite)) in
       let b : a ≤ 27 * W = halve a (x .K) (x .P) W (x .some h) (x .is) (x .most) in
-      let q = add-most 32 (lit≤ tt) (exp y) (neg one) false true a (32 * W) w (neg-val one false (32 * W) one-val) (omega arith) in
+      let q = add-most 32 (lit≤ tt) (exp y) (neg one) false true a (32 * W) (exp-val x) (neg-val one false (32 * W) one-W) (omega arith) in
       let n = a - 32 * W + (32 * W - a) in
       let s : (cond (ltb a (32 * W)) true (false && ltb (32 * W) a)) ≡ true = rw (lt-ltb a (32 * W) (let p = W-pos in omega arith)) in
       record {

@@ -20,7 +20,7 @@ use Rattle.leaves.proofs.Arithmetic.{div-alike}
 use Rattle.leaves.proofs.Range.{sized, range-sized, count-pos}
 use Rattle.leaves.proofs.Operations.{Moved, still, moved-weaken, moved-abs, moved-add, moved-sub, moved-mul, moved-over}
 use Rattle.matrix.specs.Limits.{maxSide}
-use Rattle.matrix.specs.Matrix.{Matrix, at, amax, averaged}
+use Rattle.matrix.specs.Matrix.{Matrix, at, amax, averaged, divided}
 use Rattle.matrix.specs.Jacobi.{Decomposition, smallestValue, unturned}
 use Rattle.matrix.proofs.Alike.{first-entry-alike, decompose-alike}
 use Rattle.estimators.specs.Given.{asymmetry, indefinite, decomposeGiven, averagedOf}
@@ -79,7 +79,7 @@ module _ (k : ℕ) (small : k ≤ maxPower + maxPower) (side limit : ℕ) (g : L
         let scale = amax-moved side side x y (λ i j a b. moved-weaken 889 889 1155 (lit≤ tt) (lit≤ tt) (lit≤ tt) (average-moved i j a b)) .copy in
         ap₂ (λ (b : Bool) (d : Decomposition). elim b [ true ↦ d | false ↦ unturned side true ])
         (ap₂ lt (sym (shift-zero⁺ (pos k))) scale ∙ lt-shift (pos k) zero⁺ (amax side side x))
-        (decompose-alike limit side (λ i j. y i j ⊘ amax side side y) (λ i j. x i j ⊘ amax side side x) (λ i j a b. ap₂ _⊘_ (average-moved i j a b .copy) scale ∙ div-alike (pos k) (x i j) (amax side side x)))
+        (decompose-alike limit side (divided y (amax side side y)) (divided x (amax side side x)) (λ i j a b. ap₂ _⊘_ (average-moved i j a b .copy) scale ∙ div-alike (pos k) (x i j) (amax side side x)))
 
   pub given-chain : {P : Type 0} (S S' : Shrinkage) (H H' : Regularization) → (length g ≡ side * side → P)
       → Chain P (ofGiven (settings Given S H limit) g side (decomposeGiven limit side (average side g))) (ofGiven (settings Given S' H' limit) (map (shift (pos k)) g) side (decomposeGiven limit side (average side (map (shift (pos k)) g))))

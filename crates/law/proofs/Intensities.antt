@@ -3,7 +3,7 @@
 use mathlib.Core.Path.{_≡_, refl}
 use mathlib.Core.Logic.{_⊎_, inl, inr}
 use Prim.Native.Nat.{ℕ, _*_, _≤_}
-use mathlib.Core.Bool.{Bool, true, false, cond, _&&_, and-eq-true-iff}
+use mathlib.Core.Bool.{true, false, _&&_, and-eq-true-iff}
 use mathlib.Core.List.{List, _++_}
 use lib.Ieee.{Float, nan, inf, fin, lt, le, eq}
 use Rattle.leaves.specs.Numbers.{zero⁺, one, clamp01}
@@ -11,13 +11,13 @@ use Rattle.leaves.proofs.Signs.{sign-count}
 use Rattle.matrix.specs.Limits.{maxSide}
 use Rattle.matrix.specs.Matrix.{Matrix, at}
 use Rattle.matrix.specs.Jacobi.{Decomposition}
-use Rattle.estimators.specs.Refusals.{Check, passes, refuses, first}
+use Rattle.estimators.specs.Refusals.{passes, first}
 use Rattle.estimators.specs.Moments.{Moments, moments}
-use Rattle.estimators.specs.LedoitWolf.{intensityBy, intensityOf, ledoitWolf}
+use Rattle.estimators.specs.LedoitWolf.{ledoitWolf}
 use Rattle.estimators.specs.Adjusted.{decompositionOf, intensity}
 use Rattle.estimators.specs.JamesStein.{jamesSteinIntensity}
 use Rattle.estimators.specs.Order.{opening, ofGiven, badShrinkage, ofSettings}
-use Rattle.estimators.specs.Calls.{Answered, settle, ledoitWolfIntensity, exponentiallyWeightedMean}
+use Rattle.estimators.specs.Calls.{ledoitWolfIntensity, exponentiallyWeightedMean}
 use Rattle.estimators.specs.declared.Target.{Target}
 use Rattle.estimators.specs.declared.Shrinkage.{Shrinkage}
 use Rattle.estimators.specs.declared.Shrinkage.the-variants.{Unshrunk, Fixed, LedoitWolf}
@@ -25,15 +25,19 @@ use Rattle.estimators.specs.declared.Field.the-variants.{ShrinkageField}
 use Rattle.estimators.specs.declared.Refusal.the-variants.{BadSetting}
 use Rattle.estimators.specs.declared.Answer.{Answer}
 use Rattle.estimators.specs.declared.Answer.the-variants.{Refused, Covariance, Intensity, Mean, Shrunk}
+use Rattle.estimators.specs.BayesStein.{exponentsOf, bayesStein}
 use Rattle.estimators.proofs.Firsts.{pass-cons, pass-append}
 use Rattle.law.specs.Law as Law
 use Rattle.law.specs.Law.{Question, ask}
 use Rattle.law.proofs.Sizes.{not-lt}
-use Rattle.law.proofs.Columns.{exps, found, pull}
+use Rattle.law.proofs.Columns.{found}
+use Rattle.law.proofs.LedoitWolf.{ledoitWolf-cases}
+use Rattle.law.proofs.JamesStein.{clamp-cases, james-cases}
 use Rattle.law.proofs.Pull.{pull-unit}
 use Rattle.law.proofs.Chain.{pass-must}
-use Rattle.law.proofs.Passing.{pass-opening}
-use Rattle.law.proofs.Calls.{averages, ofAnswer, covariance-is, inUnit, centre, uneven, james-is, bayes-is}
+use Rattle.law.proofs.Passing.{pass-opening, settled}
+use Rattle.law.proofs.Calls.{ofAnswer, covariance-is, inUnit, centre, uneven, james-is, bayes-is}
+use Rattle.law.proofs.Given.{average}
 
 abbrev pub Share : Float → Type 0
 Share x = (x ≡ nan) ⊎ ((le zero⁺ x ≡ true) × (le x one ≡ true))
@@ -49,39 +53,20 @@ unfolding le lt eq
 zero-share = inr (refl, refl)
 
 clamped : (x : Float) → Share (clamp01 x)
-unfolding clamp01
-clamped x = go (lt x zero⁺) refl (lt one x) refl
-  where
-    one-share : Share one
-    one-share = unfold le lt eq in inr (refl, refl)
-
-    go : (a : Bool) → lt x zero⁺ ≡ a → (b : Bool) → lt one x ≡ b → Share (cond a zero⁺ (cond b one x))
-    go true p b q = zero-share
-    go false p true q = one-share
-    go false p false q = share-of x p q
+clamped x = clamp-cases Share x zero-share (unfold le lt eq in inr (refl, refl)) (share-of x)
 
 -- ---- the three intensities, and a fixed one that passes its check
 ledoitWolf-share : (F : Target) (P n : ℕ) (x : Matrix) → Share (ledoitWolf F P n x)
-unfolding ledoitWolf intensityOf intensityBy
-ledoitWolf-share F P n x = go (lt zero⁺ _) _
-  where
-    go : (b : Bool) (w : Float) → Share (elim b [ true ↦ clamp01 w | false ↦ zero⁺ ])
-    go true w = clamped w
-    go false w = zero-share
+ledoitWolf-share F P n x = ledoitWolf-cases Share F P n x zero-share (λ w t. clamped w)
 
 james-share : (n : ℕ) (m : Moments) (μ₀ : Float) (d : Decomposition) → Share (jamesSteinIntensity n m μ₀ d)
-unfolding jamesSteinIntensity
-james-share n m μ₀ d = go (eq _ zero⁺) _
-  where
-    go : (b : Bool) (w : Float) → Share (elim b [ true ↦ zero⁺ | false ↦ clamp01 w ])
-    go true w = zero-share
-    go false w = clamped w
+james-share n m μ₀ d = james-cases Share n m μ₀ d zero-share (λ w t. clamped w)
 
-bayes-share : (r : List Float) (limit n P : ℕ) → n ≤ maxSide → Share (pull limit n (found P n (at r n)) (exps P n (at r n)) .intensity)
+bayes-share : (r : List Float) (limit n P : ℕ) → n ≤ maxSide → Share (bayesStein n limit (found P n (at r n)) (exponentsOf P n (at r n)) .intensity)
 bayes-share r limit n P few =
     let m = found P n (at r n) in
-    let u = pull-unit limit n m (exps P n (at r n)) few (unfold moments in sign-count P) in
-    share-of (pull limit n m (exps P n (at r n)) .intensity) (u .0) (u .1)
+    let u = pull-unit limit n m (exponentsOf P n (at r n)) few (unfold moments in sign-count P) in
+    share-of (bayesStein n limit m (exponentsOf P n (at r n)) .intensity) (u .0) (u .1)
 
 adjusted-share : (S : Shrinkage) (P n : ℕ) (x : Matrix) → badShrinkage S ≡ passes → Share (intensity S P n x)
 unfolding intensity badShrinkage
@@ -97,20 +82,15 @@ Reported (Intensity δ) = Share δ
 Reported Mean = Unit {0}
 Reported (Shrunk α μ₀ sweeps rotations) = Share α
 
-settled : (c : Check) (slice : List Float) (w : Answered) → (c ≡ passes → Reported (w .answer)) → Reported (settle c slice w .answer)
-unfolding settle
-settled passes slice w h = h refl
-settled (refuses c) slice w h = tt
-
 pub reported : (r : List Float) (n P : ℕ) (q : Question) (slice : List Float) → Reported (ask r n P q slice .answer)
 reported r n P (Law.adjusted s given side) slice =
-    let cs = opening r n P (n * n) slice ++ ofGiven s given side (decompositionOf s side (averages r n P s given side)) in
+    let cs = opening r n P (n * n) slice ++ ofGiven s given side (decompositionOf s side (average side given)) in
     let a = ofAnswer r n P s given side in
-    rw (covariance-is r n P s given side slice) (settled (first (cs ++ a)) slice _ (λ h. adjusted-share (s .shrinkage) P n (at r n) (second (pass-append cs a h .1))))
+    rw (covariance-is r n P s given side slice) (settled Reported (λ c. tt) (first (cs ++ a)) slice _ (λ h. adjusted-share (s .shrinkage) P n (at r n) (second (pass-append cs a h .1))))
   where
     second : first (ofAnswer r n P s given side) ≡ passes → badShrinkage (s .shrinkage) ≡ passes
     second h = unfold ofSettings in pass-cons _ _ (pass-cons _ _ h .1) .0
-reported r n P (Law.intensity F) slice = unfold ledoitWolfIntensity in settled _ _ _ (λ h. ledoitWolf-share F P n (at r n))
-reported r n P (Law.weightedMean halfLife) slice = unfold exponentiallyWeightedMean in settled _ slice _ (λ h. tt)
-reported r n P (Law.jamesStein limit) slice = rw (james-is r n P limit slice) (settled _ slice _ (λ h. james-share n (inUnit r n P) (centre r n P) (uneven r n P limit)))
-reported r n P (Law.bayesStein limit) slice = rw (bayes-is r n P limit slice) (settled (first (opening r n P n slice ++ _)) slice _ (λ h. bayes-share r limit n P (pass-opening r n P n slice (pass-append (opening r n P n slice) _ h .0) .0)))
+reported r n P (Law.intensity F) slice = unfold ledoitWolfIntensity in settled Reported (λ c. tt) _ _ _ (λ h. ledoitWolf-share F P n (at r n))
+reported r n P (Law.weightedMean halfLife) slice = unfold exponentiallyWeightedMean in settled Reported (λ c. tt) _ slice _ (λ h. tt)
+reported r n P (Law.jamesStein limit) slice = rw (james-is r n P limit slice) (settled Reported (λ c. tt) _ slice _ (λ h. james-share n (inUnit r n P) (centre r n P) (uneven r n P limit)))
+reported r n P (Law.bayesStein limit) slice = rw (bayes-is r n P limit slice) (settled Reported (λ c. tt) (first (opening r n P n slice ++ _)) slice _ (λ h. bayes-share r limit n P (pass-opening r n P n slice (pass-append (opening r n P n slice) _ h .0) .0)))

@@ -3,19 +3,21 @@
 use mathlib.Core.Path.{_≡_, refl, ap, subst₂}
 use Prim.Native.Nat.{ℕ, _≤_}
 use native.Mathlib.Omega.{arith}
+use mathlib.Core.Bool.{Bool, true, false}
 use mathlib.Core.List.{List, [], map}
 use mathlib.Core.Option.{Option}
 use lib.Dec.{lit≤}
 use lib.IntN.{pos}
-use lib.Ieee.{Float}
-use Rattle.leaves.specs.Numbers.{_⊘_, count}
+use lib.Ieee.{Float, binary64, fits, lt}
+use lib.Ieee.Fits.{div-fits}
+use Rattle.leaves.specs.Numbers.{_⊘_, count, zero⁺, clamp01}
 use Rattle.leaves.specs.Scaling.{binaryExponent}
 use Rattle.leaves.specs.Shift.{shift}
 use Rattle.matrix.specs.Matrix.{Matrix, at, rows, amax}
 use Rattle.matrix.proofs.Stored.{rows-ext}
 use Rattle.estimators.specs.Refusals.{Check, passes, refuses, whenSome, first}
 use Rattle.estimators.specs.Sample.{deviation, gram, covariance, scaled}
-use Rattle.estimators.specs.LedoitWolf.{intensityOf, ledoitWolf}
+use Rattle.estimators.specs.LedoitWolf.{intensityOf, ledoitWolf, intensityBy}
 use Rattle.estimators.specs.Order.{noCorrelation, ledoitWolfOrder}
 use Rattle.estimators.specs.Calls.{Answered, answered, settle, ledoitWolfIntensity}
 use Rattle.estimators.specs.declared.Target.{Target}
@@ -32,6 +34,15 @@ use Rattle.law.proofs.Sample.{Returns, deviation-moved, constant-same}
 use Rattle.law.proofs.Matrices.{amax-moved, amax-above}
 use Rattle.law.proofs.Scaled.{Scaling, scaling}
 use Rattle.law.proofs.Opening.{Shape, returns, sample-moved, opening-chain}
+
+-- 0, or a number cut to [0, 1]
+pub ledoitWolf-cases : (P : Float → Type 0) (F : Target) (T n : ℕ) (x : Matrix) → P zero⁺ → ((w : Float) → lib.Dec.T (fits binary64 w) → P (clamp01 w)) → P (ledoitWolf F T n x)
+unfolding ledoitWolf intensityOf intensityBy
+ledoitWolf-cases P F T n x none cut = go (lt zero⁺ _) _ (div-fits binary64 _ _)
+  where
+    go : (b : Bool) (w : Float) → lib.Dec.T (fits binary64 w) → P (elim b [ true ↦ clamp01 w | false ↦ zero⁺ ])
+    go true w t = cut w t
+    go false w t = none
 
 pub ledoitWolf-same : {k n T : ℕ} {x y : Matrix} (F : Target) → k ≤ maxPower → Returns k n T returnGrain returnLeast returnMost x y → ledoitWolf F T n y ≡ ledoitWolf F T n x
 unfolding ledoitWolf scaled

@@ -7,10 +7,10 @@ use mathlib.Core.Bool.{Bool, true, false, not}
 use mathlib.Core.List.{List, [], _∷_, _++_}
 use lib.Ieee.{Float, lt, eq}
 use borrow.Author.Tests.{le-ltb}
-use Rattle.leaves.specs.Numbers.{_⊘_, zero⁺}
+use Rattle.leaves.specs.Numbers.{zero⁺}
 use Rattle.leaves.specs.Loops.{nth}
 use Rattle.matrix.specs.Limits.{maxSweeps}
-use Rattle.matrix.specs.Matrix.{Matrix, at, amax}
+use Rattle.matrix.specs.Matrix.{Matrix, at, amax, divided}
 use Rattle.matrix.specs.Jacobi.{Decomposition, decompose, unturned}
 use Rattle.matrix.proofs.LargerLimit.{larger-limit}
 use Rattle.estimators.specs.Refusals.{Check, passes, when, first}
@@ -27,13 +27,15 @@ use Rattle.estimators.specs.declared.Shrinkage.{Shrinkage}
 use Rattle.estimators.specs.declared.Regularization.{Regularization}
 use Rattle.estimators.specs.declared.Settings.{Settings}
 use Rattle.estimators.specs.declared.Refusal.the-variants.{BadSetting, NotDecomposed, Singular}
+use Rattle.estimators.specs.BayesStein.{correlations}
 use Rattle.estimators.proofs.Firsts.{pass-cons, pass-append}
 use Rattle.law.specs.Law as Law
 use Rattle.law.specs.Law.{Question, ask}
-use Rattle.law.proofs.Columns.{C, found, taken}
+use Rattle.law.proofs.Columns.{found, taken}
 use Rattle.law.proofs.Chain.{pass-must}
 use Rattle.law.proofs.Passing.{Accepted, all-pass}
-use Rattle.law.proofs.Calls.{averages, ofAnswer, covarianceBy, covariance-is, inUnit, centre, uneven, jamesBy, james-is, bayesBy, bayes-is}
+use Rattle.law.proofs.Calls.{ofAnswer, covarianceBy, covariance-is, inUnit, centre, uneven, jamesBy, james-is, bayesBy, bayes-is}
+use Rattle.law.proofs.Given.{average}
 
 -- ---- the check of the limit
 limit-passes : (limit : ℕ) → limit ≤ maxSweeps → sweepLimit limit ≡ passes
@@ -59,14 +61,11 @@ given-larger : (limit limit′ n : ℕ) (a : Matrix) → limit ≤ limit′ → 
 unfolding decomposeGiven
 given-larger limit limit′ n a l = go (lt zero⁺ (amax n n a))
   where
-    b : Matrix
-    b i j = a i j ⊘ amax n n a
-
     chosen : Bool → Decomposition → Decomposition
     chosen x d = elim x [ true ↦ d | false ↦ unturned n true ]
 
-    go : (x : Bool) → chosen x (decompose limit n b) .found ≡ true → chosen x (decompose limit′ n b) ≡ chosen x (decompose limit n b)
-    go true h = larger-limit n b limit limit′ l h
+    go : (x : Bool) → chosen x (decompose limit n (divided a (amax n n a))) .found ≡ true → chosen x (decompose limit′ n (divided a (amax n n a))) ≡ chosen x (decompose limit n (divided a (amax n n a)))
+    go true h = larger-limit n (divided a (amax n n a)) limit limit′ l h
     go false h = refl
 
 -- ---- the means
@@ -95,7 +94,7 @@ module _ (r : List Float) (n P : ℕ) (slice : List Float) where
   bayes-limit limit limit′ l h a =
       let m = found P n (at r n) in
       let f = bayes-found (taken limit n m) (sweepLimit limit) (subst Accepted (bayes-is r n P limit slice) a) in
-      bayes-is r n P limit′ slice ∙ ap₂ (bayesBy r n P slice) (larger-limit n (C n m) limit limit′ l f) (same-limit limit limit′ l h) ∙ sym (bayes-is r n P limit slice)
+      bayes-is r n P limit′ slice ∙ ap₂ (bayesBy r n P slice) (larger-limit n (correlations n m) limit limit′ l f) (same-limit limit limit′ l h) ∙ sym (bayes-is r n P limit slice)
 
 -- ---- the adjusted covariance
 abbrev pub limited : Settings → ℕ → Settings
@@ -131,7 +130,7 @@ module _ (S : Shrinkage) (H : Regularization) (given : List Float) (side : ℕ) 
 
 module _ (r : List Float) (n P : ℕ) (s : Settings) (given : List Float) (side : ℕ) (slice : List Float) where
   g : Matrix
-  g = averages r n P s given side
+  g = average side given
 
   -- nothing but the decomposition and its checks knows the limit
   by-same : (limit limit′ : ℕ) (d : Decomposition) (cs : List Check) → covarianceBy r n P (limited s limit′) given side slice d cs ≡ covarianceBy r n P (limited s limit) given side slice d cs

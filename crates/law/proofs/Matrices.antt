@@ -5,14 +5,12 @@ use native.Mathlib.Omega.{arith}
 use mathlib.Core.Bool.{Bool, true, false}
 use lib.Ieee.{Float}
 use Rattle.leaves.specs.Numbers.{_⊕_, zero⁺}
-use Rattle.leaves.specs.Loops.{loop, amaxTo}
-use Rattle.leaves.proofs.Loops.{cell, cell-row, cell-col}
 use Rattle.leaves.proofs.Units.{mag}
 use Rattle.leaves.proofs.Operations.{Moved}
-use Rattle.leaves.proofs.Totals.{moved-amax, Part, part-zero, part-add, part-more, part-loop, part-moved, moved-sum, amax-most}
-use Rattle.matrix.specs.Matrix.{Matrix, at, rows, trace, amax, sumOver}
+use Rattle.leaves.proofs.Totals.{moved-amax, Part, part-zero, part-add, part-more, part-loop, part-moved, moved-sum}
+use Rattle.matrix.specs.Matrix.{Matrix, at, rows, trace, amax, addKept, sumRow, sumOver}
 use Rattle.matrix.specs.Limits.{maxSide}
-use Rattle.matrix.proofs.Stored.{by-cell, rows-at}
+use Rattle.matrix.proofs.Stored.{by-cell, rows-at, amax-entry}
 use Rattle.law.proofs.Bits.{sideBits, side-bits, cellBits, cell-bits}
 
 module _ {k g l h : ℕ} (m n : ℕ) (f f' : Matrix) (each : (i j : ℕ) → i < m → j < n → Moved k g l h (f i j) (f' i j)) where
@@ -21,11 +19,7 @@ module _ {k g l h : ℕ} (m n : ℕ) (f f' : Matrix) (each : (i j : ℕ) → i <
   amax-moved = moved-amax (m * n) (λ c. f (c / n) (c % n)) (λ c. f' (c / n) (c % n)) (by-cell m n (λ i j. Moved k g l h (f i j) (f' i j)) each)
 
   pub amax-above : (i j : ℕ) → i < m → j < n → mag (f i j) ≤ mag (amax m n f)
-  unfolding amax
-  amax-above i j a b =
-      let cells = by-cell m n (λ i j. Moved k g l h (f i j) (f' i j)) each in
-      subst₂ (λ (r c : ℕ). mag (f r c) ≤ mag (amaxTo (m * n) (λ c. f (c / n) (c % n)))) (cell-row i n j b) (cell-col i n j b)
-      (amax-most (λ c. f (c / n) (c % n)) (m * n) (λ c d. (cells c d .range .fit, cells c d .range .finite)) (i * n + j) (cell i m j n a b))
+  amax-above = amax-entry m n f (λ i j a b. let r = each i j a b .range in (r .fit, r .finite))
 
 pub trace-moved : {k g h l : ℕ} (n : ℕ) (f f' : Matrix) → n ≤ maxSide → sideBits + h + k ≤ 2097 → ((i : ℕ) → i < n → Moved k g l h (f i i) (f' i i)) → Moved k g g (sideBits + h) (trace n f) (trace n f')
 unfolding trace
@@ -37,17 +31,11 @@ pub over-moved : {k g h l : ℕ} (n : ℕ) (keep : ℕ → ℕ → Bool) (f f' :
 unfolding sumOver
 over-moved {k} {g} {h} {l} n keep f f' N o each =
     part-moved k g h (n * n) cellBits (cell-bits N N) (omega arith) o (omega arith)
-    (part-loop k g h (n * n) cellBits (cell-bits N N) (omega arith) o n n (λ i. row f i) (λ i. row f' i)
+    (part-loop k g h (n * n) cellBits (cell-bits N N) (omega arith) o n n (sumRow n keep f) (sumRow n keep f')
     (λ i m s s' a e p. part-more k g h (n * n) cellBits (cell-bits N N) (omega arith) o (omega arith)
-    (part-loop k g h (n * n) cellBits (cell-bits N N) (omega arith) o n 1 (λ j. term f i j) (λ j. term f' i j) (λ j m s s' b e p. one (keep i j) p (each i j a b) (omega arith)) m s s' (omega arith) p))
+    (part-loop k g h (n * n) cellBits (cell-bits N N) (omega arith) o n 1 (addKept keep f i) (addKept keep f' i) (λ j m s s' b e p. one (keep i j) p (each i j a b) (omega arith)) m s s' (omega arith) p))
     0 zero⁺ zero⁺ (omega arith) (part-zero k g h (n * n) cellBits (cell-bits N N) (omega arith) o))
   where
-    term : Matrix → ℕ → ℕ → Float → Float
-    term f i j s = elim (keep i j) [ true ↦ s ⊕ f i j | false ↦ s ]
-
-    row : Matrix → ℕ → Float → Float
-    row f i = loop n (λ j s. elim (keep i j) [ true ↦ s ⊕ f i j | false ↦ s ])
-
     one : {m : ℕ} {s s' x x' : Float} (b : Bool) → Part k g h m s s' → Moved k g l h x x' → m + 1 ≤ n * n → Part k g h (m + 1) (elim b [ true ↦ s ⊕ x | false ↦ s ]) (elim b [ true ↦ s' ⊕ x' | false ↦ s' ])
     one true p u e = part-more k g h (n * n) cellBits (cell-bits N N) (omega arith) o (omega arith) (part-add k g h (n * n) cellBits (cell-bits N N) (omega arith) o (omega arith) p u)
     one false p u e = part-more k g h (n * n) cellBits (cell-bits N N) (omega arith) o (omega arith) p

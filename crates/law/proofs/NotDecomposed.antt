@@ -35,12 +35,13 @@ use Rattle.estimators.specs.declared.Refusal.the-variants.{NoAssets, TooLarge, 
 use Rattle.estimators.specs.declared.Answer.{Answer}
 use Rattle.estimators.specs.declared.Answer.the-variants.{Refused, Covariance, Intensity, Mean, Shrunk}
 use Rattle.law.proofs.Diagonal.{Diagonal, given-diagonal}
-use Rattle.law.proofs.Calls.{averages, estimated, covariances, ofAnswer, covariance-is}
+use Rattle.law.proofs.Calls.{estimated, covariances, ofAnswer, covariance-is}
+use Rattle.law.proofs.Given.{average}
 
 -- ---- checks that do not refuse with 13
 abbrev Avoids : Check → Type 0
 Avoids passes = Unit {0}
-Avoids (refuses c) = eqb (number c) 13 ≡ false
+Avoids (refuses c) = eqb (number c) (number NotDecomposed) ≡ false
 
 abbrev AllAvoid : List Check → Type 0
 AllAvoid [] = Unit {0}
@@ -56,11 +57,11 @@ avoid-first [] p = tt
 avoid-first (passes ∷ cs) p = avoid-first cs (p .1)
 avoid-first (refuses c ∷ cs) p = p .0
 
-test : (b : Bool) (c : Refusal) → eqb (number c) 13 ≡ false → Avoids (when b c)
+test : (b : Bool) (c : Refusal) → eqb (number c) (number NotDecomposed) ≡ false → Avoids (when b c)
 test true c e = e
 test false c e = tt
 
-search : {A : Type 0} (o : Option A) (c : A → Refusal) → ((a : A) → eqb (number (c a)) 13 ≡ false) → Avoids (whenSome o c)
+search : {A : Type 0} (o : Option A) (c : A → Refusal) → ((a : A) → eqb (number (c a)) (number NotDecomposed) ≡ false) → Avoids (whenSome o c)
 search none c e = tt
 search (some a) c e = e a
 
@@ -171,16 +172,16 @@ numberOf (Intensity δ) = 0
 numberOf Mean = 0
 numberOf (Shrunk α μ₀ s r) = 0
 
-settled : (c : Check) → Avoids c → (slice : List Float) (w : Answered) → numberOf (w .answer) ≡ 0 → eqb (numberOf (settle c slice w .answer)) 13 ≡ false
+settled : (c : Check) → Avoids c → (slice : List Float) (w : Answered) → numberOf (w .answer) ≡ 0 → eqb (numberOf (settle c slice w .answer)) (number NotDecomposed) ≡ false
 unfolding settle
-settled passes p slice w e = ap (λ (k : ℕ). eqb k 13) e
+settled passes p slice w e = ap (λ (k : ℕ). eqb k (number NotDecomposed)) e
 settled (refuses c) p slice w e = p
 
 module _ (r : List Float) (n P : ℕ) (s : Settings) (g : List Float) (side : ℕ) (slice : List Float) where
   abbrev d : Decomposition
-  d = decompositionOf s side (averages r n P s g side)
+  d = decompositionOf s side (average side g)
 
-  decomposed : (isGiven (s .estimate) ≡ true → d .found ≡ true) → eqb (numberOf (adjustedCovariance r n P s g side slice .answer)) 13 ≡ false
+  decomposed : (isGiven (s .estimate) ≡ true → d .found ≡ true) → eqb (numberOf (adjustedCovariance r n P s g side slice .answer)) (number NotDecomposed) ≡ false
   decomposed h =
       let o = opening r n P (n * n) slice in
       let c = ofGiven s g side d in
@@ -188,11 +189,11 @@ module _ (r : List Float) (n P : ℕ) (s : Settings) (g : List Float) (side : �
       rw (covariance-is r n P s g side slice)
       (settled (first (o ++ c ++ a)) (avoid-first (o ++ c ++ a) (append (o ++ c) a (append o c (opening-avoids r n P (n * n) slice) (given-avoids (s .estimate) (s .shrinkage) (s .regularization) (s .limit) g side d h)) (settings-avoid s (intensity (s .shrinkage) P n (at r n)) P n side (at r n) (at (estimated r n P s g side) n) (at (covariances r n P s g side) n)))) slice _ refl)
 
-  pub diagonal-not-refused : 0 < s .limit → ((i j : ℕ) → i < side → j < side → T (fits binary64 (at g side i j))) → Diagonal side (at g side) → allFinite side side (averages r n P s g side) ≡ true
+  pub diagonal-not-refused : 0 < s .limit → ((i j : ℕ) → i < side → j < side → T (fits binary64 (at g side i j))) → Diagonal side (at g side) → allFinite side side (average side g) ≡ true
       → adjustedCovariance r n P s g side slice .answer ≡ Refused NotDecomposed → ⊥
   unfolding decompositionOf
-  diagonal-not-refused p fit diagonal all e = subst T (sym (ap (λ (w : Answer). eqb (numberOf w) 13) e) ∙ decomposed (λ h. found (isGiven (s .estimate)) h)) tt
+  diagonal-not-refused p fit diagonal all e = subst T (sym (ap (λ (w : Answer). eqb (numberOf w) (number NotDecomposed)) e) ∙ decomposed (λ h. found (isGiven (s .estimate)) h)) tt
     where
-      found : (b : Bool) → b ≡ true → (elim b as (λ z. Decomposition) [ true ↦ decomposeGiven (s .limit) side (averages r n P s g side) | false ↦ unturned 0 true ]) .found ≡ true
+      found : (b : Bool) → b ≡ true → (elim b as (λ z. Decomposition) [ true ↦ decomposeGiven (s .limit) side (average side g) | false ↦ unturned 0 true ]) .found ≡ true
       found true h = given-diagonal side g fit diagonal (s .limit) p all
       found false h = absurd (subst T (sym h) tt)

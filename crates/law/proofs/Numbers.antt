@@ -92,15 +92,9 @@ pub take-fill : (n : ℕ) (f : ℕ → Float) (slice : List Float) → take n (f
 unfolding fill
 take-fill n f slice = ap (λ (k : ℕ). take k (tab n f ++ drop n slice)) (sym (length-tab f n)) ∙ take-append-seam (tab n f) (drop n slice)
 
-pub means-alike : (k n : ℕ) (f f' : ℕ → Float) (slice slice' : List Float) → ((i : ℕ) → i < n → T (fits binary64 (f i)) × (f' i ≡ shift (pos k) (f i))) → Each (Times (pos k)) (take n (fill n f slice)) (take n (fill n f' slice'))
-means-alike k n f f' slice slice' h =
+pub filled-alike : (k n : ℕ) (f f' : ℕ → Float) (slice slice' : List Float) → ((i : ℕ) → i < n → T (fits binary64 (f i)) × (f' i ≡ shift (pos k) (f i))) → Each (Times (pos k)) (take n (fill n f slice)) (take n (fill n f' slice'))
+filled-alike k n f f' slice slice' h =
     subst₂ (Each (Times (pos k))) (sym (take-fill n f slice)) (sym (take-fill n f' slice')) (each-tab (Times (pos k)) n f f' (λ i l. rw (h i l .1) (times-shift k (f i) (h i l .0))))
-
-pub all-tab : (P : Float → Type 0) (n : ℕ) (f : ℕ → Float) → All P (tab n f) → (i : ℕ) → i < n → P (f i)
-unfolding tab
-all-tab P zero f h i l = absurd (omega arith)
-all-tab P (suc n) f h zero l = h .0
-all-tab P (suc n) f h (suc i) l = all-tab P n (λ i. f (suc i)) (h .1) i (omega arith)
 
 -- ---- the other way round
 pub each-back : (R S : Float → Float → Type 0) → ((x y : Float) → R x y → S y x) → (l l' : List Float) → Each R l l' → Each S l' l

@@ -1,5 +1,6 @@
 -- The checks that open every call, of returns in range and of the same returns times 2 ^ k: the shapes and lengths are equal, and returns in range, with their covariance, are finite. So both runs
--- refuse alike, or both go on with returns of the granted sizes, the second's each 2 ^ k times the first's. Assumes nothing.
+-- refuse alike, or both go on with returns of the granted sizes, the second's each 2 ^ k times the first's: with the three covariances of such returns in one range, and each column over the power of two
+-- of its largest. Assumes nothing.
 use mathlib.Core.Path.{_≡_, refl, sym, ap, ap₂, _∙_}
 use Prim.Native.Nat.{ℕ, _+_, _-_, _*_, _≤_, _<_, zero-le}
 use native.Mathlib.Nat.{le-of-eq, lt-of-lt-of-le}
@@ -19,7 +20,8 @@ use Rattle.leaves.proofs.Operations.{Moved}
 use Rattle.matrix.specs.Matrix.{Matrix, at, allFinite}
 use Rattle.matrix.proofs.Alike.{finite-same, first-entry-alike}
 use Rattle.estimators.specs.Refusals.{Check, passes, whenSome, first}
-use Rattle.estimators.specs.Sample.{covariance}
+use Rattle.estimators.specs.Sample.{covariance, largest}
+use Rattle.estimators.specs.Semi.{semicovariance, semicovarianceBelow}
 use Rattle.estimators.specs.Order.{notFinite, byShape, Shaped, opening}
 use Rattle.estimators.specs.declared.Refusal.the-variants.{NotFinite, CovarianceNotFinite}
 use Rattle.estimators.proofs.Shapes.{shape-passes, opened}
@@ -27,7 +29,8 @@ use Rattle.law.specs.Law.{All, Sized, maxPower, returnRange}
 use Rattle.law.proofs.Bits.{returnGrain, returnLeast, returnMost}
 use Rattle.law.proofs.Chain.{Chain, chain-same, chain-must, chain-equal}
 use Rattle.law.proofs.Sizes.{all-at, sized-range}
-use Rattle.law.proofs.Sample.{Returns, covariance-moved}
+use Rattle.law.proofs.Sample.{Returns, covariance-moved, largest-moved, Sampled, semicovariance-moved, semicovarianceBelow-moved}
+use Rattle.law.proofs.Scaled.{Scaling, scaling}
 
 -- ---- stored numbers and their copies
 pub at-copy : (k : ℤ) (l : List Float) (n i j : ℕ) → at (map (shift k) l) n i j ≡ shift k (at l n i j)
@@ -42,6 +45,10 @@ unfolding notFinite
 entries-same k l m n = ap (λ (o : Option (ℕ × ℕ)). whenSome o (λ p. NotFinite (p .0) (p .1)))
     (first-entry-alike m n (λ i j. not (isFinite (at (map (shift (pos k)) l) n i j))) (λ i j. not (isFinite (at l n i j))) (λ i j a b. ap not (ap isFinite (at-copy (pos k) l n i j) ∙ isFinite-shift (pos k) (at l n i j))))
 
+-- ---- a column over the power of two of its largest return
+pub column : {k n T : ℕ} {x y : Matrix} → k ≤ maxPower → Returns k n T returnGrain returnLeast returnMost x y → (i : ℕ) → i < n → Scaling k returnGrain returnLeast returnMost (largest T x i) (largest T y i)
+column small r i a = scaling (largest-moved r i a) (lit≤ tt) (lit≤ tt) (lit≤ tt) (lit≤ tt) (lit≤ tt) (lit≤ tt) (omega arith)
+
 -- ---- the shapes that are accepted
 abbrev pub Shape : List Float → ℕ → ℕ → Type 0
 Shape r n T = Shaped (length r) n T
@@ -49,12 +56,6 @@ Shape r n T = Shaped (length r) n T
 module _ (k : ℕ) (small : k ≤ maxPower) (r : List Float) (sizes : All (Sized returnRange) r) (n T : ℕ) where
   abbrev r' : List Float
   r' = map (shift (pos k)) r
-
-  abbrev x : Matrix
-  x = at r n
-
-  abbrev y : Matrix
-  y = at (map (shift (pos k)) r) n
 
   pub returns : Shape r n T → Returns k n T returnGrain returnLeast returnMost (at r n) (at (map (shift (pos k)) r) n)
   returns (assets, few, periods, most, full) = record {
@@ -67,8 +68,14 @@ module _ (k : ℕ) (small : k ≤ maxPower) (r : List Float) (sizes : All (Sized
         sized-moved k returnRange (lit≤ tt) (at r n t i) (at r' n t i) (all-at (Sized returnRange) r (t * n + i) sizes in-r) (at-copy (pos k) r n t i);
   }
 
-  pub sample-moved : Shape r n T → (i j : ℕ) → i < n → j < n → Moved (k + k) 698 750 1192 (covariance T (at r n) i j) (covariance T (at (map (shift (pos k)) r) n) i j)
+  pub sample-moved : Shape r n T → (i j : ℕ) → i < n → j < n → Sampled (k + k) (covariance T (at r n) i j) (covariance T (at (map (shift (pos k)) r) n) i j)
   sample-moved s = covariance-moved (returns s) 918 (lit≤ tt) (omega arith) 762 (lit≤ tt) 698 (lit≤ tt) 1180 (lit≤ tt) (omega arith)
+
+  pub semi-moved : Shape r n T → (i j : ℕ) → i < n → j < n → Sampled (k + k) (semicovariance T (at r n) i j) (semicovariance T (at (map (shift (pos k)) r) n) i j)
+  semi-moved s = semicovariance-moved (returns s) 918 (lit≤ tt) (omega arith) 762 (lit≤ tt) 698 (lit≤ tt) 1180 (lit≤ tt) (omega arith)
+
+  pub semiBelow-moved : (θ θ' : Float) → Sized returnRange θ → θ' ≡ shift (pos k) θ → Shape r n T → (i j : ℕ) → i < n → j < n → Sampled (k + k) (semicovarianceBelow θ T (at r n) i j) (semicovarianceBelow θ' T (at (map (shift (pos k)) r) n) i j)
+  semiBelow-moved θ θ' z e s = semicovarianceBelow-moved (returns s) 918 (lit≤ tt) (omega arith) 762 (lit≤ tt) 698 (lit≤ tt) 1180 (lit≤ tt) (omega arith) (sized-moved k returnRange (lit≤ tt) θ θ' z e)
 
   covariance-same : Shape r n T → allFinite n n (covariance T (at (map (shift (pos k)) r) n)) ≡ allFinite n n (covariance T (at r n))
   covariance-same s = finite-same n n (covariance T (at (map (shift (pos k)) r) n)) (covariance T (at r n)) (λ i j a b. ap isFinite (sample-moved s i j a b .copy) ∙ isFinite-shift (pos (k + k)) (covariance T (at r n) i j))

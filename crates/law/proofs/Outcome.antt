@@ -25,7 +25,8 @@ use Rattle.estimators.specs.declared.Answer.the-variants.{Refused, Covariance, 
 use Rattle.estimators.proofs.Firsts.{pass-test, pass-cons, pass-append}
 use Rattle.law.specs.Law as Law
 use Rattle.law.specs.Law.{Question, ask}
-use Rattle.law.proofs.Calls.{averages, estimated, covariances, ofAnswer, covariance-is}
+use Rattle.law.proofs.Calls.{estimated, covariances, ofAnswer, covariance-is}
+use Rattle.law.proofs.Given.{average}
 use Rattle.law.proofs.Chain.{pass-must}
 use Rattle.law.proofs.Passing.{pass-opening, Accepted}
 
@@ -71,7 +72,7 @@ pub kept : (r : List Float) (n P : ℕ) (q : Question) (old : List Float) → Ke
 unfolding adjustedCovariance adjustedOrder exponentiallyWeightedMean weightedOrder jamesSteinMean jamesSteinOrder bayesSteinMean bayesSteinOrder
 kept r n P (Law.adjusted s given side) old =
     let o = opening r n P (n * n) old in
-    let g = ofGiven s given side (decompositionOf s side (averages r n P s given side)) in
+    let g = ofGiven s given side (decompositionOf s side (average side given)) in
     settle-kept (n * n) old _ _ (first (o ++ g ++ ofAnswer r n P s given side)) (λ z. z) (λ h. pass-opening r n P (n * n) old (pass-append o g (pass-append (o ++ g) (ofAnswer r n P s given side) h .0) .0) .1)
 kept r n P (Law.intensity F) old = record { refused = λ c e. refl; later = refl; long = refl }
 kept r n P (Law.weightedMean halfLife) old = opened-kept r n P n old _ _ _ (λ z. z)
@@ -102,10 +103,10 @@ usable n a old f t =
 pub accepted-covariance : (r : List Float) (n P : ℕ) (s : Settings) (given : List Float) (side : ℕ) (old : List Float)
     → Accepted (adjustedCovariance r n P s given side old) → Usable n (adjustedCovariance r n P s given side old .slice)
 unfolding settle
-accepted-covariance r n P s given side old = rw (covariance-is r n P s given side old) (λ h. go (first (opening r n P (n * n) old ++ ofGiven s given side (decompositionOf s side (averages r n P s given side)) ++ ofAnswer r n P s given side)) refl h)
+accepted-covariance r n P s given side old = rw (covariance-is r n P s given side old) (λ h. go (first (opening r n P (n * n) old ++ ofGiven s given side (decompositionOf s side (average side given)) ++ ofAnswer r n P s given side)) refl h)
   where
     d : Decomposition
-    d = decompositionOf s side (averages r n P s given side)
+    d = decompositionOf s side (average side given)
 
     a : List Float
     a = covariances r n P s given side

@@ -1,4 +1,4 @@
--- What is known where the opening checks pass, and of a call that accepts: document 01, "Causes". Assumes nothing.
+-- What is known where the opening checks pass, of a call that accepts, and of every answer: document 01, "Causes". Assumes nothing.
 use mathlib.Core.Path.{_≡_, refl}
 use Prim.Native.Nat.{ℕ, _≤_}
 use mathlib.Core.List.{List}
@@ -10,6 +10,7 @@ use Rattle.estimators.specs.Refusals.{Check, passes, refuses, first}
 use Rattle.estimators.specs.Order.{opening, byShape, byReturns}
 use Rattle.estimators.specs.Calls.{Answered, settle}
 use Rattle.estimators.specs.declared.Refusal.{Refusal}
+use Rattle.estimators.specs.declared.Answer.{Answer}
 use Rattle.estimators.specs.declared.Answer.the-variants.{Refused}
 use Rattle.estimators.proofs.Firsts.{pass-append}
 use Rattle.estimators.proofs.Shapes.{shape-passes}
@@ -30,3 +31,9 @@ pub all-pass : (c : Check) (slice : List Float) (w : Answered) → Accepted (set
 unfolding settle
 all-pass passes slice w h = refl
 all-pass (refuses c) slice w h = absurd (h c refl)
+
+-- what every refusal has, and the answer where all checks pass, the call's answer has
+pub settled : (P : Answer → Type 0) → ((c : Refusal) → P (Refused c)) → (c : Check) (slice : List Float) (w : Answered) → (c ≡ passes → P (w .answer)) → P (settle c slice w .answer)
+unfolding settle
+settled P refused passes slice w h = h refl
+settled P refused (refuses c) slice w h = refused c

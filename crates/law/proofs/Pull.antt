@@ -3,7 +3,7 @@
 use mathlib.Core.Path.{_≡_, refl, sym, ap, ap₂, _∙_, subst}
 use mathlib.Core.Logic.{_⊎_, inl, inr}
 use Prim.Native.Nat.{ℕ, zero, suc, _+_, _-_, _*_, _^_, _≤_, _<_, zero-le}
-use native.Mathlib.Nat.{zero-mul, le-refl, le-trans, le-of-eq, lt-irrefl, zero-add, mul-le-mul, mul-le-mul-right, eq-zero-or-pos, le-of-mul-le-mul-right}
+use native.Mathlib.Nat.{zero-mul, le-trans, le-of-eq, lt-irrefl, zero-add, mul-le-mul, mul-le-mul-right, eq-zero-or-pos, le-of-mul-le-mul-right}
 use native.Mathlib.Omega.{arith}
 use mathlib.Core.Bool.{Bool, true, false}
 use mathlib.Core.List.{List}
@@ -22,10 +22,10 @@ use Rattle.leaves.proofs.Loops.{tab-ext, nth-tab}
 use Rattle.leaves.proofs.Whole.{over, under, plus, minus, same, one-side, over-neg, under-neg}
 use Rattle.leaves.proofs.Shift.{shift-nan, isFinite-shift}
 use Rattle.leaves.proofs.Rounding.{near-most, held-pow}
-use Rattle.leaves.proofs.Units.{U, U-pos, U-is, sign, mag, val-mag, mag-val, eq-zero}
+use Rattle.leaves.proofs.Units.{U, U-pos, sign, mag, val-mag, mag-val, eq-zero}
 use Rattle.leaves.proofs.Arithmetic.{mul-finite}
 use Rattle.leaves.proofs.Range.{Range, range-value, range-size}
-use Rattle.leaves.proofs.Operations.{Moved, still, moved-weaken, moved-add, moved-sub, moved-mul}
+use Rattle.leaves.proofs.Operations.{Moved, still, moved-weaken, moved-add, moved-sub, moved-mul, pow-le-U}
 use Rattle.leaves.proofs.Signs.{sign-mul, sign-count}
 use Rattle.leaves.proofs.Scale.{pow2-fits}
 use Rattle.leaves.proofs.PowersOfTwo.{range-move, scaled-moves, shift-null, exponent-range, fits-move, scaled-copy}
@@ -36,7 +36,7 @@ use Rattle.matrix.proofs.Alike.{decompose-cases}
 use Rattle.matrix.proofs.Turn.{Limit}
 use Rattle.matrix.proofs.Vectors.{Small, vectors-small}
 use Rattle.estimators.specs.Moments.{Moments, moments}
-use Rattle.estimators.specs.BayesStein.{singular, commonExponent, gathered, project, form, ratioOf, distanceOf, intensityAt, bayesSteinPull, pulled}
+use Rattle.estimators.specs.BayesStein.{singular, commonExponent, gathered, project, form, ratioOf, distanceOf, intensityAt, bayesSteinPull, pulled, exponentsOf, correlations, bayesStein}
 use borrow.Author.Tests.{ne-eqb}
 use Rattle.leaves.proofs.Zero.{not-above}
 use Rattle.law.specs.Law.{AtLeast, maxPower, meanRange, returnRange}
@@ -50,8 +50,8 @@ use Rattle.law.proofs.JamesStein.{unit-range, MeanIntensity}
 use Rattle.law.proofs.Share.{max0-plus, share-unit}
 use Rattle.law.proofs.Common.{LeZ, common-in, common-above, common-lower}
 use Rattle.law.proofs.Tied.{one-step, inf-scaled, tied}
-use Rattle.law.proofs.Ratio.{product-is, sum-finite, sum-most, ratio-most}
-use Rattle.law.proofs.Columns.{C, exponent-small, exps, found, grows, inverse-exponent, inverse-some, pull, share-exponent, share-range, sizeOf, taken, Σ, μ-range}
+use Rattle.law.proofs.Ratio.{product-is, sum-finite, sum-most, ratio-most, ratioMost, projectedMost}
+use Rattle.law.proofs.Columns.{exponent-small, found, grows, inverse-exponent, inverse-some, share-exponent, share-range, sizeOf, taken, Σ, μ-range}
 
 -- ---- the exponents of the two vectors
 abbrev Within : ℕ → ℕ → ℤ → Type 0
@@ -103,7 +103,7 @@ values-fit limit n a e l =
 
 -- a projection, where it is finite
 project-most : (limit n : ℕ) (a : Matrix) → n ≤ maxSide → limit ≤ maxSweeps → (z : ℕ → Float) → ((i : ℕ) → i < n → T (fits binary64 (z i)) × T (isFinite (z i)) × (mag (z i) ≤ 2 ^ 1075))
-    → (e : ℕ) → e < n → T (isFinite (nth (project n (decompose limit n a) z) e)) → mag (nth (project n (decompose limit n a) z) e) ≤ 2 ^ 1380
+    → (e : ℕ) → e < n → T (isFinite (nth (project n (decompose limit n a) z) e)) → mag (nth (project n (decompose limit n a) z) e) ≤ 2 ^ projectedMost
 project-most limit n a few short z each e l F =
     let W = at (decompose limit n a .vectors) n in
     let i : nth (project n (decompose limit n a) z) e ≡ sumTo n (λ i. W i e ⊗ z i) = unfold project in nth-tab n (λ e. sumTo n (λ i. W i e ⊗ z i)) e nan l in
@@ -117,12 +117,12 @@ project-most limit n a few short z each e l F =
           (near-most (mag (W t e) * mag (z t)) U (2 ^ 1375) U-pos (held-pow 1375) (le-trans (mul-le-mul (s .1) (each t b .2)) (le-of-eq powers))),
     )))
   where
-    powers : 2 ^ 1374 * 2 ^ 1075 ≡ 2 ^ 1375 * U
-    powers = unfold U in refl
+    powers : Limit * 2 ^ 1075 ≡ 2 ^ 1375 * U
+    powers = unfold U Limit in refl
 
-    vector : (x : Float) → Small x → T (isFinite x) → T (fits binary64 x) × (mag x ≤ 2 ^ 1374)
+    vector : (x : Float) → Small x → T (isFinite x) → T (fits binary64 x) × (mag x ≤ Limit)
     vector x (inl z) f = absurd (unfold isFinite in subst (λ (y : Float). T (isFinite y)) z f)
-    vector x (inr r) f = (r .fit, le-trans (r .most) (unfold Limit in le-refl Limit))
+    vector x (inr r) f = (r .fit, r .most)
 
 -- ---- what a call that does not refuse has seen
 pub record Passed (limit n : ℕ) (m : Moments) (s : ℕ → Float) : Type 0 where
@@ -153,7 +153,7 @@ abbrev distance : ℕ → Decomposition → Float → List Float → List Float 
 distance n d P x y b = P ⊗ pow2Scaled (max0 (distanceOf n d x y (ratioOf n d x y))) (b +ℤ b)
 
 pull-is : (limit n : ℕ) (m : Moments) (e : ℕ → ℤ) → let d = taken limit n m in
-    (pull limit n m e .intensity ≡ intensityAt n (distance n d (m .periods) (ones n m e) (means n m) (bOf n m))) × (pull limit n m e .target ≡ pow2Scaled (ratioOf n d (ones n m e) (means n m)) (bOf n m -ℤ aOf n m e))
+    (bayesStein n limit m e .intensity ≡ intensityAt n (distance n d (m .periods) (ones n m e) (means n m) (bOf n m))) × (bayesStein n limit m e .target ≡ pow2Scaled (ratioOf n d (ones n m e) (means n m)) (bOf n m -ℤ aOf n m e))
 unfolding bayesSteinPull
 pull-is limit n m e = (refl, refl)
 
@@ -163,7 +163,7 @@ distance-plus n d P x y b h =
     let z = distanceOf n d x y (ratioOf n d x y) in
     sign-mul P (pow2Scaled (max0 z) (b +ℤ b)) (h ∙ sym (sign-scaled (max0 z) (b +ℤ b) (max0-plus z)))
 
-pub pull-unit : (limit n : ℕ) (m : Moments) (e : ℕ → ℤ) → n ≤ maxSide → sign (m .periods) ≡ false → (lt (pull limit n m e .intensity) zero⁺ ≡ false) × (lt one (pull limit n m e .intensity) ≡ false)
+pub pull-unit : (limit n : ℕ) (m : Moments) (e : ℕ → ℤ) → n ≤ maxSide → sign (m .periods) ≡ false → (lt (bayesStein n limit m e .intensity) zero⁺ ≡ false) × (lt one (bayesStein n limit m e .intensity) ≡ false)
 pull-unit limit n m e few h =
     let d = taken limit n m in
     rw (pull-is limit n m e .0) (share-unit n (distance n d (m .periods) (ones n m e) (means n m) (bOf n m)) few (mul-fits binary64 (m .periods) _) (distance-plus n d (m .periods) (ones n m e) (means n m) (bOf n m) h))
@@ -171,7 +171,7 @@ pull-unit limit n m e few h =
 -- the ratio of a decomposition that passes the test, for vectors below 2 in size
 ratio-small : (limit n : ℕ) (a : Matrix) → 0 < n → n ≤ maxSide → limit ≤ maxSweeps → singular n (decompose limit n a) ≡ false → (x y : List Float)
     → ((i : ℕ) → i < n → T (fits binary64 (nth y i)) × T (isFinite (nth y i)) × (mag (nth y i) ≤ 2 ^ 1075))
-    → T (isFinite (ratioOf n (decompose limit n a) x y)) → mag (ratioOf n (decompose limit n a) x y) ≤ 2 ^ 1983
+    → T (isFinite (ratioOf n (decompose limit n a) x y)) → mag (ratioOf n (decompose limit n a) x y) ≤ 2 ^ ratioMost
 unfolding form singular
 ratio-small limit zero a p few short test x y hy F = absurd (lt-irrefl 0 p)
 ratio-small limit (suc n) a p few short test x y hy F =
@@ -182,25 +182,25 @@ ratio-small limit (suc n) a p few short test x y hy F =
     projected : (x : List Float) (e : ℕ) → e < suc n → T (fits binary64 (nth (project (suc n) (decompose limit (suc n) a) (nth x)) e))
     projected x e l = unfold project in rw (nth-tab (suc n) (λ e. sumTo (suc n) (λ i. at (decompose limit (suc n) a .vectors) (suc n) i e ⊗ nth x i)) e nan l) (sum-fits (suc n) (λ i. at (decompose limit (suc n) a .vectors) (suc n) i e ⊗ nth x i))
 
-module _ {k n P : ℕ} {x y : Matrix} (small : k ≤ maxPower) (r : Returns k n P returnGrain returnLeast returnMost x y) (tops : (i : ℕ) → i < n → over (exps P n y i) ≤ returnRange) (limit : ℕ) (p : Passed limit n (found P n x) (sizeOf P n x)) where
+module _ {k n P : ℕ} {x y : Matrix} (small : k ≤ maxPower) (r : Returns k n P returnGrain returnLeast returnMost x y) (tops : (i : ℕ) → i < n → over (exponentsOf P n y i) ≤ returnRange) (limit : ℕ) (p : Passed limit n (found P n x) (sizeOf P n x)) where
   abbrev m' : Moments
   m' = found P n x
 
   abbrev e : ℕ → ℤ
-  e = exps P n x
+  e = exponentsOf P n x
 
   abbrev f : ℕ → ℤ
-  f = exps P n y
+  f = exponentsOf P n y
 
   abbrev d : Decomposition
   d = taken limit n (found P n x)
 
-  a-small : Within 75 61 (aOf n (found P n x) (exps P n x))
-  a-small = common-in (inverse n m') (λ i. negℤ (e i)) (Within 75 61) n (none-small 75 61) (λ i l.
+  a-small : Within (34 + suc returnRange) (21 + returnRange) (aOf n (found P n x) (exponentsOf P n x))
+  a-small = common-in (inverse n m') (λ i. negℤ (e i)) (Within (34 + suc returnRange) (21 + returnRange)) n (none-small (34 + suc returnRange) (21 + returnRange)) (λ i l.
       plus-small (binaryExponent (inverse n m' i)) (negℤ (e i)) (inverse-exponent small r i l (p .above i l)) (neg-small (e i) (exponent-small small r i l (p .above i l))))
 
-  a'-small : under (aOf n (found P n x) (exps P n y)) ≤ 61
-  a'-small = common-in (inverse n m') (λ i. negℤ (f i)) (λ z. under z ≤ 61) n (none-small 0 61 .1) (λ i l.
+  a'-small : under (aOf n (found P n x) (exponentsOf P n y)) ≤ 21 + returnRange
+  a'-small = common-in (inverse n m') (λ i. negℤ (f i)) (λ z. under z ≤ 21 + returnRange) n (none-small 0 (21 + returnRange) .1) (λ i l.
       let b = binaryExponent (inverse n m' i) in
       let q = inverse-exponent small r i l (p .above i l) in
       omega (arith, plus b (negℤ (f i)), one-side (b +ℤ negℤ (f i)), over-neg (f i), under-neg (f i), tops i l, q))
@@ -208,10 +208,10 @@ module _ {k n P : ℕ} {x y : Matrix} (small : k ≤ maxPower) (r : Returns k n 
   b-small : Within 47 165 (bOf n (found P n x))
   b-small = common-in (share n m') (λ i. pos 0) (Within 47 165) n (none-small 47 165) (λ i l. plus-small (binaryExponent (share n m' i)) (pos 0) (share-exponent small r i l (p .above i l)) (none-small 0 0))
 
-  lower : aOf n (found P n x) (exps P n y) +ℤ pos k ≡ aOf n (found P n x) (exps P n x)
+  lower : aOf n (found P n x) (exponentsOf P n y) +ℤ pos k ≡ aOf n (found P n x) (exponentsOf P n x)
   lower = common-lower (inverse n m') e f k n (r .assets) (λ i l. grows small r i l (p .above i l)) (λ i l. inverse-some small r i l (p .above i l))
 
-  ones-same : ones n (found P n x) (exps P n y) ≡ ones n (found P n x) (exps P n x)
+  ones-same : ones n (found P n x) (exponentsOf P n y) ≡ ones n (found P n x) (exponentsOf P n x)
   unfolding gathered over under
   ones-same =
       let A = aOf n m' e in
@@ -233,33 +233,37 @@ module _ {k n P : ℕ} {x y : Matrix} (small : k ≤ maxPower) (r : Returns k n 
       rw (nth-tab n (λ i. pow2Scaled (share n m' i) (pos 0 -ℤ b)) i nan l) (scaled-fits z j, q .0, q .1)
 
   abbrev R : Float
-  R = ratioOf n (taken limit n (found P n x)) (ones n (found P n x) (exps P n x)) (means n (found P n x))
+  R = ratioOf n (taken limit n (found P n x)) (ones n (found P n x) (exponentsOf P n x)) (means n (found P n x))
 
-  R-small : T (isFinite R) → mag R ≤ 2 ^ 1983
-  R-small = ratio-small limit n (C n m') (r .assets) (r .few) (p .limited) (p .regular) (ones n m' e) (means n m') means-small
+  R-small : T (isFinite R) → mag R ≤ 2 ^ ratioMost
+  R-small = ratio-small limit n (correlations n m') (r .assets) (r .few) (p .limited) (p .regular) (ones n m' e) (means n m') means-small
 
   R-fits : T (fits binary64 R)
   R-fits = div-fits binary64 (form n d (project n d (nth (ones n m' e))) (project n d (nth (means n m')))) (form n d (project n d (nth (ones n m' e))) (project n d (nth (ones n m' e))))
 
   -- ---- the target
-  abbrev S : ℤ
-  S = bOf n (found P n x) -ℤ aOf n (found P n x) (exps P n x)
+  -- of the ratio, scaled by 2 ^ S
+  abbrev targetMost : ℕ
+  targetMost = ratioMost + (47 + (21 + returnRange))
 
-  S-small : Within 108 240 S
+  abbrev S : ℤ
+  S = bOf n (found P n x) -ℤ aOf n (found P n x) (exponentsOf P n x)
+
+  S-small : Within (47 + (21 + returnRange)) (165 + (34 + suc returnRange)) S
   S-small = (omega (arith, minus (bOf n m') (aOf n m' e), one-side S, a-small, b-small), omega (arith, minus (bOf n m') (aOf n m' e), one-side S, a-small, b-small))
 
-  S-moves : bOf n (found P n x) -ℤ aOf n (found P n x) (exps P n y) ≡ S +ℤ pos k
+  S-moves : bOf n (found P n x) -ℤ aOf n (found P n x) (exponentsOf P n y) ≡ S +ℤ pos k
   unfolding over under
   S-moves = same (bOf n m' -ℤ aOf n m' f) (S +ℤ pos k) (omega (arith, minus (bOf n m') (aOf n m' f), minus (bOf n m') (aOf n m' e), plus S (pos k), plus (aOf n m' f) (pos k), ap over lower, ap under lower))
 
-  S'-small : Within 108 240 (S +ℤ pos k)
+  S'-small : Within (47 + (21 + returnRange)) (165 + (34 + suc returnRange)) (S +ℤ pos k)
   unfolding over under
   S'-small = (omega (arith, ap over S-moves, minus (bOf n m') (aOf n m' f), one-side (bOf n m' -ℤ aOf n m' f), a'-small, b-small), omega (arith, plus S (pos k), one-side (S +ℤ pos k), S-small))
 
-  target-is : pull limit n (found P n x) (exps P n x) .target ≡ pow2Scaled R S
+  target-is : bayesStein n limit (found P n x) (exponentsOf P n x) .target ≡ pow2Scaled R S
   target-is = pull-is limit n m' e .1
 
-  target'-is : pull limit n (found P n x) (exps P n y) .target ≡ pow2Scaled R (S +ℤ pos k)
+  target'-is : bayesStein n limit (found P n x) (exponentsOf P n y) .target ≡ pow2Scaled R (S +ℤ pos k)
   target'-is = pull-is limit n m' f .1 ∙ ap₂ (λ (o : List Float) (j : ℤ). pow2Scaled (ratioOf n d o (means n m')) j) ones-same S-moves
 
   endless : (s : Bool) → shift (pos k) (inf s) ≡ inf s
@@ -274,42 +278,39 @@ module _ {k n P : ℕ} {x y : Matrix} (small : k ≤ maxPower) (r : Returns k n 
       ∙ ap (shift (pos k)) (sym (ap (λ (z : Float). pow2Scaled z S) q ∙ inf-scaled s S (le-trans (c .0) (lit≤ tt)) (le-trans (c .1) (lit≤ tt))))
   scaled-moved (fin s c w) q a b =
       let F : T (isFinite R) = subst (λ (z : Float). T (isFinite z)) (sym q) (unfold isFinite in tt) in
-      tied R R-fits F 1983 (R-small F) S k small (le-trans (S-small .1) (lit≤ tt)) (le-trans (S-small .0) (lit≤ tt)) (let c = S'-small in omega arith) a b
+      tied R R-fits F ratioMost (R-small F) S k small (le-trans (S-small .1) (lit≤ tt)) (le-trans (S-small .0) (lit≤ tt)) (let c = S'-small in omega arith) a b
 
-  pub target-fits : T (fits binary64 (pull limit n (found P n x) (exps P n x) .target))
+  pub target-fits : T (fits binary64 (bayesStein n limit (found P n x) (exponentsOf P n x) .target))
   target-fits = rw target-is (scaled-fits R S)
 
-  pub target-moved : AtLeast meanRange (pull limit n (found P n x) (exps P n x) .target) → AtLeast meanRange (pull limit n (found P n x) (exps P n y) .target) → pull limit n (found P n x) (exps P n y) .target ≡ shift (pos k) (pull limit n (found P n x) (exps P n x) .target)
+  pub target-moved : AtLeast meanRange (bayesStein n limit (found P n x) (exponentsOf P n x) .target) → AtLeast meanRange (bayesStein n limit (found P n x) (exponentsOf P n y) .target) → bayesStein n limit (found P n x) (exponentsOf P n y) .target ≡ shift (pos k) (bayesStein n limit (found P n x) (exponentsOf P n x) .target)
   target-moved a b = target'-is ∙ scaled-moved R refl (subst (AtLeast meanRange) target-is a) (subst (AtLeast meanRange) target'-is b) ∙ ap (shift (pos k)) (sym target-is)
 
   -- a finite target's range: 0, or from 2 ^ -400, and not so large that it overflows in either run
-  target-range : AtLeast meanRange (pull limit n (found P n x) (exps P n x) .target) → T (isFinite (pull limit n (found P n x) (exps P n x) .target)) → Range meanGrain (2 ^ meanLeast) (2 ^ (2091 - k)) (pull limit n (found P n x) (exps P n x) .target)
+  target-range : AtLeast meanRange (bayesStein n limit (found P n x) (exponentsOf P n x) .target) → T (isFinite (bayesStein n limit (found P n x) (exponentsOf P n x) .target)) → Range meanGrain (2 ^ meanLeast) (2 ^ (targetMost - k)) (bayesStein n limit (found P n x) (exponentsOf P n x) .target)
   target-range a F = rw target-is (go (subst (AtLeast meanRange) target-is a) (subst (λ (z : Float). T (isFinite z)) target-is F))
     where
-      go : AtLeast meanRange (pow2Scaled R S) → T (isFinite (pow2Scaled R S)) → Range meanGrain (2 ^ meanLeast) (2 ^ (2091 - k)) (pow2Scaled R S)
+      go : AtLeast meanRange (pow2Scaled R S) → T (isFinite (pow2Scaled R S)) → Range meanGrain (2 ^ meanLeast) (2 ^ (targetMost - k)) (pow2Scaled R S)
       go a F =
           let c = S-small in
           let e = one-step R S (le-trans (c .0) (lit≤ tt)) (le-trans (c .1) (lit≤ tt)) in
           let q = mul-finite R (pow2 S) (subst (λ (z : Float). T (isFinite z)) e F) in
           let w = pow2-val S (1074 + over S - under S) (omega arith) in
-          let most : mag (pow2Scaled R S) ≤ 2 ^ (2091 - k) = rw (e, product-is R (pow2 S) R-fits (pow2-fits S (le-trans (c .0) (lit≤ tt)) (le-trans (c .1) (lit≤ tt))) (subst (λ (z : Float). T (isFinite z)) e F), val-mag (pow2 S) false (2 ^ (1074 + over S - under S)) w .1)
-          (near-most (mag R * 2 ^ (1074 + over S - under S)) U (2 ^ (2091 - k)) U-pos (held-pow (2091 - k)) (le-trans (mul-le-mul-right (2 ^ (1074 + over S - under S)) (R-small (q .0))) (powers (over S) (under S) room))) in
-          range-size meanGrain (2 ^ (2091 - k)) (pow2Scaled R S) (scaled-fits R S) F (at-least meanRange (lit≤ tt) (pow2Scaled R S) (mag-val (pow2Scaled R S) (scaled-fits R S) F) a) most
+          let most : mag (pow2Scaled R S) ≤ 2 ^ (targetMost - k) = rw (e, product-is R (pow2 S) R-fits (pow2-fits S (le-trans (c .0) (lit≤ tt)) (le-trans (c .1) (lit≤ tt))) (subst (λ (z : Float). T (isFinite z)) e F), val-mag (pow2 S) false (2 ^ (1074 + over S - under S)) w .1)
+          (near-most (mag R * 2 ^ (1074 + over S - under S)) U (2 ^ (targetMost - k)) U-pos (held-pow (targetMost - k)) (le-trans (mul-le-mul-right (2 ^ (1074 + over S - under S)) (R-small (q .0))) (pow-le-U ratioMost (1074 + over S - under S) (targetMost - k) (omega (arith, room))))) in
+          range-size meanGrain (2 ^ (targetMost - k)) (pow2Scaled R S) (scaled-fits R S) F (at-least meanRange (lit≤ tt) (pow2Scaled R S) (mag-val (pow2Scaled R S) (scaled-fits R S) F) a) most
         where
-          room : over S + k ≤ 108 + under S
+          room : over S + k ≤ 47 + (21 + returnRange) + under S
           room = unfold over under in omega (arith, plus S (pos k), one-side (S +ℤ pos k), S'-small)
-
-          powers : (o u : ℕ) → o + k ≤ 108 + u → 2 ^ 1983 * 2 ^ (1074 + o - u) ≤ 2 ^ (2091 - k) * U
-          powers o u l = le-trans (le-of-eq (sym (pow-add 2 1983 (1074 + o - u)))) (le-trans (pow-mono {i = 1983 + (1074 + o - u)} {j = 2091 - k + 1074} (omega arith)) (le-of-eq (pow-add 2 (2091 - k) 1074 ∙ ap (λ (z : ℕ). 2 ^ (2091 - k) * z) (sym U-is))))
 
   -- ---- the intensity
   abbrev α : Float
-  α = pull limit n (found P n x) (exps P n x) .intensity
+  α = bayesStein n limit (found P n x) (exponentsOf P n x) .intensity
 
-  pub intensity-same : pull limit n (found P n x) (exps P n y) .intensity ≡ pull limit n (found P n x) (exps P n x) .intensity
+  pub intensity-same : bayesStein n limit (found P n x) (exponentsOf P n y) .intensity ≡ bayesStein n limit (found P n x) (exponentsOf P n x) .intensity
   intensity-same = pull-is limit n m' f .0 ∙ ap (λ (o : List Float). intensityAt n (distance n d (m' .periods) o (means n m') (bOf n m'))) ones-same ∙ sym (pull-is limit n m' e .0)
 
-  intensity-range : AtLeast meanRange (pull limit n (found P n x) (exps P n x) .intensity) → (pull limit n (found P n x) (exps P n x) .intensity ≡ nan) ⊎ MeanIntensity (pull limit n (found P n x) (exps P n x) .intensity)
+  intensity-range : AtLeast meanRange (bayesStein n limit (found P n x) (exponentsOf P n x) .intensity) → (bayesStein n limit (found P n x) (exponentsOf P n x) .intensity ≡ nan) ⊎ MeanIntensity (bayesStein n limit (found P n x) (exponentsOf P n x) .intensity)
   intensity-range a =
       let u = pull-unit limit n m' e (r .few) (unfold moments in sign-count P) in
       unit-range meanRange (lit≤ tt) α (rw (pull-is limit n m' e .0) (div-fits binary64 (count n ⊕ two) _)) a (u .0) (u .1)
@@ -318,32 +319,32 @@ module _ {k n P : ℕ} {x y : Matrix} (small : k ≤ maxPower) (r : Returns k n 
   -- with a target that is finite, and with one that is not
   module _ (i : ℕ) (l : i < n) (a : MeanIntensity α) where
     abbrev t : Float
-    t = pull limit n (found P n x) (exps P n x) .target
+    t = bayesStein n limit (found P n x) (exponentsOf P n x) .target
 
-    part : Moved k 385 385 1128 (pow2Scaled ((one ⊖ α) ⊗ nth (found P n x .mean) i) (exps P n x i)) (pow2Scaled ((one ⊖ α) ⊗ nth (found P n x .mean) i) (exps P n y i))
+    part : Moved k 385 385 1128 (pow2Scaled ((one ⊖ α) ⊗ nth (found P n x .mean) i) (exponentsOf P n x i)) (pow2Scaled ((one ⊖ α) ⊗ nth (found P n x .mean) i) (exponentsOf P n y i))
     part =
         let rest = moved-sub (moved-weaken meanGrain meanLeast 1074 (lit≤ tt) (lit≤ tt) (lit≤ tt) one-moved) (still meanLeast 1074 a) (lit≤ tt) in
         let q = moved-mul rest (still 930 1087 (μ-range small r i l)) 426 426 1088 (lit≤ tt) (lit≤ tt) (lit≤ tt) (lit≤ tt) .range in
         let c = exponent-small small r i l (p .above i l) in
-        let j = exps P n x i in
+        let j = exponentsOf P n x i in
         let z = (one ⊖ α) ⊗ nth (m' .mean) i in
         record {
           range = scaled-range 1088 j returnRange (suc returnRange) q (c .0) (c .1) (lit≤ tt) (lit≤ tt);
           copy = ap (pow2Scaled z) (grows small r i l (p .above i l)) ∙ scaled-copy j (pos k) z (q .fit) (fits-move 1088 z q j (omega arith) (omega arith)) (fits-move 1088 z q (j +ℤ pos k) (unfold over under in omega (arith, plus j (pos k), one-side (j +ℤ pos k))) (unfold over under in omega (arith, plus j (pos k), one-side (j +ℤ pos k))));
         }
 
-    mean-finite : AtLeast meanRange t → T (isFinite t) → (t' : Float) → t' ≡ shift (pos k) t → pow2Scaled ((one ⊖ α) ⊗ nth (found P n x .mean) i) (exps P n y i) ⊕ α ⊗ t' ≡ shift (pos k) (pow2Scaled ((one ⊖ α) ⊗ nth (found P n x .mean) i) (exps P n x i) ⊕ α ⊗ t)
+    mean-finite : AtLeast meanRange t → T (isFinite t) → (t' : Float) → t' ≡ shift (pos k) t → pow2Scaled ((one ⊖ α) ⊗ nth (found P n x .mean) i) (exponentsOf P n y i) ⊕ α ⊗ t' ≡ shift (pos k) (pow2Scaled ((one ⊖ α) ⊗ nth (found P n x .mean) i) (exponentsOf P n x i) ⊕ α ⊗ t)
     mean-finite b F t' e =
-        let w : Moved k meanGrain meanLeast (2091 - k) t t' = record { range = target-range b F; copy = e } in
-        let q = rw (zero-add k) at (moved-mul (still meanLeast 1074 a) w 170 170 (2091 - k) (lit≤ tt) (lit≤ tt) (omega arith) (omega arith)) in
-        moved-add (moved-weaken 170 170 (2091 - k) (lit≤ tt) (lit≤ tt) (omega arith) part) q (omega arith) .copy
+        let w : Moved k meanGrain meanLeast (targetMost - k) t t' = record { range = target-range b F; copy = e } in
+        let q = rw (zero-add k) at (moved-mul (still meanLeast 1074 a) w 170 170 (targetMost - k) (lit≤ tt) (lit≤ tt) (omega arith) (omega arith)) in
+        moved-add (moved-weaken 170 170 (targetMost - k) (lit≤ tt) (lit≤ tt) (omega arith) part) q (omega arith) .copy
 
-    mean-endless : (T (isFinite t) → ⊥) → (t' : Float) → t' ≡ shift (pos k) t → pow2Scaled ((one ⊖ α) ⊗ nth (found P n x .mean) i) (exps P n y i) ⊕ α ⊗ t' ≡ shift (pos k) (pow2Scaled ((one ⊖ α) ⊗ nth (found P n x .mean) i) (exps P n x i) ⊕ α ⊗ t)
+    mean-endless : (T (isFinite t) → ⊥) → (t' : Float) → t' ≡ shift (pos k) t → pow2Scaled ((one ⊖ α) ⊗ nth (found P n x .mean) i) (exponentsOf P n y i) ⊕ α ⊗ t' ≡ shift (pos k) (pow2Scaled ((one ⊖ α) ⊗ nth (found P n x .mean) i) (exponentsOf P n x i) ⊕ α ⊗ t)
     mean-endless F t' e =
         let z = α ⊗ t in
         let G : T (isFinite z) → ⊥ = λ g. F (mul-finite α t g .1) in
-        let u = pow2Scaled ((one ⊖ α) ⊗ nth (m' .mean) i) (exps P n x i) in
-        let v = pow2Scaled ((one ⊖ α) ⊗ nth (m' .mean) i) (exps P n y i) in
+        let u = pow2Scaled ((one ⊖ α) ⊗ nth (m' .mean) i) (exponentsOf P n x i) in
+        let v = pow2Scaled ((one ⊖ α) ⊗ nth (m' .mean) i) (exponentsOf P n y i) in
         let fu = part .range .finite in
         let fv : T (isFinite v) = rw (part .copy, isFinite-shift (pos k) u) fu in
         ap (λ (s : Float). v ⊕ α ⊗ s) (e ∙ unmoved t F) ∙ absorbs v z fv G ∙ sym (unmoved z G) ∙ ap (shift (pos k)) (sym (absorbs u z fu G))
@@ -360,24 +361,24 @@ module _ {k n P : ℕ} {x y : Matrix} (small : k ≤ maxPower) (r : Returns k n 
         absorbs (fin r c w) (inf s) f g = unfold add in refl
         absorbs x (fin s c w) f g = absurd (g (unfold isFinite in tt))
 
-  pub means-moved : AtLeast meanRange α → AtLeast meanRange (pull limit n (found P n x) (exps P n x) .target) → AtLeast meanRange (pull limit n (found P n x) (exps P n y) .target) → (i : ℕ) → i < n
-      → pulled (pull limit n (found P n x) (exps P n y)) (nth (found P n x .mean) i) (exps P n y i) ≡ shift (pos k) (pulled (pull limit n (found P n x) (exps P n x)) (nth (found P n x .mean) i) (exps P n x i))
+  pub means-moved : AtLeast meanRange α → AtLeast meanRange (bayesStein n limit (found P n x) (exponentsOf P n x) .target) → AtLeast meanRange (bayesStein n limit (found P n x) (exponentsOf P n y) .target) → (i : ℕ) → i < n
+      → bayesStein n limit (found P n x) (exponentsOf P n y) .mean i ≡ shift (pos k) (bayesStein n limit (found P n x) (exponentsOf P n x) .mean i)
   unfolding pulled
   means-moved a b c i l =
-      let t' = pull limit n m' f .target in
+      let t' = bayesStein n limit m' f .target in
       let μ = nth (m' .mean) i in
-      ap (λ (z : Float). pow2Scaled ((one ⊖ z) ⊗ μ) (exps P n y i) ⊕ z ⊗ t') intensity-same ∙ go (intensity-range a)
+      ap (λ (z : Float). pow2Scaled ((one ⊖ z) ⊗ μ) (exponentsOf P n y i) ⊕ z ⊗ t') intensity-same ∙ go (intensity-range a)
     where
       t : Float
-      t = pull limit n (found P n x) (exps P n x) .target
+      t = bayesStein n limit (found P n x) (exponentsOf P n x) .target
 
       decide : (b : Bool) → isFinite t ≡ b → T (isFinite t) ⊎ (T (isFinite t) → ⊥)
       decide true e = inl (rw e tt)
       decide false e = inr (λ f. subst T e f)
 
-      go : (α ≡ nan) ⊎ MeanIntensity α → pow2Scaled ((one ⊖ α) ⊗ nth (found P n x .mean) i) (exps P n y i) ⊕ α ⊗ pull limit n (found P n x) (exps P n y) .target ≡ shift (pos k) (pow2Scaled ((one ⊖ α) ⊗ nth (found P n x .mean) i) (exps P n x i) ⊕ α ⊗ pull limit n (found P n x) (exps P n x) .target)
-      go (inr q) = elim (decide (isFinite t) refl) [ inl F ↦ mean-finite i l q b F (pull limit n m' f .target) (target-moved b c) | inr F ↦ mean-endless i l q F (pull limit n m' f .target) (target-moved b c) ]
-      go (inl q) = nothing (pow2Scaled ((one ⊖ α) ⊗ nth (m' .mean) i) (exps P n y i)) (pull limit n m' f .target) ∙ sym (shift-nan (pos k)) ∙ ap (shift (pos k)) (sym (nothing (pow2Scaled ((one ⊖ α) ⊗ nth (m' .mean) i) (exps P n x i)) (pull limit n m' e .target)))
+      go : (α ≡ nan) ⊎ MeanIntensity α → pow2Scaled ((one ⊖ α) ⊗ nth (found P n x .mean) i) (exponentsOf P n y i) ⊕ α ⊗ bayesStein n limit (found P n x) (exponentsOf P n y) .target ≡ shift (pos k) (pow2Scaled ((one ⊖ α) ⊗ nth (found P n x .mean) i) (exponentsOf P n x i) ⊕ α ⊗ bayesStein n limit (found P n x) (exponentsOf P n x) .target)
+      go (inr q) = elim (decide (isFinite t) refl) [ inl F ↦ mean-finite i l q b F (bayesStein n limit m' f .target) (target-moved b c) | inr F ↦ mean-endless i l q F (bayesStein n limit m' f .target) (target-moved b c) ]
+      go (inl q) = nothing (pow2Scaled ((one ⊖ α) ⊗ nth (m' .mean) i) (exponentsOf P n y i)) (bayesStein n limit m' f .target) ∙ sym (shift-nan (pos k)) ∙ ap (shift (pos k)) (sym (nothing (pow2Scaled ((one ⊖ α) ⊗ nth (m' .mean) i) (exponentsOf P n x i)) (bayesStein n limit m' e .target)))
         where
           nothing : (u z : Float) → u ⊕ α ⊗ z ≡ nan
           nothing u z = ap (λ (s : Float). u ⊕ s ⊗ z) q ∙ unfold mul in nan-add u nan (inr refl)

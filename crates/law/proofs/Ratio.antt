@@ -1,11 +1,11 @@
--- The Bayes-Stein ratio N / D, with N the sum of p m / λ and D the sum of p p / λ over the columns of V, is NaN, infinite or at most 2 ^ 912: so scaled by a power of two that is small enough it is
+-- The Bayes-Stein ratio N / D, with N the sum of p m / λ and D the sum of p p / λ over the columns of V, is NaN, infinite or at most 2 ^ 909: so scaled by a power of two that is small enough it is
 -- finite in both runs or in none. V's entries are at most 2 ^ 300 in size, what it is multiplied with at most 2, and the smallest value λ is above n 2 ^ -52 times the largest, Λ. Where D is
 -- finite and not zero, every λ is above 0, and at least 2 ^ -53 Λ. With P the largest p in size, N is at most 2 ^ 367 P / Λ; and D is at least P P / 16 Λ where that is a unit or more, and else 1 / 4 Λ
 -- at least, in units. Both bounds give the ratio's, and no lower bound on V or Λ is needed. Assumes nothing.
 use mathlib.Core.Path.{_≡_, refl, sym, ap, ap₂, _∙_, subst, subst₂}
 use mathlib.Core.Logic.{inl, inr}
 use Prim.Native.Nat.{ℕ, zero, suc, _+_, _-_, _*_, _/_, _^_, _≤_, _<_, zero-le}
-use native.Mathlib.Nat.{le-refl, le-add-right, sub-le, sub-le-sub-left, le-trans, le-of-eq, le-of-lt, lt-of-lt-of-le, lt-of-le-of-lt, lt-irrefl, lt-suc-self, lt-trans, mul-le-mul, mul-le-mul-left, mul-le-mul-right, mul-pos, mul-assoc, mul-comm, mul-right-comm, mul-one, one-mul, le-of-mul-le-mul-right, zero-lt-suc, eq-zero-or-pos, not-suc-le-zero, le-div-iff-mul-le, div-mul-le-self, eq-or-lt-of-le, le-of-suc-le-suc, add-zero}
+use native.Mathlib.Nat.{le-refl, le-add-right, sub-le, sub-le-sub-left, le-trans, le-of-eq, le-of-lt, lt-of-lt-of-le, lt-of-le-of-lt, lt-irrefl, lt-suc-self, lt-trans, mul-le-mul, mul-le-mul-left, mul-le-mul-right, mul-pos, mul-assoc, mul-comm, mul-right-comm, one-mul, le-of-mul-le-mul-right, zero-lt-suc, eq-zero-or-pos, not-suc-le-zero, le-div-iff-mul-le, div-mul-le-self, eq-or-lt-of-le, le-of-suc-le-suc, add-zero}
 use native.Mathlib.Omega.{arith}
 use mathlib.Core.Bool.{Bool, true, false, cond}
 use lib.Dec.{T, ltb, eqb·suc-zero, lit≤, lit<}
@@ -23,7 +23,7 @@ use Rattle.leaves.specs.Loops.{loop, sumTo, minTo, maxTo}
 use Rattle.leaves.proofs.Rounding.{near, Near, near-most, near-error, near-held, held-small, held-times}
 use Rattle.leaves.proofs.Units.{val-pos, U, U-pos, Top, pow-under-Top, Val, zero-mag, sign, mag, val-mag, mag-val, mag-held, finite-fin, fin-val, fin-under-Top, rounded, finite-mag, rounded-val, lt-val}
 use Rattle.leaves.proofs.Arithmetic.{sumSign, total, total-le, add-finite, mul-finite, div-finite, add-rounded, mul-rounded, div-rounded}
-use Rattle.leaves.proofs.Range.{range-weaken, count-val}
+use Rattle.leaves.proofs.Range.{count-val, range-most}
 use Rattle.leaves.proofs.Operations.{still}
 use Rattle.leaves.proofs.Signs.{sign-mul, sign-div}
 use Rattle.leaves.proofs.Totals.{moved-sum}
@@ -31,6 +31,14 @@ use Rattle.matrix.specs.Limits.{maxSide}
 use Rattle.law.proofs.Bits.{sideBits, side-bits}
 use Rattle.law.proofs.Sizes.{over-inf, number, val-number, le-or}
 use Rattle.law.proofs.Weighted.{sum-fits, sum-least}
+
+-- what V is multiplied with, projected: a sum of products of at most 2 ^ 301
+abbrev pub projectedMost : ℕ
+projectedMost = sideBits + 1375
+
+-- 2 ^ 909, in units
+abbrev pub ratioMost : ℕ
+ratioMost = 1983
 
 -- ---- one operation's size
 module _ (x y : Float) (fx : T (fits binary64 x)) (fy : T (fits binary64 y)) where
@@ -59,7 +67,7 @@ sum-finite (suc n) f h t l =
 
 -- at most 2 ^ h units each
 pub sum-most : (n h : ℕ) (f : ℕ → Float) → n ≤ maxSide → sideBits + h ≤ 2097 → ((t : ℕ) → t < n → T (fits binary64 (f t)) × T (isFinite (f t)) × (mag (f t) ≤ 2 ^ h)) → mag (sumTo n f) ≤ 2 ^ (sideBits + h)
-sum-most n h f few o each = moved-sum 0 0 h n sideBits (side-bits few) (lit≤ tt) (rw (add-zero (sideBits + h)) o) 0 f f (λ t l. let q = each t l in still 0 h (range-weaken (2 ^ 0) (2 ^ h) (le-refl 1) (q .2) (record { fit = q .0; finite = q .1; count = mag (f t); grain = sym (mul-one (mag (f t))); least = λ p. p; most = le-refl (mag (f t)) }))) .range .most
+sum-most n h f few o each = moved-sum 0 0 h n sideBits (side-bits few) (lit≤ tt) (rw (add-zero (sideBits + h)) o) 0 f f (λ t l. let q = each t l in still 0 h (range-most (f t) (q .0) (q .1) (q .2))) .range .most
 
 -- zeros sum to zero, so a sum that is not zero has a term that is not
 sum-some : (n : ℕ) (f : ℕ → Float) → ((t : ℕ) → t < n → T (fits binary64 (f t))) → T (isFinite (sumTo n f)) → 0 < mag (sumTo n f) → (t : ℕ) × (t < n) × (0 < mag (f t))
@@ -97,35 +105,33 @@ ltb-same a b c d f g = go (ltb a b) refl
         back : b ≤ a → d ≤ c
         back h = elim (le-or-lt d c) [ inl l ↦ l | inr l ↦ absurd (lt-irrefl a (lt-of-lt-of-le (g l) h)) ]
 
-module _ (x y : Float) (fx : T (fits binary64 x)) (fy : T (fits binary64 y)) where
-  lt-key : T (number x) → T (number y) → lt x y ≡ ltb (key x) (key y)
-  lt-key = go x y fx fy
-    where
-      inside : (t : Bool) (b : ℕ) → b < Top → (0 < cond t (Top - b) (Top + b)) × (cond t (Top - b) (Top + b) < Top + Top)
-      inside true b l = (omega arith, omega arith)
-      inside false b l = (omega arith, omega arith)
+-- a finite number's key lies between those of the infinities
+inside : (t : Bool) (b : ℕ) → b < Top → (0 < cond t (Top - b) (Top + b)) × (cond t (Top - b) (Top + b) < Top + Top)
+inside true b l = (omega arith, omega arith)
+inside false b l = (omega arith, omega arith)
 
-      pair : (s t : Bool) (a b : ℕ) → a < Top → b < Top → below s a t b ≡ ltb (cond s (Top - a) (Top + a)) (cond t (Top - b) (Top + b))
-      pair false false a b l k = ltb-same a b (Top + a) (Top + b) (λ h. omega arith) (λ h. omega arith)
-      pair false true a b l k = sym (le-ltb (Top + a) (Top - b) (omega arith))
-      pair true false a b l k = ltb-same 0 (a + b) (Top - a) (Top + b) (λ h. omega arith) (λ h. omega arith)
-      pair true true a b l k = ltb-same b a (Top - a) (Top - b) (λ h. omega arith) (λ h. omega arith)
+below-key : (s t : Bool) (a b : ℕ) → a < Top → b < Top → below s a t b ≡ ltb (cond s (Top - a) (Top + a)) (cond t (Top - b) (Top + b))
+below-key false false a b l k = ltb-same a b (Top + a) (Top + b) (λ h. omega arith) (λ h. omega arith)
+below-key false true a b l k = sym (le-ltb (Top + a) (Top - b) (omega arith))
+below-key true false a b l k = ltb-same 0 (a + b) (Top - a) (Top + b) (λ h. omega arith) (λ h. omega arith)
+below-key true true a b l k = ltb-same b a (Top - a) (Top - b) (λ h. omega arith) (λ h. omega arith)
 
-      go : (x y : Float) → T (fits binary64 x) → T (fits binary64 y) → T (number x) → T (number y) → lt x y ≡ ltb (key x) (key y)
-      go nan y tx ty p q = absurd p
-      go (inf s) nan tx ty p q = absurd q
-      go (fin s m e) nan tx ty p q = absurd q
-      go (inf true) (inf true) tx ty p q = unfold lt key in sym (le-ltb 0 0 (lit≤ tt))
-      go (inf true) (inf false) tx ty p q = unfold lt key in sym (lt-ltb 0 (Top + Top) (let t = pow-under-Top 0 (lit≤ tt) in omega arith))
-      go (inf false) (inf true) tx ty p q = unfold lt key in sym (le-ltb (Top + Top) 0 zero-le)
-      go (inf false) (inf false) tx ty p q = unfold lt key in sym (le-ltb (Top + Top) (Top + Top) (le-refl (Top + Top)))
-      go (inf true) (fin t n d) tx ty p q = unfold lt key in sym (lt-ltb 0 (cond t (Top - mag (fin t n d)) (Top + mag (fin t n d))) (inside t (mag (fin t n d)) (fin-under-Top t n d ty) .0))
-      go (inf false) (fin t n d) tx ty p q = unfold lt key in sym (le-ltb (Top + Top) (cond t (Top - mag (fin t n d)) (Top + mag (fin t n d))) (le-of-lt (inside t (mag (fin t n d)) (fin-under-Top t n d ty) .1)))
-      go (fin s m e) (inf true) tx ty p q = unfold lt key in sym (le-ltb (cond s (Top - mag (fin s m e)) (Top + mag (fin s m e))) 0 zero-le)
-      go (fin s m e) (inf false) tx ty p q = unfold lt key in sym (lt-ltb (cond s (Top - mag (fin s m e)) (Top + mag (fin s m e))) (Top + Top) (inside s (mag (fin s m e)) (fin-under-Top s m e tx) .1))
-      go (fin s m e) (fin t n d) tx ty p q =
-          lt-val (fin s m e) (fin t n d) s t (mag (fin s m e)) (mag (fin t n d)) (fin-val s m e tx) (fin-val t n d ty)
-          ∙ pair s t (mag (fin s m e)) (mag (fin t n d)) (fin-under-Top s m e tx) (fin-under-Top t n d ty) ∙ unfold key in refl
+lt-key : (x y : Float) → T (fits binary64 x) → T (fits binary64 y) → T (number x) → T (number y) → lt x y ≡ ltb (key x) (key y)
+unfolding lt key
+lt-key nan y tx ty p q = absurd p
+lt-key (inf s) nan tx ty p q = absurd q
+lt-key (fin s m e) nan tx ty p q = absurd q
+lt-key (inf true) (inf true) tx ty p q = sym (le-ltb 0 0 (lit≤ tt))
+lt-key (inf true) (inf false) tx ty p q = sym (lt-ltb 0 (Top + Top) (let t = pow-under-Top 0 (lit≤ tt) in omega arith))
+lt-key (inf false) (inf true) tx ty p q = sym (le-ltb (Top + Top) 0 zero-le)
+lt-key (inf false) (inf false) tx ty p q = sym (le-ltb (Top + Top) (Top + Top) (le-refl (Top + Top)))
+lt-key (inf true) (fin t n d) tx ty p q = sym (lt-ltb 0 (cond t (Top - mag (fin t n d)) (Top + mag (fin t n d))) (inside t (mag (fin t n d)) (fin-under-Top t n d ty) .0))
+lt-key (inf false) (fin t n d) tx ty p q = sym (le-ltb (Top + Top) (cond t (Top - mag (fin t n d)) (Top + mag (fin t n d))) (le-of-lt (inside t (mag (fin t n d)) (fin-under-Top t n d ty) .1)))
+lt-key (fin s m e) (inf true) tx ty p q = sym (le-ltb (cond s (Top - mag (fin s m e)) (Top + mag (fin s m e))) 0 zero-le)
+lt-key (fin s m e) (inf false) tx ty p q = sym (lt-ltb (cond s (Top - mag (fin s m e)) (Top + mag (fin s m e))) (Top + Top) (inside s (mag (fin s m e)) (fin-under-Top s m e tx) .1))
+lt-key (fin s m e) (fin t n d) tx ty p q =
+    lt-val (fin s m e) (fin t n d) s t (mag (fin s m e)) (mag (fin t n d)) (fin-val s m e tx) (fin-val t n d ty)
+    ∙ below-key s t (mag (fin s m e)) (mag (fin t n d)) (fin-under-Top s m e tx) (fin-under-Top t n d ty)
 
 le-key : (x y : Float) → T (fits binary64 x) → T (fits binary64 y) → T (number x) → T (number y) → le x y ≡ false → key y < key x
 le-key x y fx fy p q h = ltb-true (key y) (key x) (sym (lt-key y x fy fx q p) ∙ le-or x y p q h)
@@ -187,7 +193,7 @@ module _ (n : ℕ) (few : suc n ≤ maxSide) (v : ℕ → Float) (fit : (e : ℕ
   by-largest : (Λ : Float) → T (fits binary64 Λ) → T (number Λ) → ((e : ℕ) → e < suc n → key (v e) ≤ key Λ) → (m : Float) → T (fits binary64 m) → T (number m) → ((e : ℕ) → e < suc n → key m ≤ key (v e))
       → le m (count (suc n) ⊗ ε ⊗ Λ) ≡ false → Positive (suc n) v
   by-largest nan t p hi m tm pm lo h = absurd p
-  by-largest (inf s) t p hi m tm pm lo h = absurd (endless s hi lo h)
+  by-largest (inf s) t p hi m tm pm lo h = absurd (lt-irrefl (key m) (lt-of-le-of-lt (le-trans (lo 0 (zero-lt-suc n)) (hi 0 (zero-lt-suc n))) (le-key m (inf s) tm (unfold fits in tt) pm tt (ap (le m) (sym (bar-is s)) ∙ h))))
     where
       bar-is : (s : Bool) → count (suc n) ⊗ ε ⊗ inf s ≡ inf s
       bar-is s = nonzero (count (suc n) ⊗ ε) (tiny (suc n) few)
@@ -201,11 +207,6 @@ module _ (n : ℕ) (few : suc n ≤ maxSide) (v : ℕ → Float) (fit : (e : ℕ
               same : (s : Bool) → inf (unlike false s) ≡ inf s
               same true = refl
               same false = refl
-
-      endless : (s : Bool) → ((e : ℕ) → e < suc n → key (v e) ≤ key (inf s)) → ((e : ℕ) → e < suc n → key m ≤ key (v e)) → le m (count (suc n) ⊗ ε ⊗ inf s) ≡ false → ⊥
-      endless s hi lo h =
-          let k = le-key m (inf s) tm (unfold fits in tt) pm tt (ap (le m) (sym (bar-is s)) ∙ h) in
-          lt-irrefl (key m) (lt-of-le-of-lt (le-trans (lo 0 (zero-lt-suc n)) (hi 0 (zero-lt-suc n))) k)
   by-largest (fin s c e) t p hi m tm pm lo h = signed s refl hi lo (le-key m bar tm (mul-fits binary64 (count (suc n) ⊗ ε) (fin s c e)) pm bar-number h)
     where
       Λ : Float
@@ -306,7 +307,7 @@ largest-of (suc n) a =
 
 -- ---- the ratio
 module _ (n : ℕ) (few : suc n ≤ maxSide) (v : ℕ → Float) (vf : (e : ℕ) → e < suc n → T (fits binary64 (v e))) (test : le (minTo (suc n) v) (count (suc n) ⊗ ε ⊗ maxTo (suc n) v) ≡ false)
-    (p m : ℕ → Float) (pf : (e : ℕ) → e < suc n → T (fits binary64 (p e))) (mf : (e : ℕ) → e < suc n → T (fits binary64 (m e))) (small : (e : ℕ) → e < suc n → T (isFinite (m e)) → mag (m e) ≤ 2 ^ 1380) where
+    (p m : ℕ → Float) (pf : (e : ℕ) → e < suc n → T (fits binary64 (p e))) (mf : (e : ℕ) → e < suc n → T (fits binary64 (m e))) (small : (e : ℕ) → e < suc n → T (isFinite (m e)) → mag (m e) ≤ 2 ^ projectedMost) where
   abbrev N : Float
   N = sumTo (suc n) (λ e. p e ⊗ m e ⊘ v e)
 
@@ -375,7 +376,7 @@ module _ (n : ℕ) (few : suc n ≤ maxSide) (v : ℕ → Float) (vf : (e : ℕ)
         let G = div-finite (p e ⊗ m e) (v e) F in
         let q = quotient (p e ⊗ m e) (v e) (mul-fits binary64 (p e) (m e)) (vf e l) (values .finite e l) (values .above e l) F .doubled in
         let r = product (p e) (m e) (pf e l) (mf e l) G .doubled in
-        le-trans (go (mag (p e ⊗ m e ⊘ v e)) (mag (v e)) (mag (p e ⊗ m e)) U (mag (p e)) (mag (m e)) Pm (2 ^ 1380) (values .L) q r (P .2 e l) (small e l (mul-finite (p e) (m e) G .1)) (values .least e l)) (le-of-eq powers)
+        le-trans (go (mag (p e ⊗ m e ⊘ v e)) (mag (v e)) (mag (p e ⊗ m e)) U (mag (p e)) (mag (m e)) Pm (2 ^ projectedMost) (values .L) q r (P .2 e l) (small e l (mul-finite (p e) (m e) G .1)) (values .least e l)) (le-of-eq powers)
       where
         go : (t w a u p m P M L : ℕ) → t * w ≤ 2 * (a * u) → a * u ≤ 2 * (p * m) → p ≤ P → m ≤ M → L ≤ 9007199254740992 * w → t * L ≤ 36028797018963968 * (P * M)
         go t w a u p m P M L q r pP mM lw =
@@ -383,8 +384,8 @@ module _ (n : ℕ) (few : suc n ≤ maxSide) (v : ℕ → Float) (vf : (e : ℕ)
             let g : t * L ≤ t * (9007199254740992 * w) = mul-le-mul-left t lw in
             omega arith
 
-        powers : 36028797018963968 * (Pm * 2 ^ 1380) ≡ 2 ^ 1435 * Pm
-        powers = ap (λ (z : ℕ). 36028797018963968 * z) (mul-comm Pm (2 ^ 1380)) ∙ sym (mul-assoc 36028797018963968 (2 ^ 1380) Pm) ∙ ap (λ (z : ℕ). z * Pm) refl
+        powers : 36028797018963968 * (Pm * 2 ^ projectedMost) ≡ 2 ^ 1435 * Pm
+        powers = ap (λ (z : ℕ). 36028797018963968 * z) (mul-comm Pm (2 ^ projectedMost)) ∙ sym (mul-assoc 36028797018963968 (2 ^ projectedMost) Pm)
 
     N-most : mag N * values .L ≤ 2 ^ 1441 * Pm
     N-most =
@@ -392,19 +393,19 @@ module _ (n : ℕ) (few : suc n ≤ maxSide) (v : ℕ → Float) (vf : (e : ℕ)
         let X = 2 ^ 1435 * Pm in
         let Q = X / L in
         let t-most : (e : ℕ) → e < suc n → mag (p e ⊗ m e ⊘ v e) ≤ Q = λ e l. le-div-iff-mul-le (values .some) .1 (term-most e l) in
-        let most : mag N ≤ 64 * Q = elim (eq-zero-or-pos Q) [
+        let most : mag N ≤ 2 ^ suc sideBits * Q = elim (eq-zero-or-pos Q) [
           | inl z ↦ elim (eq-zero-or-pos (mag N)) [
             | inl y ↦ le-trans (le-of-eq y) zero-le
             | inr k ↦ (let w = sum-some (suc n) (λ e. p e ⊗ m e ⊘ v e) (λ e l. div-fits binary64 (p e ⊗ m e) (v e)) FN k in absurd (lt-irrefl 0 (lt-of-lt-of-le (w .2) (le-trans (t-most (w .0) (w .1)) (le-of-eq z)))))
           ]
-          | inr q ↦ by-size Q q (size Q) refl (λ e l. (div-fits binary64 (p e ⊗ m e) (v e), sum-finite (suc n) (λ e. p e ⊗ m e ⊘ v e) FN e l, le-of-lt (lt-of-le-of-lt (t-most e l) (size-lt Q))))
+          | inr q ↦ by-size Q q (λ e l. (div-fits binary64 (p e ⊗ m e) (v e), sum-finite (suc n) (λ e. p e ⊗ m e ⊘ v e) FN e l, le-of-lt (lt-of-le-of-lt (t-most e l) (size-lt Q))))
         ] in
-        le-trans (mul-le-mul-right L most) (le-trans (le-of-eq (mul-assoc 64 Q L)) (le-trans (mul-le-mul-left 64 (div-mul-le-self X L)) (le-of-eq (sym (mul-assoc 64 (2 ^ 1435) Pm)))))
+        le-trans (mul-le-mul-right L most) (le-trans (le-of-eq (mul-assoc (2 ^ suc sideBits) Q L)) (le-trans (mul-le-mul-left (2 ^ suc sideBits) (div-mul-le-self X L)) (le-of-eq (sym (mul-assoc (2 ^ suc sideBits) (2 ^ 1435) Pm)))))
       where
-        by-size : (Q : ℕ) → 0 < Q → (h : ℕ) → size Q ≡ h → ((e : ℕ) → e < suc n → T (fits binary64 (p e ⊗ m e ⊘ v e)) × T (isFinite (p e ⊗ m e ⊘ v e)) × (mag (p e ⊗ m e ⊘ v e) ≤ 2 ^ size Q)) → mag N ≤ 64 * Q
-        by-size Q q h i each = elim (le-or-lt (sideBits + size Q) 2097) [
-          | inl l ↦ le-trans (sum-most (suc n) (size Q) (λ e. p e ⊗ m e ⊘ v e) few l each) (le-trans (le-of-eq (halves (size Q) some)) (mul-le-mul-left 64 reach))
-          | inr l ↦ le-trans (le-of-lt (mag-held N (sum-fits (suc n) (λ e. p e ⊗ m e ⊘ v e)) FN .1)) (le-trans top (mul-le-mul-left 64 (le-trans (pow-mono {i = 2092} {j = size Q - 1} (omega arith)) reach)))
+        by-size : (Q : ℕ) → 0 < Q → ((e : ℕ) → e < suc n → T (fits binary64 (p e ⊗ m e ⊘ v e)) × T (isFinite (p e ⊗ m e ⊘ v e)) × (mag (p e ⊗ m e ⊘ v e) ≤ 2 ^ size Q)) → mag N ≤ 2 ^ suc sideBits * Q
+        by-size Q q each = elim (le-or-lt (sideBits + size Q) 2097) [
+          | inl l ↦ le-trans (sum-most (suc n) (size Q) (λ e. p e ⊗ m e ⊘ v e) few l each) (le-trans (le-of-eq (halves (size Q) some)) (mul-le-mul-left (2 ^ suc sideBits) reach))
+          | inr l ↦ le-trans (le-of-lt (mag-held N (sum-fits (suc n) (λ e. p e ⊗ m e ⊘ v e)) FN .1)) (le-trans top (mul-le-mul-left (2 ^ suc sideBits) (le-trans (pow-mono {i = 2097 - sideBits} {j = size Q - 1} (omega arith)) reach)))
         ]
           where
             some : 0 < size Q
@@ -417,13 +418,13 @@ module _ (n : ℕ) (few : suc n ≤ maxSide) (v : ℕ → Float) (vf : (e : ℕ)
             reach : 2 ^ (size Q - 1) ≤ Q
             reach = size-reaches Q (size Q - 1) (let k = some in omega arith)
 
-            halves : (h : ℕ) → 0 < h → 2 ^ (sideBits + h) ≡ 64 * 2 ^ (h - 1)
-            halves h p = ap (λ (i : ℕ). 2 ^ i) (omega arith) ∙ pow-add 2 6 (h - 1)
+            halves : (h : ℕ) → 0 < h → 2 ^ (sideBits + h) ≡ 2 ^ suc sideBits * 2 ^ (h - 1)
+            halves h p = ap (λ (i : ℕ). 2 ^ i) (omega arith) ∙ pow-add 2 (suc sideBits) (h - 1)
 
-            top : Top ≤ 64 * 2 ^ 2092
+            top : Top ≤ 2 ^ suc sideBits * 2 ^ (2097 - sideBits)
             top = unfold Top in lit≤ tt
 
-    pub ratio-finite-most : T (isFinite (N ⊘ D)) → mag (N ⊘ D) ≤ 2 ^ 1983
+    pub ratio-finite-most : T (isFinite (N ⊘ D)) → mag (N ⊘ D) ≤ 2 ^ ratioMost
     ratio-finite-most F =
         let L = values .L in
         let X = mag D * L in
@@ -431,7 +432,7 @@ module _ (n : ℕ) (few : suc n ≤ maxSide) (v : ℕ → Float) (vf : (e : ℕ)
         let q = quotient N D (sum-fits (suc n) (λ e. p e ⊗ m e ⊘ v e)) (sum-fits (suc n) (λ e. p e ⊗ p e ⊘ v e)) FD PD F .doubled in
         let a : R * X ≤ 2 ^ 1442 * (Pm * U) = le-trans (joined R (mag D) L (mag N) U q) (le-trans (mul-le-mul-left 2 (mul-le-mul-right U N-most)) (le-of-eq (regroup (2 ^ 1441) Pm U))) in
         let b : Pm * U ≤ 2 ^ 541 * X = elim (le-or-lt Pm (2 ^ 537)) [
-          | inl l ↦ le-trans (mul-le-mul l unit) (le-trans (le-of-eq (along (2 ^ 537) 4 X)) (mul-le-mul-right X small₁))
+          | inl l ↦ le-trans (mul-le-mul l unit) (le-trans (le-of-eq (sym (mul-assoc (2 ^ 537) 4 X))) (mul-le-mul-right X small₁))
           | inr l ↦ le-trans (le-of-eq (ap (λ (u : ℕ). Pm * u) U-square ∙ sym (mul-assoc Pm (2 ^ 537) (2 ^ 537)))) (le-trans (mul-le-mul-right (2 ^ 537) (le-trans (mul-le-mul-left Pm (le-of-lt l)) squared)) (le-of-eq (mul-right-comm 16 X (2 ^ 537))))
         ] in
         le-of-mul-le-mul-right {k = X} (le-trans a (le-trans (mul-le-mul-left (2 ^ 1442) b) (le-of-eq (sym (mul-assoc (2 ^ 1442) (2 ^ 541) X))))) (mul-pos PD (values .some))
@@ -442,9 +443,6 @@ module _ (n : ℕ) (few : suc n ≤ maxSide) (v : ℕ → Float) (vf : (e : ℕ)
         regroup : (c P u : ℕ) → 2 * (c * P * u) ≡ 2 * c * (P * u)
         regroup c P u = omega arith
 
-        along : (a b X : ℕ) → a * (b * X) ≡ a * b * X
-        along a b X = sym (mul-assoc a b X)
-
         small₁ : 2 ^ 537 * 4 ≤ 2 ^ 541
         small₁ = lit≤ tt
 
@@ -452,10 +450,10 @@ module _ (n : ℕ) (few : suc n ≤ maxSide) (v : ℕ → Float) (vf : (e : ℕ)
         U-square = unfold U in refl
 
   -- the ratio is not finite, or at most 2 ^ 909
-  pub ratio-most : T (isFinite (N ⊘ D)) → mag (N ⊘ D) ≤ 2 ^ 1983
+  pub ratio-most : T (isFinite (N ⊘ D)) → mag (N ⊘ D) ≤ 2 ^ ratioMost
   ratio-most F = go D refl (div-finite N D F) F
     where
-      go : (d : Float) → D ≡ d → T (isFinite N) → T (isFinite (N ⊘ D)) → mag (N ⊘ D) ≤ 2 ^ 1983
+      go : (d : Float) → D ≡ d → T (isFinite N) → T (isFinite (N ⊘ D)) → mag (N ⊘ D) ≤ 2 ^ ratioMost
       go nan e f g = absurd (over-number N nan (subst (λ (z : Float). T (isFinite (N ⊘ z))) e g))
       go (inf s) e f g = let q = over-inf N s f in le-trans (le-of-eq (ap (λ (z : Float). mag (N ⊘ z)) e ∙ ap mag (q .1) ∙ zero-mag (q .0) (pos 0))) zero-le
       go (fin s zero d) e f g = absurd (by-zero N (subst (λ (z : Float). T (isFinite (N ⊘ z))) e g))

@@ -113,6 +113,10 @@ module _ {k n T g l h : ℕ} {x y : Matrix} (r : Returns k n T g l h x y) (d : �
       let z = shortfall-moved (λ i. θ) (λ i. θ') (λ i a. moved-weaken d 0 (periodBits + h) (omega arith) zero-le (omega arith) u) in
       gram-moved T (r .most) (omega (arith, r .periods)) (r .most) p square s scale e wide top (shortfall (λ a. θ) x) (shortfall (λ a. θ') y) i j (λ t l. z t i l a) (λ t l. z t j l b)
 
+-- a covariance or semicovariance of returns in their range
+abbrev pub Sampled : ℕ → Float → Float → Type 0
+Sampled k x y = Moved k 698 750 1192 x y
+
 -- ---- the tolerance of a constant asset
 pub tenth-moved : Moved 0 988 1040 1041 1e-10 1e-10
 unfolding ofBits sized fits isFinite mag U

@@ -145,9 +145,6 @@ module _ {k g l h : ℕ} {A A' : Float} (a : Moved k g l h A A') (fine : g ≤ l
 
   -- of others
   module _ (p : 0 < mag A) where
-    b : ℤ
-    b = binaryExponent A
-
     inner : (g + under (binaryExponent A) ≤ over (binaryExponent A) + 1074) × (over (binaryExponent A) + 1074 ≤ h + under (binaryExponent A))
     inner = exponent-range h A (a .range) p
 
@@ -165,9 +162,6 @@ module _ {k g l h : ℕ} {A A' : Float} (a : Moved k g l h A A') (fine : g ≤ l
         (record { fit = m .range .fit; finite = m .range .finite; count = m .range .count; grain = m .range .grain; least = m .range .least; most = le-refl _ })
 
     module _ {d d' : Float} (m : Moved k g l h d d') (e : mag d ≤ mag A) where
-      j : ℤ
-      j = negℤ (binaryExponent A)
-
       in-low : under (negℤ (binaryExponent A)) ≤ g + over (negℤ (binaryExponent A))
       in-low = omega (arith, over-neg (binaryExponent A), under-neg (binaryExponent A), bounds, inner)
 

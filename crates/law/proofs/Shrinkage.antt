@@ -29,6 +29,7 @@ use Rattle.law.specs.Law.{maxPower}
 use Rattle.law.proofs.Bits.{sideBits, side-bits, covarianceGrain, covarianceLeast, covarianceMost, intensityLeast, intensityGrain}
 use Rattle.law.proofs.Sample.{count-moved}
 use Rattle.law.proofs.Matrices.{trace-moved}
+use Rattle.law.proofs.Correlation.{Targeted}
 
 -- ---- 0 and 1
 pub one-moved : Moved 0 1022 1074 1074 one one
@@ -50,6 +51,9 @@ Intensity δ = Range intensityGrain (2 ^ intensityLeast) (2 ^ 1074) δ
 abbrev pub Estimated : ℕ → Float → Float → Type 0
 Estimated k x x' = Moved k 154 154 1522 x x'
 
+pub estimated : {k g l h : ℕ} {x x' : Float} → 154 ≤ g → 154 ≤ l → h ≤ 1522 → Moved k g l h x x' → Estimated k x x'
+estimated g l h m = moved-weaken 154 154 1522 g l h m
+
 abbrev pub Shrunken : ℕ → Float → Float → Type 0
 Shrunken k x x' = Moved k 5 5 1645 x x'
 
@@ -66,7 +70,7 @@ module _ (k : ℕ) (small : k ≤ maxPower + maxPower) (δ : Float) (d : Intensi
       let q = rw (zero-add k) at (moved-mul rest (moved-weaken 97 97 1643 gu lu hu u) 5 5 1644 (lit≤ tt) (lit≤ tt) (lit≤ tt) (omega arith)) in
       moved-add (moved-weaken 5 5 1644 gp lp hp p) q (omega arith)
 
-  pub correlation-mixed : Moved k 194 246 1644 (constantCorrelation n b i j) (constantCorrelation n b' i j) → Estimated k (b i j) (b' i j) → Shrunken k (mixed ConstantCorrelation δ n b i j) (mixed ConstantCorrelation δ n b' i j)
+  pub correlation-mixed : Targeted k (constantCorrelation n b i j) (constantCorrelation n b' i j) → Estimated k (b i j) (b' i j) → Shrunken k (mixed ConstantCorrelation δ n b i j) (mixed ConstantCorrelation δ n b' i j)
   unfolding pull
   correlation-mixed t u = mixed-moved ConstantCorrelation (rw (zero-add k) at (moved-mul-normal (still intensityLeast 1074 d) t 154 1644 (lit≤ tt) (lit≤ tt) (omega arith))) u (lit≤ tt) (lit≤ tt) (lit≤ tt) (lit≤ tt) (lit≤ tt) (lit≤ tt)
 

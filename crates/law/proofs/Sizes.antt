@@ -15,11 +15,11 @@ use lib.Ieee.Bits.{is-true}
 use lib.Ieee.Fits.{and-l, and-r}
 use mir.Facts.{or-yes}
 use borrow.Author.Tests.{not-true, not-false, lt-ltb, le-ltb, ltb-true, ltb-false, eqb-true, eqb-false}
-use Rattle.leaves.specs.Numbers.{_⊘_, zero⁺, one, two, count, isFinite, abs}
+use Rattle.leaves.specs.Numbers.{_⊘_, zero⁺, two, count, isFinite, abs}
 use Rattle.leaves.specs.Scaling.{pow2}
 use Rattle.leaves.proofs.Whole.{over, under, over-neg, under-neg, up-is, down-is}
 use Rattle.leaves.proofs.Units.{U, Val, abs-val, sign, mag, zero-val, mag-val, lt-val, eq-zero}
-use Rattle.leaves.proofs.Range.{Range, range-value, range-size, count-val}
+use Rattle.leaves.proofs.Range.{Range, range-size, count-val}
 use Rattle.law.specs.Law.{All, Sized, AtLeast}
 
 -- ---- lists
@@ -119,16 +119,12 @@ module _ (x y : Float) {a b : ℕ} (v : Val x false a) (w : Val y false b) where
   pub le-no : le x y ≡ false → b < a
   le-no h = ltb-true b a (sym (lt-val y x false false b a w v) ∙ le-or x y (val-number x false a v) (val-number y false b w) h)
 
-pub plus-val : {g L B : ℕ} {x : Float} → Range g L B x → sign x ≡ false → Val x false (mag x)
-plus-val {x = x} r e = subst (λ (s : Bool). Val x s (mag x)) e (range-value r)
+pub plus-val : (x : Float) → T (fits binary64 x) → T (isFinite x) → sign x ≡ false → Val x false (mag x)
+plus-val x t f e = subst (λ (s : Bool). Val x s (mag x)) e (mag-val x t f)
 
 pub pow2-val : (j : ℤ) (n : ℕ) → n + under j ≡ 1074 + over j → Val (pow2 j) false (2 ^ n)
 unfolding U
 pow2-val j n e = (refl, rw (up-is j, down-is j) (ap (λ (z : ℕ). z * 2 ^ 1074) (one-mul (2 ^ over j)) ∙ sym (pow-add 2 (over j) 1074) ∙ ap (λ (z : ℕ). 2 ^ z) (omega arith) ∙ pow-add 2 n (under j)))
-
-pub one-val : Val one false (2 ^ 1074)
-unfolding U
-one-val = (refl, refl)
 
 pub two-is : count 2 ≡ two
 unfolding ofInt round

@@ -1,6 +1,6 @@
 -- One number R scaled by 2 ^ j and by 2 ^ (j + k), where neither result is between 0 and 2 ^ -400 in size: the second is 2 ^ k times the first. If R's digits end above the smallest unit in the first
 -- they do in the second; if not, both results are so small that they must be zero. R is NaN, infinite, or so small that neither result overflows. Assumes nothing.
-use mathlib.Core.Path.{_≡_, refl, sym, ap, _∙_, subst, subst₂}
+use mathlib.Core.Path.{_≡_, sym, ap, _∙_, subst, subst₂}
 use mathlib.Core.Logic.{inl, inr}
 use Prim.Native.Nat.{ℕ, _+_, _-_, _*_, _^_, _≤_}
 use native.Mathlib.Nat.{le-refl, le-trans, le-of-eq, le-of-lt, lt-of-lt-of-le, lt-of-le-of-lt, lt-irrefl, mul-le-mul-right, mul-assoc, mul-right-comm, mul-one, eq-zero-or-pos, le-of-mul-le-mul-right}
@@ -17,9 +17,9 @@ use Rattle.leaves.proofs.Whole.{le-or-lt, over, under, plus, one-side, same}
 use Rattle.leaves.proofs.Laws.{unlike-false}
 use Rattle.leaves.proofs.Scale.{cut-range, scale-last}
 use Rattle.leaves.proofs.Rounding.{near, near-most, held-pow}
-use Rattle.leaves.proofs.Units.{U, U-pos, pow-under-Top, Val, sign, mag, val-mag, val-finite, val-unique, mag-val, rounded-val}
+use Rattle.leaves.proofs.Units.{U, U-pos, pow-under-Top, Val, sign, mag, val-mag, val-finite, val-unique, mag-val, rounded-val, U-is}
 use Rattle.leaves.proofs.Arithmetic.{mul-rounded}
-use Rattle.leaves.proofs.Range.{Range, range-size, range-weaken}
+use Rattle.leaves.proofs.Range.{Range, range-size, range-weaken, range-most}
 use Rattle.leaves.proofs.PowersOfTwo.{fits-move, scaled-copy, shift-null}
 use Rattle.law.specs.Law.{AtLeast, maxPower, meanRange}
 use Rattle.law.proofs.Sizes.{pow2-val, at-least}
@@ -33,7 +33,7 @@ pub inf-scaled : (s : Bool) (j : ℤ) → over j ≤ 1022 → under j ≤ 1022 �
 inf-scaled s j a b = one-step (inf s) j a b ∙ unfold mul in ap inf (unlike-false s)
 
 module _ (R : Float) (fit : T (fits binary64 R)) (finite : T (isFinite R)) (h : ℕ) (most : mag R ≤ 2 ^ h) (j : ℤ) (k : ℕ) (small : k ≤ maxPower) (low : under j ≤ 900) (high : over j ≤ 900) (room : h + over (j +ℤ pos k) ≤ 2097 + under (j +ℤ pos k)) where
-  bounds : (over (j +ℤ pos k) ≤ 980) × (under (j +ℤ pos k) ≤ 900) × (over j ≤ over (j +ℤ pos k) + under j)
+  bounds : (over (j +ℤ pos k) ≤ 900 + maxPower) × (under (j +ℤ pos k) ≤ 900) × (over j ≤ over (j +ℤ pos k) + under j)
   unfolding over under
   bounds = (omega (arith, plus j (pos k), one-side (j +ℤ pos k)), omega (arith, plus j (pos k), one-side (j +ℤ pos k)), omega (arith, plus j (pos k)))
 
@@ -43,7 +43,7 @@ module _ (R : Float) (fit : T (fits binary64 R)) (finite : T (isFinite R)) (h : 
     where
       r : Range (under j) 1 (2 ^ h) R
       r = elim (eq-zero-or-pos (under j)) [
-        | inl z ↦ subst (λ (g : ℕ). Range g 1 (2 ^ h) R) (sym z) (record { fit = fit; finite = finite; count = mag R; grain = sym (mul-one (mag R)); least = λ p. p; most = most })
+        | inl z ↦ subst (λ (g : ℕ). Range g 1 (2 ^ h) R) (sym z) (range-most R fit finite most)
         | inr p ↦
             let o : over j ≡ 0 = omega (arith, one-side j) in
             let w : 2 ^ (under j + 52) ≤ mag R = le-trans (pow-mono {i = under j + 52} {j = 53 + under j} (omega arith)) (le-trans (le-of-eq (pow-add 2 53 (under j))) (le-trans l (le-of-eq (ap (λ (n : ℕ). mag R * 2 ^ n) o ∙ mul-one (mag R))))) in
@@ -60,20 +60,17 @@ module _ (R : Float) (fit : T (fits binary64 R)) (finite : T (isFinite R)) (h : 
       down' = unfold over under in omega (arith, plus j (pos k))
 
   -- else both are zero
-  value : (i : ℤ) → over i ≤ 980 → under i ≤ 900 → mag R * 2 ^ over i ≤ 2 ^ 200 * 2 ^ under i → Val (pow2Scaled R i) (sign R) (near (mag R * 2 ^ (1074 + over i - under i)) U) × (near (mag R * 2 ^ (1074 + over i - under i)) U ≤ 2 ^ 200)
+  value : (i : ℤ) → over i ≤ 900 + maxPower → under i ≤ 900 → mag R * 2 ^ over i ≤ 2 ^ 200 * 2 ^ under i → Val (pow2Scaled R i) (sign R) (near (mag R * 2 ^ (1074 + over i - under i)) U) × (near (mag R * 2 ^ (1074 + over i - under i)) U ≤ 2 ^ 200)
   value i a b l =
       let n = 1074 + over i - under i in
       let w = pow2-val i n (omega arith) in
-      let m : near (mag R * 2 ^ n) U ≤ 2 ^ 200 = near-most (mag R * 2 ^ n) U (2 ^ 200) U-pos (held-pow 200) (le-of-mul-le-mul-right {k = 2 ^ under i} (le-trans (le-of-eq (mul-assoc (mag R) (2 ^ n) (2 ^ under i) ∙ ap (λ (z : ℕ). mag R * z) (sym (pow-add 2 n (under i)) ∙ ap (λ (z : ℕ). 2 ^ z) (omega arith) ∙ pow-add 2 (over i) 1074) ∙ sym (mul-assoc (mag R) (2 ^ over i) (2 ^ 1074)))) (le-trans (mul-le-mul-right (2 ^ 1074) l) (le-of-eq (mul-right-comm (2 ^ 200) (2 ^ under i) (2 ^ 1074) ∙ ap (λ (z : ℕ). 2 ^ 200 * z * 2 ^ under i) U-pow)))) (pow-pos (under i))) in (
+      let m : near (mag R * 2 ^ n) U ≤ 2 ^ 200 = near-most (mag R * 2 ^ n) U (2 ^ 200) U-pos (held-pow 200) (le-of-mul-le-mul-right {k = 2 ^ under i} (le-trans (le-of-eq (mul-assoc (mag R) (2 ^ n) (2 ^ under i) ∙ ap (λ (z : ℕ). mag R * z) (sym (pow-add 2 n (under i)) ∙ ap (λ (z : ℕ). 2 ^ z) (omega arith) ∙ pow-add 2 (over i) 1074) ∙ sym (mul-assoc (mag R) (2 ^ over i) (2 ^ 1074)))) (le-trans (mul-le-mul-right (2 ^ 1074) l) (le-of-eq (mul-right-comm (2 ^ 200) (2 ^ under i) (2 ^ 1074) ∙ ap (λ (z : ℕ). 2 ^ 200 * z * 2 ^ under i) (sym U-is))))) (pow-pos (under i))) in (
         subst₂ (λ (z : Float) (s : Bool). Val z s (near (mag R * 2 ^ n) U)) (sym (one-step R i (le-trans a (lit≤ tt)) (le-trans b (lit≤ tt)) ∙ mul-rounded R (pow2 i) (sign R) false (mag R) (2 ^ n) (mag-val R fit finite) w)) (unlike-false (sign R))
             (rounded-val (unlike (sign R) false) (mag R * 2 ^ n) U U-pos (lt-of-le-of-lt m (pow-under-Top 200 (lit≤ tt)))),
         m,
       )
-    where
-      U-pow : 2 ^ 1074 ≡ U
-      U-pow = unfold U in refl
 
-  null : (i : ℤ) → over i ≤ 980 → under i ≤ 900 → mag R * 2 ^ over i ≤ 2 ^ 200 * 2 ^ under i → AtLeast meanRange (pow2Scaled R i) → Val (pow2Scaled R i) (sign R) 0
+  null : (i : ℤ) → over i ≤ 900 + maxPower → under i ≤ 900 → mag R * 2 ^ over i ≤ 2 ^ 200 * 2 ^ under i → AtLeast meanRange (pow2Scaled R i) → Val (pow2Scaled R i) (sign R) 0
   null i a b l q =
       let v = value i a b l in
       let z = pow2Scaled R i in

@@ -2,7 +2,7 @@
 -- by 2 ^ e and by 2 ^ (e + k). Everything is in a range in which nothing rounds differently, and the weighted covariance's products with it. Assumes nothing.
 use mathlib.Core.Path.{_≡_, refl, sym, ap, _∙_, subst}
 use mathlib.Core.Logic.{inl, inr}
-use Prim.Native.Nat.{ℕ, zero, suc, _+_, _-_, _^_, _≤_, _<_}
+use Prim.Native.Nat.{ℕ, zero, suc, _+_, _-_, _≤_, _<_}
 use native.Mathlib.Nat.{le-trans, le-of-eq, lt-of-lt-of-le, lt-suc-self, lt-trans, zero-add, add-zero}
 use native.Mathlib.Omega.{arith}
 use mathlib.Core.Bool.{Bool, true, false, _||_}
@@ -22,9 +22,8 @@ use Rattle.leaves.specs.Shift.{shift}
 use Rattle.leaves.specs.Exp.{exp}
 use Rattle.leaves.proofs.Loops.{sum-ext, nth-tab}
 use Rattle.leaves.proofs.Rounding.{near, near-least}
-use Rattle.leaves.proofs.Units.{Val, sign, mag, mag-val, mag-held, finite-mag}
+use Rattle.leaves.proofs.Units.{sign, mag, mag-held, finite-mag}
 use Rattle.leaves.proofs.Arithmetic.{add-rounded, add-finite}
-use Rattle.leaves.proofs.Range.{Range}
 use Rattle.leaves.proofs.Operations.{Moved, still, moved-weaken, moved-sub, moved-mul, moved-over}
 use Rattle.leaves.proofs.Signs.{sign-sum, sign-div, sign-not-below}
 use Rattle.leaves.proofs.SqrtNearest.{moved-sqrt}
@@ -40,11 +39,14 @@ use Rattle.estimators.specs.declared.Answer.the-variants.{Mean}
 use Rattle.law.specs.Law.{All, Sized, LongHalfLife, Alike, ask, maxPower, returnRange, maxHalfLives}
 use Rattle.law.specs.Law as Law
 use Rattle.law.proofs.Bits.{periodBits, period-bits, returnGrain, returnLeast, returnMost}
-use Rattle.law.proofs.Numbers.{means-alike}
+use Rattle.law.proofs.Numbers.{filled-alike}
 use Rattle.law.proofs.Chain.{Chain, ends, chain-must, chained, parts, settled}
-use Rattle.law.proofs.Sample.{Returns, largest-moved, largest-above}
-use Rattle.law.proofs.Scaled.{Scaling, scaling, scaled-back, scaled-range}
-use Rattle.law.proofs.Opening.{returns, opening-chain}
+use Rattle.law.proofs.Sample.{Returns, largest-above}
+use Rattle.law.proofs.Scaled.{Scaling, scaled-back, scaled-range}
+use Rattle.law.proofs.Opening.{returns, opening-chain, column}
+use Rattle.law.proofs.Sizes.{plus-val}
+use Rattle.law.proofs.Shrinkage.{Estimated}
+use Rattle.law.proofs.Exponential.{Weight}
 use Rattle.law.proofs.Weights.{weight-range, denominator-range}
 
 -- ---- a sum of numbers without a minus sign is as large as each
@@ -56,9 +58,7 @@ sum-fits (suc n) f = add-fits binary64 (sumTo n f) (f n)
 pub plus-least : (x y : Float) → T (fits binary64 x) → T (fits binary64 y) → sign x ≡ false → sign y ≡ false → T (isFinite (x ⊕ y)) → (mag x ≤ mag (x ⊕ y)) × (mag y ≤ mag (x ⊕ y))
 plus-least x y tx ty sx sy F =
     let q = add-finite x y F in
-    let v : Val x false (mag x) = subst (λ (s : Bool). Val x s (mag x)) sx (mag-val x tx (q .0)) in
-    let w : Val y false (mag y) = subst (λ (s : Bool). Val y s (mag y)) sy (mag-val y ty (q .1)) in
-    let i : mag (x ⊕ y) ≡ near (mag x + mag y) 1 = finite-mag (x ⊕ y) false (mag x + mag y) 1 (lit< tt) (add-rounded x y false false (mag x) (mag y) v w) F in
+    let i : mag (x ⊕ y) ≡ near (mag x + mag y) 1 = finite-mag (x ⊕ y) false (mag x + mag y) 1 (lit< tt) (add-rounded x y false false (mag x) (mag y) (plus-val x tx (q .0) sx) (plus-val y ty (q .1) sy)) F in
     (rw i (near-least (mag x + mag y) 1 (mag x) (lit< tt) (mag-held x tx (q .0) .0) (omega arith)), rw i (near-least (mag x + mag y) 1 (mag y) (lit< tt) (mag-held y ty (q .1) .0) (omega arith)))
 
 pub sum-least : (n : ℕ) (f : ℕ → Float) → ((t : ℕ) → t < n → T (fits binary64 (f t)) × (sign (f t) ≡ false)) → T (isFinite (sumTo n f)) → (t : ℕ) → t < n → mag (f t) ≤ mag (sumTo n f)
@@ -77,7 +77,7 @@ sum-least (suc n) f h F t l =
 -- ---- the weighted mean of a column
 -- weights w, without a minus sign and not zero
 pub record Weighing (T : ℕ) (w : List Float) : Type 0 where
-  pub range : (t : ℕ) → t < T → Range 950 (2 ^ 1002) (2 ^ 1075) (nth w t)
+  pub range : (t : ℕ) → t < T → Weight (nth w t)
   pub plus : (t : ℕ) → t < T → sign (nth w t) ≡ false
   pub above : (t : ℕ) → t < T → 0 < mag (nth w t)
 
@@ -97,8 +97,8 @@ module _ {k n T : ℕ} {x y : Matrix} (small : k ≤ maxPower) (r : Returns k n 
     abbrev e : ℤ
     e = binaryExponent (largest T x i)
 
-    common : Scaling k returnGrain returnLeast returnMost (largest T x i) (largest T y i)
-    common = scaling (largest-moved r i a) (lit≤ tt) (lit≤ tt) (lit≤ tt) (lit≤ tt) (lit≤ tt) (lit≤ tt) (omega arith)
+    abbrev common : Scaling k returnGrain returnLeast returnMost (largest T x i) (largest T y i)
+    common = column small r i a
 
     average : Float
     average = sumTo T (λ t. nth w t ⊗ pow2Scaled (x t i) (negℤ (binaryExponent (largest T x i)))) ⊘ sumTo T (nth w)
@@ -129,7 +129,7 @@ weighing P two most h fit ok long =
     let at-t : (t : ℕ) → t < P → exp (count (P - 1 - t) ⊗ logDecay h) ≡ nth (tab P (λ t. exp (count (P - 1 - t) ⊗ logDecay h))) t = λ t l. sym (nth-tab P (λ t. exp (count (P - 1 - t) ⊗ logDecay h)) t nan l) in
     let q = weight-range P two most h fit ok long in
     record {
-      range = λ t l. subst (Range 950 (2 ^ 1002) (2 ^ 1075)) (at-t t l) (q (P - 1 - t) (omega arith) .0);
+      range = λ t l. subst Weight (at-t t l) (q (P - 1 - t) (omega arith) .0);
       plus = λ t l. subst (λ (z : Float). sign z ≡ false) (at-t t l) (q (P - 1 - t) (omega arith) .1);
       above = λ t l. subst (λ (z : Float). 0 < mag z) (at-t t l) (q (P - 1 - t) (omega arith) .2);
     }
@@ -146,7 +146,7 @@ long-enough P two h t =
 
 -- ---- the weighted covariance
 pub covariance-moved : {k n T : ℕ} {x y : Matrix} → k ≤ maxPower → Returns k n T returnGrain returnLeast returnMost x y → (h : Float) → LongHalfLife T h → accepted (logDecay h) ≡ true
-    → (i j : ℕ) → i < n → j < n → Moved (k + k) 154 154 1522 (weightedCovariance T (logDecay h) x i j) (weightedCovariance T (logDecay h) y i j)
+    → (i j : ℕ) → i < n → j < n → Estimated (k + k) (weightedCovariance T (logDecay h) x i j) (weightedCovariance T (logDecay h) y i j)
 unfolding weightedCovariance gram
 covariance-moved {k} {n} {T} {x} {y} small r h long ok i j a b =
     let q = long-enough T (r .periods) h long in
@@ -172,7 +172,7 @@ module _ (k : ℕ) (small : k ≤ maxPower) (r : List Float) (sizes : All (Sized
   weighted-law slice slice' e =
       let r' = map (shift (pos k)) r in
       settled (chained chain) (pos k) n slice slice' (answered Mean (fill n (mean r) slice)) (answered Mean (fill n (mean r') slice'))
-      (λ p p' same. record { refusal = refl; entries = tt; meansAndTarget = means-alike k n (mean r) (mean r') slice slice' same; intensity = tt; sweepsAndRotations = refl })
+      (λ p p' same. record { refusal = refl; entries = tt; meansAndTarget = filled-alike k n (mean r) (mean r') slice slice' same; intensity = tt; sweepsAndRotations = refl })
     where
       chain : Chain ((i : ℕ) → i < n → lib.Dec.T (fits binary64 (mean r i)) × (mean (map (shift (pos k)) r) i ≡ shift (pos k) (mean r i))) (weightedOrder r n T h slice) (weightedOrder (map (shift (pos k)) r) n T h slice')
       chain = unfold weightedOrder badHalfLife in

@@ -6,13 +6,12 @@ use mathlib.Core.Logic.{inl, inr}
 use Prim.Native.Nat.{ℕ, zero, suc, _+_, _-_, _*_, _^_, _≤_, _<_, zero-le}
 use native.Mathlib.Nat.{le-refl, le-trans, le-of-eq, lt-of-lt-of-le, lt-of-le-of-lt, lt-irrefl, mul-le-mul, mul-le-mul-left, mul-le-mul-right, mul-pos, mul-assoc, mul-comm, mul-right-comm, mul-one, one-mul, le-of-mul-le-mul-right}
 use native.Mathlib.Omega.{arith}
-use mathlib.Core.Bool.{Bool, true, false, _&&_, and-eq-true-iff}
+use mathlib.Core.Bool.{Bool, true, false, and-eq-true-iff}
 use lib.Dec.{T, lit≤, lit<}
 use lib.IntN.{pos}
 use lib.Pow.{pow-pos}
 use lib.Ieee.{Float, nan, inf, fin, binary64, fits, unlike, neg, lt, le, eq, div, ofBits}
 use lib.Ieee.Fits.{div-fits}
-use lib.Ieee.Positive.{first-pos}
 use borrow.Author.Tests.{ltb-true}
 use Rattle.leaves.specs.Numbers.{_⊗_, _⊘_, zero⁺, two, count, isFinite}
 use Rattle.leaves.specs.Exp.{ln2, exp, expM1}
@@ -23,28 +22,28 @@ use Rattle.leaves.proofs.Range.{Range, count-val, range-size}
 use Rattle.leaves.proofs.Whole.{le-or-lt}
 use Rattle.leaves.proofs.Signs.{sign-round}
 use Rattle.law.proofs.Sizes.{le-yes, two-val}
-use Rattle.law.proofs.Exponential.{W, U-W, W-pos, W-large, N, N-is, ln2-val, near-above, mul-most, Exp, exp-within, product-least, product-most, ExpM1, expM1-within}
-use Rattle.estimators.specs.Weighted.{logDecay, accepted, denominator}
+use Rattle.law.proofs.Exponential.{W, U-W, W-pos, W-large, N, N-is, ln2-val, near-above, mul-most, Exp, exp-within, product-least, product-most, ExpM1, expM1-within, exp-above, Weight, exp-val}
+use Rattle.estimators.specs.Weighted.{minLogDecay, logDecay, accepted, denominator}
 use Rattle.estimators.specs.Order.{maxPeriods}
 use Rattle.law.specs.Law.{maxHalfLives}
-use Rattle.law.proofs.Bits.{periodBits, period-bits}
+use Rattle.law.proofs.Bits.{periodBits, period-bits, halfLifeBits}
 
 -- ---- the logarithm of the decay: finite and below zero, so the half-life is finite and above
 module _ (h : Float) (fit : T (fits binary64 h)) (ok : accepted (logDecay h) ≡ true) where
   log-val : Val (logDecay h) true (mag (logDecay h)) × (0 < mag (logDecay h))
-  log-val = go (logDecay h) (unfold logDecay in div-fits binary64 (neg ln2) h) (unfold accepted in ok)
+  log-val = go (logDecay h) (unfold logDecay in div-fits binary64 (neg ln2) h) ok
     where
       signed : (l : Float) (s : Bool) (a : ℕ) → Val l s a → lt l zero⁺ ≡ true → (s ≡ true) × (0 < a)
       signed l false a v e = absurd (lt-irrefl 0 (lt-of-le-of-lt zero-le (ltb-true a 0 (sym (lt-val l zero⁺ false false a 0 v (zero-val false (pos 0))) ∙ e))))
       signed l true a v e = (refl, let p = ltb-true 0 (a + 0) (sym (lt-val l zero⁺ true false a 0 v (zero-val false (pos 0))) ∙ e) in omega arith)
 
-      go : (l : Float) → T (fits binary64 l) → (le (fin true 177 (pos 2)) l && lt l zero⁺) ≡ true → Val l true (mag l) × (0 < mag l)
-      go nan t e = unfold le lt eq in absurd (subst T (sym e) tt)
-      go (inf true) t e = unfold le lt eq in absurd (subst T (sym e) tt)
-      go (inf false) t e = unfold le lt eq in absurd (subst T (sym e) tt)
+      go : (l : Float) → T (fits binary64 l) → accepted l ≡ true → Val l true (mag l) × (0 < mag l)
+      go nan t e = unfold accepted le lt eq in absurd (subst T (sym e) tt)
+      go (inf true) t e = unfold accepted le lt eq in absurd (subst T (sym e) tt)
+      go (inf false) t e = unfold accepted le lt eq in absurd (subst T (sym e) tt)
       go (fin s m x) t e =
           let v = mag-val (fin s m x) t (unfold isFinite in tt) in
-          let q = signed (fin s m x) (sign (fin s m x)) (mag (fin s m x)) v (and-eq-true-iff (le (fin true 177 (pos 2)) (fin s m x)) (lt (fin s m x) zero⁺) .0 e .1) in
+          let q = signed (fin s m x) (sign (fin s m x)) (mag (fin s m x)) v (and-eq-true-iff (le minLogDecay (fin s m x)) (lt (fin s m x) zero⁺) .0 (unfold accepted in e) .1) in
           (subst (λ (b : Bool). Val (fin s m x) b (mag (fin s m x))) (q .0) v, q .1)
 
   abbrev a : ℕ
@@ -64,7 +63,7 @@ module _ (h : Float) (fit : T (fits binary64 h)) (ok : accepted (logDecay h) ≡
       go nan t v p = unfold logDecay div neg ofBits in absurd v
       go (inf s) t v p = absurd (lt-irrefl 0 (subst (λ (n : ℕ). 0 < n) (ap mag (log-is (inf s)) ∙ unfold div neg ofBits in zero-mag (unlike true s) (pos 0)) p))
       go (fin s zero e) t v p = unfold logDecay div neg ofBits in absurd v
-      go (fin s (suc m) e) t v p = signed s (mag-val (fin s (suc m) e) t (unfold isFinite in tt)) (mag-held (fin s (suc m) e) t (unfold isFinite in tt) .0)
+      go (fin s (suc m) e) t v p = signed (mag-val (fin s (suc m) e) t (unfold isFinite in tt)) (mag-held (fin s (suc m) e) t (unfold isFinite in tt) .0)
         where
           H : ℕ
           H = mag (fin s (suc m) e)
@@ -72,8 +71,8 @@ module _ (h : Float) (fit : T (fits binary64 h)) (ok : accepted (logDecay h) ≡
           above : 0 < H
           above = val-pos s m e (sign (fin s (suc m) e)) H (mag-val (fin s (suc m) e) t (unfold isFinite in tt))
 
-          signed : (b : Bool) → Val (fin s (suc m) e) (sign (fin s (suc m) e)) H → Held H → (H : ℕ) × Val (fin s (suc m) e) false H × (0 < H) × Held H × (mag (logDecay (fin s (suc m) e)) ≡ near (N * U) H)
-          signed b w k =
+          signed : Val (fin s (suc m) e) (sign (fin s (suc m) e)) H → Held H → (H : ℕ) × Val (fin s (suc m) e) false H × (0 < H) × Held H × (mag (logDecay (fin s (suc m) e)) ≡ near (N * U) H)
+          signed w k =
               let x = fin s (suc m) e in
               let n = neg-val ln2 false N ln2-val in
               let q = log-is x ∙ div-rounded (neg ln2) x true (sign x) N H n w above in
@@ -90,16 +89,13 @@ times-log : (j a H n u w : ℕ) → j * u ≤ maxHalfLives * H → 100000 * (a *
 times-log j a H n u w l e p q i few large =
     let f : j * (100000 * (a * H)) ≤ j * (100001 * (n * u) + 50000 * H) = mul-le-mul-left j e in
     let g : n * (j * u) ≤ n * (maxHalfLives * H) = mul-le-mul-left n l in
-    let c : 100000 * (j * a) * H ≤ (6400064 * n + 50000 * j) * H = omega arith in
+    let c : 100000 * (j * a) * H ≤ (100001 * maxHalfLives * n + 50000 * j) * H = omega arith in
     finish (j * a) n u w j (le-of-mul-le-mul-right {k = H} c p) q i few large
   where
-    finish : (x n u w j : ℕ) → 100000 * x ≤ 6400064 * n + 50000 * j → 100000 * n ≤ 69315 * u → u ≡ 32 * w → j ≤ maxPeriods → 10000000 ≤ w → x ≤ 1536 * w
+    finish : (x n u w j : ℕ) → 100000 * x ≤ 100001 * maxHalfLives * n + 50000 * j → 100000 * n ≤ 69315 * u → u ≡ 32 * w → j ≤ maxPeriods → 10000000 ≤ w → x ≤ 1536 * w
     finish x n u w j c q i few large = omega arith
 
 module _ (P : ℕ) (periods : 2 ≤ P) (most : P ≤ maxPeriods) (h : Float) (fit : T (fits binary64 h)) (ok : accepted (logDecay h) ≡ true) (long : le (count (P - 1)) (count maxHalfLives ⊗ h) ≡ true) where
-  abbrev l : Float
-  l = logDecay h
-
   abbrev m : ℕ
   m = mag (logDecay h)
 
@@ -108,7 +104,7 @@ module _ (P : ℕ) (periods : 2 ≤ P) (most : P ≤ maxPeriods) (h : Float) (fi
   granted =
       let q = half-life h fit ok in
       let H = q .0 in
-      let e : near (maxHalfLives * U * H) U ≡ maxHalfLives * H = ap (λ (n : ℕ). near n U) (mul-right-comm maxHalfLives U H) ∙ near-held (maxHalfLives * H) U U-pos (subst Held (mul-comm H maxHalfLives) (held-up H 6 (q .3))) in
+      let e : near (maxHalfLives * U * H) U ≡ maxHalfLives * H = ap (λ (n : ℕ). near n U) (mul-right-comm maxHalfLives U H) ∙ near-held (maxHalfLives * H) U U-pos (subst Held (mul-comm H maxHalfLives) (held-up H halfLifeBits (q .3))) in
       let x = mul-rounded (count maxHalfLives) h false false (maxHalfLives * U) H (count-val maxHalfLives (lit≤ tt)) (q .1) in
       elim (rounded-cases false (maxHalfLives * U * H) U U-pos) [
         | inl under ↦
@@ -133,12 +129,12 @@ module _ (P : ℕ) (periods : 2 ≤ P) (most : P ≤ maxPeriods) (h : Float) (fi
   weight : (j : ℕ) → (few : j ≤ P - 1) → Exp (count j ⊗ logDecay h) (near (j * U * mag (logDecay h)) U)
   weight j few = let v = exponent-val j few in exp-within (count j ⊗ logDecay h) (near (j * U * m) U) (v .0) (le-trans (v .1) (omega arith))
 
-  pub weight-range : (j : ℕ) → j ≤ P - 1 → Range 950 (2 ^ 1002) (2 ^ 1075) (exp (count j ⊗ logDecay h)) × (sign (exp (count j ⊗ logDecay h)) ≡ false) × (0 < mag (exp (count j ⊗ logDecay h)))
+  pub weight-range : (j : ℕ) → j ≤ P - 1 → Weight (exp (count j ⊗ logDecay h)) × (sign (exp (count j ⊗ logDecay h)) ≡ false) × (0 < mag (exp (count j ⊗ logDecay h)))
   weight-range j few =
       let v = exponent-val j few in
       let x = weight j few in
       let p = W-pos in
-      (x .range (le-trans (v .1) (omega arith)), x .plus, first-pos (mag (exp (count j ⊗ logDecay h))) (2 ^ (x .K)) (subst (λ (n : ℕ). 0 < n) (sym (x .is)) (lt-of-lt-of-le (mul-pos (lit< {m = 0} {n = 10} tt) W-pos) (x .least))))
+      (x .range (le-trans (v .1) (omega arith)), x .plus, exp-above x)
 
   -- ---- the denominator
   log-bound : mag (logDecay h) ≤ 1536 * W
@@ -187,9 +183,8 @@ module _ (P : ℕ) (periods : 2 ≤ P) (most : P ≤ maxPeriods) (h : Float) (fi
   factor-val =
       let x = log-exp in
       let b = mag (exp (logDecay h)) in
-      let v : Val (exp (logDecay h)) false b = subst (λ (s : Bool). Val (exp (logDecay h)) s b) (x .plus) (mag-val (exp (logDecay h)) (x .fit) (x .finite)) in
       let e : near (2 * U * b) U ≡ 2 * b = ap (λ (n : ℕ). near n U) (mul-right-comm 2 U b) ∙ near-held (2 * b) U U-pos (subst Held (mul-comm b 2) (held-up b 1 (mag-held (exp (logDecay h)) (x .fit) (x .finite) .0))) in
-      subst (Val (two ⊗ exp (logDecay h)) false) e (mul-most 108 (lit≤ tt) two (exp (logDecay h)) false false (2 * U) b two-val v (le-trans (le-of-eq (mul-right-comm 2 U b)) (mul-le-mul-right U (let l = exp-most in omega arith))) .0)
+      subst (Val (two ⊗ exp (logDecay h)) false) e (mul-most 108 (lit≤ tt) two (exp (logDecay h)) false false (2 * U) b two-val (exp-val x) (le-trans (le-of-eq (mul-right-comm 2 U b)) (mul-le-mul-right U (let l = exp-most in omega arith))) .0)
 
   -- the dividend
   E₁ : ℕ
@@ -214,7 +209,7 @@ module _ (P : ℕ) (periods : 2 ≤ P) (most : P ≤ maxPeriods) (h : Float) (fi
       regroup w = omega arith
 
   -- its quotient by the divisor: from 2 ^ -77 to 2 ^ 20
-  close : mag (logDecay h) ≤ 8 * W → (0 < E₂) × (E₂ ≤ 1536 * dividend) × (dividend ≤ 688128 * E₂)
+  close : mag (logDecay h) ≤ 8 * W → (0 < E₂) × (E₂ ≤ 1536 * dividend) × (dividend ≤ 168 * 2 ^ periodBits * E₂)
   unfolding E₂ dividend E₁ factor
   close c =
       let x = log-exp in
@@ -222,7 +217,7 @@ module _ (P : ℕ) (periods : 2 ≤ P) (most : P ≤ maxPeriods) (h : Float) (fi
       let n = near-error (2 * mag (exp (logDecay h)) * above .E) U U-pos in
       let b = below .near-zero (omega arith) in
       let s = span-within in
-      let e : (m ≤ 16 * above .E) × (above .E ≤ 12288 * m) = elim (le-or-lt span (16 * W)) [
+      let e : (m ≤ 16 * above .E) × (above .E ≤ 3 * 2 ^ periodBits * m) = elim (le-or-lt span (16 * W)) [
         | inl q ↦ (let z = above .near-zero q in (omega (arith, z, s), omega (arith, z, s)))
         | inr q ↦ (let z = above .far q in (omega (arith, z, s), omega (arith, z, s)))
       ] in
@@ -245,7 +240,7 @@ module _ (P : ℕ) (periods : 2 ≤ P) (most : P ≤ maxPeriods) (h : Float) (fi
         b .0,
         b .1,
         near-least (2 * mag (exp (logDecay h)) * above .E) U (2 ^ 997) U-pos (held-pow 997)
-            (le-trans powers (le-trans (mul-le-mul (r .least (first-pos (mag (exp (logDecay h))) (2 ^ (log-exp .K)) (subst (λ (n : ℕ). 0 < n) (sym (log-exp .is)) (lt-of-lt-of-le (mul-pos (lit< {m = 0} {n = 10} tt) W-pos) (log-exp .least))))) e) (le-of-eq (regroup (mag (exp (logDecay h))) (above .E))))),
+            (le-trans powers (le-trans (mul-le-mul (r .least (exp-above log-exp)) e) (le-of-eq (regroup (mag (exp (logDecay h))) (above .E))))),
       )
     where
       log-bound' : mag (logDecay h) ≤ 48 * (32 * W)
@@ -263,23 +258,23 @@ module _ (P : ℕ) (periods : 2 ≤ P) (most : P ≤ maxPeriods) (h : Float) (fi
         let q = close c in (
           q .0,
           le-trans (mul-le-mul-left (2 ^ 997) (q .1)) (le-trans (le-of-eq (sym (mul-assoc (2 ^ 997) 1536 dividend))) (le-trans (mul-le-mul-right dividend small₁) (le-of-eq (mul-comm U dividend)))),
-          le-trans (mul-le-mul-right U (q .2)) (le-trans (le-of-eq (mul-right-comm 688128 E₂ U)) (mul-le-mul-right E₂ large₁)),
+          le-trans (mul-le-mul-right U (q .2)) (le-trans (le-of-eq (mul-right-comm (168 * 2 ^ periodBits) E₂ U)) (mul-le-mul-right E₂ large₁)),
         )
     | inr c ↦
         let q = apart c in (
           lt-of-lt-of-le (mul-pos (lit< {m = 0} {n = 5} tt) W-pos) (q .0),
           le-trans (mul-le-mul (q .2) (q .1)) (le-of-eq (ap (λ (u : ℕ). dividend * u) (sym U-W))),
-          le-trans (mul-le-mul-right U (le-trans (dividend-val .1) (let b = q .0 in bigger E₂ W b))) (le-trans (le-of-eq (mul-right-comm 688128 E₂ U)) (mul-le-mul-right E₂ large₁)),
+          le-trans (mul-le-mul-right U (le-trans (dividend-val .1) (let b = q .0 in bigger E₂ W b))) (le-trans (le-of-eq (mul-right-comm (168 * 2 ^ periodBits) E₂ U)) (mul-le-mul-right E₂ large₁)),
         )
   ]
     where
       small₁ : 2 ^ 997 * 1536 ≤ U
       small₁ = unfold U in lit≤ tt
 
-      large₁ : 688128 * U ≤ 2 ^ 1094
+      large₁ : 168 * 2 ^ periodBits * U ≤ 2 ^ 1094
       large₁ = unfold U in lit≤ tt
 
-      bigger : (E w : ℕ) → 5 * w ≤ E → 162 * w ≤ 688128 * E
+      bigger : (E w : ℕ) → 5 * w ≤ E → 162 * w ≤ 168 * 2 ^ periodBits * E
       bigger E w b = omega arith
 
   pub denominator-range : Range 945 (2 ^ 997) (2 ^ 1094) (denominator P (logDecay h)) × (sign (denominator P (logDecay h)) ≡ false) × (0 < mag (denominator P (logDecay h)))

@@ -15,22 +15,25 @@ use borrow.Author.Tests.{ltb-true, ltb-false}
 use Rattle.leaves.specs.Numbers.{_⊕_, _⊗_, _⊘_, isFinite}
 use Rattle.leaves.specs.Shift.{shift}
 use Rattle.leaves.proofs.Shift.{expo, shift-fin, expo-value, ltb-scaled}
-use Rattle.leaves.proofs.Units.{U, U-pos, Val, rounded, left-side, right-side}
+use Rattle.leaves.proofs.Units.{U, U-pos, Val, rounded, one-side-of, other-side-of}
 
 -- ---- the sum
 -- ±a + ±b: its sign and its size
 abbrev pub sumSign : Bool → ℕ → Bool → ℕ → Bool
 sumSign s a t b = cond (Bool·beq s t) s (cond (ltb a b) t (s && ltb b a))
 
+abbrev pub distance : ℕ → ℕ → ℕ
+distance a b = a - b + (b - a)
+
 abbrev pub total : Bool → ℕ → Bool → ℕ → ℕ
-total s a t b = cond (Bool·beq s t) (a + b) (a - b + (b - a))
+total s a t b = cond (Bool·beq s t) (a + b) (distance a b)
 
 sum-is : (s : Bool) (a : ℕ) (t : Bool) (b c : ℕ) → sum binary64 s a t b c ≡ round binary64 (sumSign s a t b) (total s a t b) c
 unfolding sum
 sum-is s a t b c = go (Bool·beq s t) (ltb a b) refl
   where
     go : (x y : Bool) → ltb a b ≡ y
-        → cond x (round binary64 s (a + b) c) (cond y (round binary64 t (b - a) c) (round binary64 (s && ltb b a) (a - b) c)) ≡ round binary64 (cond x s (cond y t (s && ltb b a))) (cond x (a + b) (a - b + (b - a))) c
+        → cond x (round binary64 s (a + b) c) (cond y (round binary64 t (b - a) c) (round binary64 (s && ltb b a) (a - b) c)) ≡ round binary64 (cond x s (cond y t (s && ltb b a))) (cond x (a + b) (distance a b)) c
     go true y e = refl
     go false true e = let l = ltb-true a b e in ap (λ (z : ℕ). round binary64 t z c) (omega arith)
     go false false e = let l = ltb-false a b e in ap (λ (z : ℕ). round binary64 (s && ltb b a) z c) (omega arith)
@@ -46,7 +49,7 @@ module _ (s t : Bool) (x y p q a b : ℕ) (P : 0 < p) (Q : 0 < q) (e : x * p ≡
   total-scaled : total s x t y * p ≡ total s a t b * q
   total-scaled = go (Bool·beq s t)
     where
-      go : (u : Bool) → cond u (x + y) (x - y + (y - x)) * p ≡ cond u (a + b) (a - b + (b - a)) * q
+      go : (u : Bool) → cond u (x + y) (distance x y) * p ≡ cond u (a + b) (distance a b) * q
       go true = add-mul x y p ∙ ap₂ (λ (u v : ℕ). u + v) e g ∙ sym (add-mul a b q)
       go false =
           add-mul (x - y) (y - x) p ∙ ap₂ (λ (u v : ℕ). u + v) (less-times x y p ∙ ap₂ (λ (u v : ℕ). u - v) e g ∙ sym (less-times a b q)) (less-times y x p ∙ ap₂ (λ (u v : ℕ). u - v) g e ∙ sym (less-times b a q))
@@ -61,7 +64,7 @@ total-times s t a b k K = sym (mul-one (total s (a * k) t (b * k))) ∙ total-sc
 pub total-le : (s t : Bool) (a b : ℕ) → total s a t b ≤ a + b
 total-le s t a b = go (Bool·beq s t)
   where
-    go : (u : Bool) → cond u (a + b) (a - b + (b - a)) ≤ a + b
+    go : (u : Bool) → cond u (a + b) (distance a b) ≤ a + b
     go true = omega arith
     go false = omega arith
 
@@ -76,8 +79,8 @@ add-rounded (fin u m e) (fin r n h) s t a b v w =
     let Y = n * up h * down e in
     let D = down e * down h in
     let D-pos : 0 < D = mul-pos (down-pos e) (down-pos h) in
-    let p = left-side m e n h a b (v .1) (w .1) in
-    let q = right-side m e n h a b (v .1) (w .1) in
+    let p = one-side-of m e h a (v .1) in
+    let q = other-side-of n e h b (w .1) in
     ap₂ (λ (y z : Bool). sum binary64 y X z Y D) (v .0) (w .0) ∙ sum-is s X t Y D
     ∙ ap (λ (z : Bool). round binary64 z (total s X t Y) D) (sumSign-scaled s t X Y U D a b U-pos D-pos p q)
     ∙ round-same binary64 (sumSign s a t b) (total s X t Y) D (total s a t b) (1 * U) D-pos (rw (one-mul U) U-pos) (rw (one-mul U) (total-scaled s t X Y U D a b U-pos D-pos p q))

@@ -3,7 +3,7 @@ use mathlib.Core.Path.{_≡_, refl}
 use Prim.Native.Nat.{ℕ, suc, _+_, _-_, _^_, _≤_, _<_}
 use native.Mathlib.Omega.{arith}
 use mathlib.Core.Bool.{Bool, true, false, cond}
-use lib.Dec.{leb→le, le→leb, T, lit<, leb}
+use lib.Dec.{leb→le, le→leb, T, leb}
 use lib.IntN.{ℤ, pos, negsuc}
 use lib.Signed.{leZ, mag}
 use lib.Ieee as Ieee
@@ -42,10 +42,10 @@ unfolding over under
 is-pos (pos n) h = refl
 is-pos (negsuc n) h = absurd (omega arith)
 
-mag-lt : (z : ℤ) (n : ℕ) → over z < n → under z ≤ n → 0 < n → mag z < n
+mag-lt : (z : ℤ) (n : ℕ) → over z < n → under z ≤ n → mag z < n
 unfolding over under
-mag-lt (pos a) n h k p = h
-mag-lt (negsuc a) n h k p = k
+mag-lt (pos a) n h k = h
+mag-lt (negsuc a) n h k = k
 
 mag-over : (z : ℤ) (n : ℕ) → mag z < n → (over z < n) × (under z ≤ n)
 unfolding over under
@@ -54,7 +54,7 @@ mag-over (negsuc a) n h = omega arith
 
 -- in the range of an i32
 pub fits-i32 : (z : ℤ) → over z < 2 ^ 31 → under z ≤ 2 ^ 31 → SFits w32 z
-fits-i32 z h k = record { sfits = mag-lt z (2 ^ 31) h k (lit< tt) }
+fits-i32 z h k = record { sfits = mag-lt z (2 ^ 31) h k }
 
 pub i32-fits : (z : ℤ) → SFits w32 z → (over z < 2 ^ 31) × (under z ≤ 2 ^ 31)
 i32-fits z h = mag-over z (2 ^ 31) (h .sfits)

@@ -1,15 +1,15 @@
--- The invariants of the code's loops: a loop by its steps, a table that is filled cell by cell, and sums and largest sizes that grow by one number. Assumes nothing.
+-- The invariants of the code's loops: a loop by its steps, in two parts and row by row, a table that is filled cell by cell, and sums and largest sizes that grow by one number. Assumes nothing.
 use mathlib.Core.Path.{_≡_, refl, sym, ap, _∙_}
 use mathlib.Core.List.{List, [], _∷_}
-use Prim.Native.Nat.{ℕ, zero, suc, _+_, _≤_, _<_, zero-le}
-use native.Mathlib.Nat.{not-suc-le-zero, le-of-suc-le-suc}
+use Prim.Native.Nat.{ℕ, zero, suc, _+_, _*_, _/_, _%_, _≤_, _<_, zero-le}
+use native.Mathlib.Nat.{not-suc-le-zero, le-of-suc-le-suc, zero-mul, suc-mul}
 use native.Mathlib.Numerals.{add-one}
 use native.Mathlib.Omega.{arith}
 use lib.ListN.{length, getD, set, length-set}
 use lib.Ieee.{Float}
 use Rattle.leaves.specs.Numbers.{_⊕_, zero⁺, abs, larger}
 use Rattle.leaves.specs.Loops.{loop, sumTo, amaxTo, tab, fill}
-use Rattle.leaves.proofs.Loops.{loop-more, fill-whole}
+use Rattle.leaves.proofs.Loops.{at-cell, loop-more, loop-ext, kept-loop, fill-whole}
 
 -- a loop's invariant s ≡ loop step i s₀, after a turn and at the end
 pub loop-turn : {S : Type 0} (step : ℕ → S → S) (i : ℕ) (s₀ s s′ : S) → s ≡ loop i step s₀ → s′ ≡ step i s → s′ ≡ loop (i + 1) step s₀
@@ -21,6 +21,25 @@ loop-end step i n s₀ s e h = e ∙ ap (λ (k : ℕ). loop k step s₀) h
 pub loop-start : {S : Type 0} (step : ℕ → S → S) (s : S) → s ≡ loop 0 step s
 unfolding loop
 loop-start step s = refl
+
+-- steps that do nothing
+pub loop-still : {S : Type 0} (f : ℕ → S → S) (n : ℕ) (s : S) → ((k : ℕ) → k < n → (x : S) → f k x ≡ x) → loop n f s ≡ s
+loop-still f n s h = kept-loop (λ x. x ≡ s) n f s refl (λ k l x e. h k l x ∙ e)
+
+loop-both : {S : Type 0} (f : ℕ → S → S) (a b : ℕ) (s : S) → loop (a + b) f s ≡ loop b (λ k. f (a + k)) (loop a f s)
+unfolding loop
+loop-both f a zero s = let e : a + 0 ≡ a = omega arith in ap (λ (j : ℕ). loop j f s) e
+loop-both f a (suc b) s = let e : a + suc b ≡ suc (a + b) = omega arith in ap (λ (j : ℕ). loop j f s) e ∙ ap (f (a + b)) (loop-both f a b s)
+
+-- m rows of n steps are m * n steps
+pub loop-rows : {S : Type 0} (f : ℕ → ℕ → S → S) (m n : ℕ) (s : S) → loop m (λ i. loop n (f i)) s ≡ loop (m * n) (λ k. f (k / n) (k % n)) s
+unfolding loop
+loop-rows f zero n s = ap (λ (j : ℕ). loop j (λ k. f (k / n) (k % n)) s) (sym (zero-mul n))
+loop-rows f (suc m) n s =
+    ap (loop n (f m)) (loop-rows f m n s)
+    ∙ loop-ext n (f m) (λ j. f ((m * n + j) / n) ((m * n + j) % n)) (loop (m * n) (λ k. f (k / n) (k % n)) s) (λ j h x i. sym (at-cell f m n j h) i x)
+    ∙ sym (loop-both (λ k. f (k / n) (k % n)) (m * n) n s)
+    ∙ ap (λ (j : ℕ). loop j (λ k. f (k / n) (k % n)) s) (sym (suc-mul m n))
 
 module _ {A : Type 0} where
   fill-suc : (f : ℕ → A) (n : ℕ) (old : List A) → n < length old → set (fill n f old) n (f n) ≡ fill (suc n) f old

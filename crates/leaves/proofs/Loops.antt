@@ -30,20 +30,24 @@ cell-row i n j h = digits-div i h
 pub cell-col : (i n j : ℕ) → j < n → (i * n + j) % n ≡ j
 cell-col i n j h = digits-mod i h
 
+-- a table's entry there
+pub at-cell : {A : Type 0} (f : ℕ → ℕ → A) (i n j : ℕ) → j < n → f ((i * n + j) / n) ((i * n + j) % n) ≡ f i j
+at-cell f i n j h = λ t. f (cell-row i n j h t) (cell-col i n j h t)
+
 -- a table with a cell k has a column
 pub has-column : (k m n : ℕ) → k < m * n → 0 < n
 has-column k m zero h = absurd (not-suc-le-zero (rw mul-zero at h))
 has-column k m (suc n) h = suc-le-suc zero-le
 
--- the row and the column of any cell of an n × n table are below n
 pub side : (k n : ℕ) → k < n * n → 0 < n
 side k n h = has-column k n n h
 
-pub row-below : (k n : ℕ) → k < n * n → k / n < n
-row-below k n h = div-lt-iff-lt-mul (side k n h) .1 h
+-- the row and the column of any cell of an m × n table
+pub row-below : (k m n : ℕ) → k < m * n → k / n < m
+row-below k m n h = div-lt-iff-lt-mul (has-column k m n h) .1 h
 
-pub col-below : (k n : ℕ) → k < n * n → k % n < n
-col-below k n h = mod-lt k (side k n h)
+pub col-below : (k m n : ℕ) → k < m * n → k % n < n
+col-below k m n h = mod-lt k (has-column k m n h)
 
 -- one step more
 pub loop-more : {S : Type 0} (step : ℕ → S → S) (n : ℕ) (s : S) → loop (n + 1) step s ≡ step n (loop n step s)
@@ -54,6 +58,12 @@ pub loop-ext : {S : Type 0} (n : ℕ) (f g : ℕ → S → S) (s : S) → ((k : 
 unfolding loop
 loop-ext zero f g s h = refl
 loop-ext (suc n) f g s h = h n (lt-suc-self n) (loop n f s) ∙ ap (g n) (loop-ext n f g s (λ k l. h k (lt-trans l (lt-suc-self n))))
+
+-- what each step keeps, the loop keeps
+pub kept-loop : {S : Type 0} (P : S → Type 0) (n : ℕ) (f : ℕ → S → S) (s : S) → P s → ((i : ℕ) → i < n → (s : S) → P s → P (f i s)) → P (loop n f s)
+unfolding loop
+kept-loop P zero f s p h = p
+kept-loop P (suc n) f s p h = h n (lt-suc-self n) (loop n f s) (kept-loop P n f s p (λ i l. h i (lt-trans l (lt-suc-self n))))
 
 module _ {A : Type 0} where
   pub length-tab : (f : ℕ → A) (n : ℕ) → length (tab n f) ≡ n

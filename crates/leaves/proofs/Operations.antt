@@ -6,7 +6,7 @@
 use mathlib.Core.Path.{_≡_, refl, sym, ap, ap₂, _∙_, subst}
 use mathlib.Core.Logic.{inl, inr}
 use Prim.Native.Nat.{ℕ, suc, _+_, _-_, _*_, _^_, _≤_, _<_, zero-le}
-use native.Mathlib.Nat.{le-trans, le-of-eq, lt-of-le-of-lt, eq-zero-or-pos, zero-lt-suc, add-zero, zero-mul, mul-one, mul-comm, mul-assoc, mul-right-comm, mul-mul-mul-comm, add-le-add, mul-le-mul, mul-le-mul-left, mul-le-mul-right}
+use native.Mathlib.Nat.{le-trans, le-of-eq, lt-of-le-of-lt, eq-zero-or-pos, zero-lt-suc, two-pow-succ, add-zero, zero-mul, mul-one, mul-comm, mul-assoc, mul-right-comm, mul-mul-mul-comm, add-le-add, mul-le-mul, mul-le-mul-left, mul-le-mul-right}
 use native.Mathlib.Omega.{arith}
 use mathlib.Core.Bool.{Bool}
 use lib.IntN.{pos}
@@ -144,13 +144,10 @@ moved-neg {k} {x = x} r = record { range = range-neg (r .range); copy = ap neg (
 pub moved-abs : {k g l h : ℕ} {x x' : Float} → Moved k g l h x x' → Moved k g l h (abs x) (abs x')
 moved-abs {k} {x = x} r = record { range = range-abs (r .range); copy = ap abs (r .copy) ∙ abs-shift (pos k) x }
 
-twice : (h : ℕ) → 2 ^ h + 2 ^ h ≡ 2 ^ suc h
-twice h = omega arith
-
 pub moved-add : {k g l₁ l₂ h : ℕ} {x x' y y' : Float} → Moved k g l₁ h x x' → Moved k g l₂ h y y' → suc h + k ≤ 2097 → Moved k g g (suc h) (x ⊕ y) (x' ⊕ y')
 moved-add {k} {h = h} r p o = record {
-  range = range-add (r .range) (p .range) (2 ^ suc h) (le-of-eq (twice h)) (held-pow (suc h)) (pow-under-Top (suc h) (omega arith));
-  copy = ap₂ _⊕_ (r .copy) (p .copy) ∙ add-copy (r .range) (p .range) k (2 ^ (suc h + k)) (le-of-eq (ap (λ (z : ℕ). z * 2 ^ k) (twice h) ∙ sym (pow-add 2 (suc h) k))) (held-pow (suc h + k)) (pow-under-Top (suc h + k) o);
+  range = range-add (r .range) (p .range) (2 ^ suc h) (le-of-eq (sym (two-pow-succ h))) (held-pow (suc h)) (pow-under-Top (suc h) (omega arith));
+  copy = ap₂ _⊕_ (r .copy) (p .copy) ∙ add-copy (r .range) (p .range) k (2 ^ (suc h + k)) (le-of-eq (ap (λ (z : ℕ). z * 2 ^ k) (sym (two-pow-succ h)) ∙ sym (pow-add 2 (suc h) k))) (held-pow (suc h + k)) (pow-under-Top (suc h + k) o);
 }
 
 pub moved-sub : {k g l₁ l₂ h : ℕ} {x x' y y' : Float} → Moved k g l₁ h x x' → Moved k g l₂ h y y' → suc h + k ≤ 2097 → Moved k g g (suc h) (x ⊖ y) (x' ⊖ y')

@@ -17,8 +17,8 @@ use lib.Ieee.Positive.{first-pos}
 use Rattle.leaves.specs.Numbers.{isFinite}
 use Rattle.leaves.specs.Scaling.{binaryExponent, pow2Scaled}
 use Rattle.leaves.specs.Shift.{shift}
-use Rattle.leaves.proofs.Whole.{le-or-lt, over, under, plus, same, one-side, over-neg, under-neg, up-is, down-is}
-use Rattle.leaves.proofs.Laws.{fits→room, room→fits, digits-in, size-pos}
+use Rattle.leaves.proofs.Whole.{le-or-lt, over, under, plus, same, over-neg, under-neg, up-is, down-is}
+use Rattle.leaves.proofs.Laws.{fits→room, room→fits, digits-in, size-pos, room-move}
 use Rattle.leaves.proofs.Scale.{scaled-exact}
 use Rattle.leaves.proofs.Shift.{shift-shift, shift-value, isFinite-shift}
 use Rattle.leaves.proofs.Rounding.{in-place}
@@ -63,7 +63,7 @@ module _ {g L : ℕ} (h : ℕ) (x : Float) (r : Range g L (2 ^ h) x) (j : ℤ) (
       go (fin s (suc m) e) r =
           let b = range-bits h s m e r in
           let q = fits→room s m e (r .fit) in
-          room→fits s m (e +ℤ j) (record { odd = q .odd; digits = q .digits; low = omega (arith, plus e j, one-side (e +ℤ j), b .last); high = omega (arith, plus e j, b .leading) })
+          room→fits s m (e +ℤ j) (room-move e j q (omega (arith, b .last)) (omega (arith, b .leading)))
 
   finite-move : T (isFinite (shift j x))
   finite-move = rw (isFinite-shift j x) (r .finite)

@@ -108,9 +108,12 @@ range-sized g h x t =
     go (inl z) = inl (eqb→eq (mag x) 0 z)
     go (inr l) = inr (leb→le (2 ^ (g + 52)) (mag x) l)
 
--- every finite value of the format
+-- every finite value of the format, of at most B units
+pub range-most : (x : Float) {B : ℕ} → T (fits binary64 x) → T (isFinite x) → mag x ≤ B → Range 0 1 B x
+range-most x t f h = record { fit = t; finite = f; count = mag x; grain = sym (mul-one (mag x)); least = λ p. p; most = h }
+
 pub range-fits : (x : Float) → T (fits binary64 x) → T (isFinite x) → Range 0 1 Top x
-range-fits x t f = record { fit = t; finite = f; count = mag x; grain = sym (mul-one (mag x)); least = λ p. p; most = le-of-lt (mag-held x t f .1) }
+range-fits x t f = range-most x t f (le-of-lt (mag-held x t f .1))
 
 -- ---- of a count
 pub count-val : (n : ℕ) → n ≤ 2 ^ 53 → Val (count n) false (n * U)

@@ -15,9 +15,9 @@ use Rattle.leaves.specs.Numbers.{zero⁺}
 use Rattle.leaves.specs.Shift.{shift}
 use Rattle.leaves.specs.Root.{sticky, halfExponent, radicand, sqrt}
 use Rattle.leaves.proofs.Whole.{over, under, one-side, plus, minus, up-is, down-is}
-use Rattle.leaves.proofs.Laws.{Room, fits→room, room→fits, place, digits-in, digits-out, size-pos, leading}
+use Rattle.leaves.proofs.Laws.{Room, fits→room, room→fits, bits-at, place, digits-in, digits-out, size-pos, leading}
 use Rattle.leaves.proofs.Zero.{no, zero-not-above}
-use Rattle.leaves.proofs.Exponent.{units-are, bits-at, size-shift}
+use Rattle.leaves.proofs.Exponent.{units-are, size-shift}
 use Rattle.leaves.proofs.Sqrts.{halved, whole, g, M, radicand-is, Rounded, digits-of, result-room}
 use Rattle.leaves.proofs.SqrtLaws.{eights-value}
 use Rattle.leaves.proofs.Guessed.{eights}
@@ -51,7 +51,7 @@ module _ (m : ℕ) (e : ℤ) (r : Room (suc m) e) where
 
   bits-are : toBits binary64 (fin false (suc m) e) ≡ 0 + (size (suc m) + place e - 53) * 2 ^ 52 + suc m * 2 ^ place e / 2 ^ (size (suc m) + place e - 53)
   bits-are =
-      bits-at false (suc m) e (suc m * 2 ^ place e) (units-are (suc m) e (r .low))
+      bits-at binary64 false (suc m) e (suc m * 2 ^ place e) (units-are (suc m) e (r .low))
       ∙ ap (λ (z : ℕ). 0 + (z - 53) * 2 ^ 52 + suc m * 2 ^ place e / 2 ^ (z - 53)) (size-shift m (place e))
 
   bits-small : size (suc m) + place e ≤ 52 → toBits binary64 (fin false (suc m) e) < 2 ^ 52

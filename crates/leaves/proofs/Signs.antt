@@ -2,16 +2,16 @@
 -- a sum of such terms (`sign` of a NaN is false). What has no minus sign is not below zero, so its root is no NaN for being negative. Assumes nothing.
 use mathlib.Core.Path.{_≡_, refl, ap, _∙_, subst}
 use Prim.Native.Nat.{ℕ, zero, suc, _+_, _*_, _^_, _<_}
-use native.Mathlib.Nat.{lt-suc-self, lt-trans}
 use mathlib.Core.Bool.{Bool, true, false, cond}
 use lib.Dec.{ltb, eqb}
 use lib.IntN.{ℤ}
 use lib.Ieee.{Float, nan, inf, fin, binary64, up, down, unlike, odd, units, round, sum, add, mul, div, ofInt, lt}
 use lib.Ieee.Fits.{round-is}
 use Rattle.leaves.specs.Numbers.{_⊕_, _⊗_, _⊘_, count, zero⁺, abs}
-use Rattle.leaves.specs.Loops.{loop, sumTo}
+use Rattle.leaves.specs.Loops.{sumTo}
 use Rattle.leaves.specs.Shift.{shift}
 use Rattle.leaves.specs.Root.{sticky, radicand, sqrt}
+use Rattle.leaves.proofs.Loops.{kept-loop}
 use Rattle.leaves.proofs.Zero.{no, not-below}
 use Rattle.leaves.proofs.Units.{sign}
 
@@ -102,9 +102,8 @@ unfolding ofInt
 sign-count n = sign-round false n 1
 
 pub sign-sum : (n : ℕ) (f : ℕ → Float) → ((t : ℕ) → t < n → sign (f t) ≡ false) → sign (sumTo n f) ≡ false
-unfolding sumTo loop sign
-sign-sum zero f h = refl
-sign-sum (suc n) f h = sign-add (sumTo n f) (f n) (sign-sum n f (λ t l. h t (lt-trans l (lt-suc-self n)))) (h n (lt-suc-self n))
+unfolding sumTo
+sign-sum n f h = kept-loop (λ s. sign s ≡ false) n (λ t s. s ⊕ f t) zero⁺ (unfold sign in refl) (λ t l s p. sign-add s (f t) p (h t l))
 
 -- ---- it is not below zero
 pub sign-not-below : (x : Float) → sign x ≡ false → lt x zero⁺ ≡ false

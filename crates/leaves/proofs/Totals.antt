@@ -7,18 +7,18 @@ use Prim.Native.Nat.{ℕ, zero, suc, _+_, _*_, _^_, _≤_, _<_}
 use native.Mathlib.Nat.{le-refl, le-trans, le-of-eq, le-of-lt, le-of-suc-le-suc, lt-of-le-of-lt, lt-trans, lt-suc-self, eq-or-lt-of-le, not-suc-le-zero, mul-one, suc-mul, mul-le-mul-left, mul-le-mul-right}
 use native.Mathlib.Omega.{arith}
 use mathlib.Core.Bool.{Bool, true, false, cond}
-use lib.Dec.{T, ltb}
+use lib.Dec.{ltb}
 use lib.IntN.{ℤ, pos}
 use lib.Pow.{pow-add, pow-pos, pow-mono, pow-lt}
-use lib.Ieee.{Float, binary64, lt, fits}
+use lib.Ieee.{Float, lt}
 use borrow.Author.Tests.{ltb-true, ltb-false}
-use Rattle.leaves.specs.Numbers.{_⊕_, zero⁺, isFinite, abs, larger}
+use Rattle.leaves.specs.Numbers.{_⊕_, zero⁺, abs, larger}
 use Rattle.leaves.specs.Loops.{loop, sumTo, amaxTo}
 use Rattle.leaves.specs.Shift.{shift}
 use Rattle.leaves.proofs.Shift.{shift-zero⁺, abs-shift, larger-shift}
-use Rattle.leaves.proofs.Loops.{amax-ext}
+use Rattle.leaves.proofs.Loops.{kept-loop, amax-ext}
 use Rattle.leaves.proofs.Rounding.{Held, held-times, held-up}
-use Rattle.leaves.proofs.Units.{zero-val, zero-mag, Top, pow-under-Top, Val, mag, mag-val, mag-abs, abs-val, lt-val}
+use Rattle.leaves.proofs.Units.{Finite, zero-val, zero-mag, Top, pow-under-Top, Val, mag, mag-val, mag-abs, abs-val, lt-val}
 use Rattle.leaves.proofs.Range.{Range, range-weaken, range-abs, range-zero}
 use Rattle.leaves.proofs.Operations.{Moved, range-add, add-copy}
 
@@ -83,13 +83,12 @@ amax-shift k (suc n) f = ap₂ larger (amax-shift k n f) (abs-shift k (f n)) ∙
 
 -- it is one of the sizes, or zero
 pub amax-one : (P : Float → Type 0) (n : ℕ) (f : ℕ → Float) → P zero⁺ → ((t : ℕ) → t < n → P (abs (f t))) → P (amaxTo n f)
-unfolding amaxTo loop larger
-amax-one P zero f z h = z
-amax-one P (suc n) f z h = go (lt (amaxTo n f) (abs (f n))) (amax-one P n f z (λ t l. h t (lt-trans l (lt-suc-self n)))) (h n (lt-suc-self n))
+unfolding amaxTo larger
+amax-one P n f z h = kept-loop P n (λ t m. larger m (abs (f t))) zero⁺ z (λ t l m p. go m (abs (f t)) (lt m (abs (f t))) p (h t l))
   where
-    go : (b : Bool) → P (amaxTo n f) → P (abs (f n)) → P (cond b (abs (f n)) (amaxTo n f))
-    go true p q = q
-    go false p q = p
+    go : (m x : Float) (b : Bool) → P m → P x → P (cond b x m)
+    go m x true p q = q
+    go m x false p q = p
 
 pub moved-amax : {k g l h : ℕ} (n : ℕ) (u u' : ℕ → Float) → ((t : ℕ) → t < n → Moved k g l h (u t) (u' t)) → Moved k g l h (amaxTo n u) (amaxTo n u')
 moved-amax {k} {g} {l} {h} n u u' each = record {
@@ -98,8 +97,8 @@ moved-amax {k} {g} {l} {h} n u u' each = record {
 }
 
 -- and none is larger, of finite values of the format
-size-val : (x : Float) → T (fits binary64 x) → T (isFinite x) → Val (abs x) false (mag (abs x))
-size-val x t f = rw (mag-abs x) (abs-val x (mag-val x t f))
+size-val : (x : Float) → Finite x → Val (abs x) false (mag (abs x))
+size-val x t = rw (mag-abs x) (abs-val x (mag-val x (t .0) (t .1)))
 
 larger-mag : (m x : Float) → Val m false (mag m) → Val x false (mag x) → (mag m ≤ mag (larger m x)) × (mag x ≤ mag (larger m x))
 unfolding larger
@@ -110,15 +109,15 @@ larger-mag m x v w = go (lt m x) (sym (lt-val m x false false (mag m) (mag x) v 
     go false e = (le-refl (mag m), ltb-false (mag m) (mag x) e)
 
 module _ (f : ℕ → Float) where
-  amax-val : (n : ℕ) → ((t : ℕ) → t < n → T (fits binary64 (f t)) × T (isFinite (f t))) → Val (amaxTo n f) false (mag (amaxTo n f))
-  amax-val n h = amax-one (λ z. Val z false (mag z)) n f (rw (zero-mag false (pos 0)) (zero-val false (pos 0))) (λ t l. size-val (f t) (h t l .0) (h t l .1))
+  amax-val : (n : ℕ) → ((t : ℕ) → t < n → Finite (f t)) → Val (amaxTo n f) false (mag (amaxTo n f))
+  amax-val n h = amax-one (λ z. Val z false (mag z)) n f (rw (zero-mag false (pos 0)) (zero-val false (pos 0))) (λ t l. size-val (f t) (h t l))
 
-  pub amax-most : (n : ℕ) → ((t : ℕ) → t < n → T (fits binary64 (f t)) × T (isFinite (f t))) → (t : ℕ) → t < n → mag (f t) ≤ mag (amaxTo n f)
+  pub amax-most : (n : ℕ) → ((t : ℕ) → t < n → Finite (f t)) → (t : ℕ) → t < n → mag (f t) ≤ mag (amaxTo n f)
   unfolding amaxTo loop
   amax-most zero h t l = absurd (not-suc-le-zero l)
   amax-most (suc n) h t l =
-      let h' : (t : ℕ) → t < n → T (fits binary64 (f t)) × T (isFinite (f t)) = λ t l. h t (lt-trans l (lt-suc-self n)) in
-      let b = larger-mag (amaxTo n f) (abs (f n)) (amax-val n h') (size-val (f n) (h n (lt-suc-self n) .0) (h n (lt-suc-self n) .1)) in
+      let h' : (t : ℕ) → t < n → Finite (f t) = λ t l. h t (lt-trans l (lt-suc-self n)) in
+      let b = larger-mag (amaxTo n f) (abs (f n)) (amax-val n h') (size-val (f n) (h n (lt-suc-self n))) in
       elim (eq-or-lt-of-le (le-of-suc-le-suc l)) [
         | inl e ↦ subst (λ (i : ℕ). mag (f i) ≤ mag (amaxTo (suc n) f)) (sym e) (le-trans (le-of-eq (sym (mag-abs (f n)))) (b .1))
         | inr i ↦ le-trans (amax-most n h' t i) (b .0)

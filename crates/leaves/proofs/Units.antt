@@ -4,7 +4,7 @@
 use mathlib.Core.Path.{_≡_, refl, sym, ap, _∙_, subst}
 use mathlib.Core.Logic.{_⊎_, inl, inr}
 use Prim.Native.Nat.{ℕ, zero, suc, _+_, _*_, _/_, _^_, _≤_, _<_}
-use native.Mathlib.Nat.{le-trans, le-of-eq, lt-of-le-of-lt, zero-lt-suc, zero-mul, mul-one, mul-assoc, mul-right-comm, mul-pos, mul-le-mul-left, mul-lt-mul-of-pos-right, eq-of-mul-eq-mul-right, mul-div-cancel}
+use native.Mathlib.Nat.{mul-comm, eq-zero-or-pos, le-trans, le-of-eq, lt-of-le-of-lt, zero-lt-suc, zero-mul, mul-one, mul-assoc, mul-right-comm, mul-pos, mul-le-mul-left, mul-lt-mul-of-pos-right, mul-div-cancel}
 use native.Mathlib.Omega.{arith}
 use mathlib.Core.Bool.{Bool, true, false, not, _&&_, _||_, Bool·beq, cond}
 use lib.Dec.{T, ltb, eqb, lit<}
@@ -15,11 +15,11 @@ use lib.Ieee.Fits.{up-pos, down-pos, round-fits}
 use lib.Ieee.Exact.{HasValue, units-val}
 use lib.Ieee.Order.{drop, kept}
 use lib.Ieee.Positive.{first-pos}
-use borrow.Author.Tests.{ltb-true, ltb-false}
-use Rattle.leaves.specs.Numbers.{zero⁺, isFinite, abs}
+use borrow.Author.Tests.{ltb-true, ltb-false, eqb-false}
+use Rattle.leaves.specs.Numbers.{zero⁺, one, isFinite, abs}
 use Rattle.leaves.specs.Shift.{shift}
-use Rattle.leaves.proofs.Whole.{over, under, plus, one-side, up-is, down-is}
-use Rattle.leaves.proofs.Laws.{fits→room, room→fits, place, in-units, size-under, digits-in, digits-out, value-unique}
+use Rattle.leaves.proofs.Whole.{over, under, up-is, down-is}
+use Rattle.leaves.proofs.Laws.{value-same, fits→room, room→fits, place, in-units, size-under, digits-in, digits-out, value-unique, room-move}
 use Rattle.leaves.proofs.Shift.{shift-value, below-scaled, level-scaled}
 use Rattle.leaves.proofs.Rounding.{near, Held, Grained, held-small, held-times, near-scale, round-near}
 
@@ -33,6 +33,10 @@ Top = 2 ^ 2098
 
 abbrev pub Val : Float → Bool → ℕ → Type 0
 Val x s u = HasValue x s u U
+
+-- a finite value of the format
+abbrev pub Finite : Float → Type 0
+Finite x = T (fits binary64 x) × T (isFinite x)
 
 -- n / d units, rounded
 abbrev pub rounded : Bool → ℕ → ℕ → Float
@@ -71,6 +75,9 @@ val-mag (fin t m e) s u v = (v .0, ap (λ (z : ℕ). z / down e) (v .1) ∙ mul-
 pub zero-val : (s : Bool) (e : ℤ) → Val (fin s zero e) s 0
 zero-val s e = (refl, simp zero-mul)
 
+pub one-val : Val one false U
+one-val = (refl, omega arith)
+
 pub zero-mag : (s : Bool) (e : ℤ) → mag (fin s zero e) ≡ 0
 zero-mag s e = val-mag (fin s zero e) s 0 (zero-val s e) .1
 
@@ -85,12 +92,7 @@ val-finite (fin t m e) s u v = tt
 
 -- by any fraction a / c that x equals
 pub val-of : (x : Float) (s : Bool) (a c u : ℕ) → 0 < c → HasValue x s a c → a * U ≡ u * c → Val x s u
-val-of nan s a c u C v e = v
-val-of (inf t) s a c u C v e = v
-val-of (fin t m e) s a c u C v h = (v .0, eq-of-mul-eq-mul-right c C (m * up e * U) (u * down e) (turn (m * up e) c a (down e) U u (v .1) h))
-  where
-    turn : (x c a d l u : ℕ) → x * c ≡ a * d → a * l ≡ u * c → x * l * c ≡ u * d * c
-    turn x c a d l u p q = let p' = ap (λ (z : ℕ). z * l) p in let q' = ap (λ (z : ℕ). z * d) q in omega arith
+val-of x s a c u C v h = value-same x s a c u U C v h
 
 pub val-unique : (x y : Float) (s : Bool) (u : ℕ) → T (fits binary64 x) → T (fits binary64 y) → Val x s u → Val y s u → x ≡ y
 val-unique x y s u p q v w = value-unique binary64 x y s u U U-pos p q v w
@@ -160,13 +162,12 @@ neg-val (inf t) s u v = v
 neg-val (fin t m e) s u v = (ap not (v .0), v .1)
 
 -- ---- comparisons
--- the two sides of a comparison, in units
-module _ (m : ℕ) (e : ℤ) (n : ℕ) (d : ℤ) (a b : ℕ) (v : m * up e * U ≡ a * down e) (w : n * up d * U ≡ b * down d) where
-  pub left-side : m * up e * down d * U ≡ a * (down e * down d)
-  left-side = mul-right-comm (m * up e) (down d) U ∙ ap (λ (z : ℕ). z * down d) v ∙ mul-assoc a (down e) (down d)
+-- a side of a comparison, in units
+pub one-side-of : (m : ℕ) (e d : ℤ) (a : ℕ) → m * up e * U ≡ a * down e → m * up e * down d * U ≡ a * (down e * down d)
+one-side-of m e d a v = mul-right-comm (m * up e) (down d) U ∙ ap (λ (z : ℕ). z * down d) v ∙ mul-assoc a (down e) (down d)
 
-  pub right-side : n * up d * down e * U ≡ b * (down e * down d)
-  right-side = mul-right-comm (n * up d) (down e) U ∙ ap (λ (z : ℕ). z * down e) w ∙ mul-right-comm b (down d) (down e) ∙ mul-assoc b (down e) (down d)
+pub other-side-of : (n : ℕ) (e d : ℤ) (b : ℕ) → n * up d * U ≡ b * down d → n * up d * down e * U ≡ b * (down e * down d)
+other-side-of n e d b w = one-side-of n d e b w ∙ ap (λ (z : ℕ). b * z) (mul-comm (down d) (down e))
 
 both-val : (x y : Float) (s t : Bool) (a b : ℕ) → Val x s a → Val y t b → (lt x y ≡ below s a t b) × (eq x y ≡ level s a t b)
 unfolding lt eq
@@ -178,8 +179,8 @@ both-val (fin r m e) (fin q n d) s t a b v w =
     let X = m * up e * down d in
     let Y = n * up d * down e in
     let D : 0 < down e * down d = mul-pos (down-pos e) (down-pos d) in
-    let l = left-side m e n d a b (v .1) (w .1) in
-    let g = right-side m e n d a b (v .1) (w .1) in
+    let l = one-side-of m e d a (v .1) in
+    let g = other-side-of n e d b (w .1) in
     rw (v .0, w .0) (below-scaled s t X Y U (down e * down d) a b U-pos D l g, level-scaled s t X Y U (down e * down d) a b U-pos D l g)
 
 pub lt-val : (x y : Float) (s t : Bool) (a b : ℕ) → Val x s a → Val y t b → lt x y ≡ below s a t b
@@ -196,6 +197,9 @@ eq-zero x t f = eq-val x zero⁺ (sign x) false (mag x) 0 (mag-val x t f) (zero-
     go true true = refl
     go true false = refl
     go false c = refl
+
+pub nonzero-pos : (x : Float) → Finite x → eq x zero⁺ ≡ false → 0 < mag x
+nonzero-pos x t e = elim (eq-zero-or-pos (mag x)) [ inl z ↦ absurd (eqb-false (mag x) 0 (sym (eq-zero x (t .0) (t .1)) ∙ e) z) | inr p ↦ p ]
 
 -- ---- shifted
 pub val-shift : (k : ℕ) (x : Float) (s : Bool) (u : ℕ) → Val x s u → Val (shift (pos k) x) s (u * 2 ^ k)
@@ -218,7 +222,7 @@ fits-shift k (fin r (suc m) e) s u t v h =
     rw (pow-add 2 (over e + 1074) k, pow-add 2 (over e) 1074, pow-add 2 2098 (under e), ← up-is e, ← down-is e)
     (raised (suc m) u (2 ^ k) (down e) (up e) (2 ^ 1074) (v .1) h (down-pos e)) in
     let g = digits-in m (over e + 1074 + k) (2098 + under e) l in
-    room→fits r m (e +ℤ pos k) (record { odd = q .odd; digits = q .digits; low = omega (arith, plus e (pos k), one-side (e +ℤ pos k), q .low); high = omega (arith, plus e (pos k), g) })
+    room→fits r m (e +ℤ pos k) (room-move e (pos k) q (omega (arith, q .low)) (omega (arith, g)))
 
 -- ---- n / d units, rounded
 pub rounded-fits : (s : Bool) (n d : ℕ) → T (fits binary64 (rounded s n d))

@@ -1,4 +1,5 @@
--- Document 01, "Float leaves", sums, amax, min and max: what is done for each index from 0 up, in rising order. Definitions only.
+-- Document 01, "Float leaves", sums, means, amax, min and max: what is done for each index from 0 up, in rising order; the first index at which a
+-- test holds; and tables of numbers. Definitions only.
 use Prim.Native.Nat.{ℕ, zero, suc, _/_}
 use mathlib.Core.Bool.{Bool, cond}
 use mathlib.Core.List.{List, [], _∷_, _++_}
@@ -6,7 +7,7 @@ use mathlib.Core.Option.{Option, none, some}
 use lib.Dec.{ltb}
 use lib.ListN.{drop, getD}
 use lib.Ieee.{Float, nan}
-use Rattle.leaves.specs.Numbers.{_⊕_, zero⁺, abs, larger, smaller}
+use Rattle.leaves.specs.Numbers.{_⊕_, _⊘_, count, zero⁺, abs, larger, smaller}
 
 -- s after step 0, then step 1, .. step n - 1
 unfoldable pub loop : {S : Type 0} → ℕ → (ℕ → S → S) → S → S
@@ -16,6 +17,10 @@ loop (suc n) step s = step n (loop n step s)
 -- f 0 + f 1 + .. + f (n - 1), from +0.0
 unfoldable pub sumTo : ℕ → (ℕ → Float) → Float
 sumTo n f = loop n (λ k s. s ⊕ f k) zero⁺
+
+-- a mean: the sum, then one division
+abbrev pub meanTo : ℕ → (ℕ → Float) → Float
+meanTo n f = sumTo n f ⊘ count n
 
 -- the largest of |f 0| .. |f (n - 1)|, from 0, NaN passed over
 unfoldable pub amaxTo : ℕ → (ℕ → Float) → Float

@@ -1,4 +1,5 @@
--- A value times a power of two, exactly: what multiplying by 2 ^ k gives wherever the format holds the result. Definitions only.
+-- Document 01, "Float leaves", sqrt: a value times a power of two, exactly, as multiplying by 2 ^ k gives it wherever the format holds the result.
+-- Definitions only.
 use Prim.Native.Nat.{zero, suc}
 use lib.IntN.{ℤ, _+ℤ_}
 use lib.Ieee.{Float, nan, inf, fin}

@@ -9,6 +9,9 @@ ghost use Rattle.leaves.specs.Root as Root;
 use crate::scaling::binary_exponent;
 use crate::scaling::pow2_scaled;
 
+// 2^52, the digit of a normal number that its bits leave out.
+const HIDDEN: u64 = 0x10_0000_0000_0000;
+
 // About sqrt(x), for a normal x above 0: nearly always the nearest float. Nothing is promised.
 // With x = z * 4^k and the root r of a near square, z = r^2 + d, the root of x is 2^k times
 // r + d / (2 r) * (1 - v + 2 v^2 - 5 v^3 ..), where v = d / (2 r)^2 and the numbers are Catalan's.
@@ -20,7 +23,7 @@ fn near_root(x: f64) -> f64 {
         let i = (digits + 0x2000_0000_0000) / 0x4000_0000_0000;
         let z = f64::from_bits(digits + 0x4180_0000_0000_0000);
         let power = bits / 0x20_0000_0000_0000 % 1024 + 0x1f3;
-        let scale = f64::from_bits(power * 0x10_0000_0000_0000);
+        let scale = f64::from_bits(power * HIDDEN);
         let r = f64::from_bits(squares::root(i));
         let y = f64::from_bits(squares::half_reciprocal(i));
         let d = z - f64::from_bits(squares::square(i));
@@ -70,13 +73,13 @@ fn rest_over(n: u64, high: u64, low: u64) -> Rest
     }
 }
 
-// Whether 8 * p is the nearest float to 2 * sqrt(n * 2^56). Between the two middles that part p from
+// True only where 8 * p is the nearest float to 2 * sqrt(n * 2^56). Between the two middles that part p from
 // p - 1 and p + 1 lie the roots of what has something over the square of 4 * p - 2, and less than 32 * p.
 fn is_nearest(n: u64, p: u64) -> bool
     requires { ⌜ (2 ^ 52 ≤ n) × (n < 2 ^ 54) ⌝ }
     ensures { λ r. ⌜ (r ≡ true → (2 ^ 52 ≤ p) × (p < 2 ^ 53) × (ofInt binary64 (pos (8 * p)) ≡ ofInt binary64 (pos (Root.sticky (n * 2 ^ 56))))) ⌝ }
 {
-    if p < 0x10_0000_0000_0000 {
+    if p < HIDDEN {
         return false;
     }
     if p >= 0x20_0000_0000_0000 {
@@ -95,7 +98,7 @@ fn is_nearest(n: u64, p: u64) -> bool
     false
 }
 
-// Whether the guess is the root of x, by their bits: the root's exponent is half that of x, rounded down,
+// True only where the guess is the root of x, by their bits: the root's exponent is half that of x, rounded down,
 // and n is x as a whole number, times 2 where the exponent is odd. Subnormal numbers are left out.
 fn is_root(x: f64, guess: f64) -> bool
     requires { ⌜ (lt zero⁺ x ≡ true) × (lt x (inf false) ≡ true) ⌝ }
@@ -104,11 +107,11 @@ fn is_root(x: f64, guess: f64) -> bool
     if guess > 0.0 {
         let b = f64::to_bits(x);
         let g = f64::to_bits(guess);
-        let e = b / 0x10_0000_0000_0000;
+        let e = b / HIDDEN;
         if 0 < e {
-            if g / 0x10_0000_0000_0000 == (e + 1023) / 2 {
-                let n = (b % 0x10_0000_0000_0000 + 0x10_0000_0000_0000) * (2 - e % 2);
-                if is_nearest(n, g % 0x10_0000_0000_0000 + 0x10_0000_0000_0000) {
+            if g / HIDDEN == (e + 1023) / 2 {
+                let n = (b % HIDDEN + HIDDEN) * (2 - e % 2);
+                if is_nearest(n, g % HIDDEN + HIDDEN) {
                     return true;
                 }
             }

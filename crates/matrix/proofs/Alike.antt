@@ -7,11 +7,11 @@ use mathlib.Core.Option.{Option, none, some}
 use Prim.Native.Nat.{ℕ, _+_, _*_, _/_, _%_, _<_}
 use lib.Ieee.{Float, eq}
 use borrow.Author.Tests.{not-false}
-use Rattle.leaves.specs.Numbers.{_⊕_, _⊗_, _⊘_, zero⁺, half, isFinite}
+use Rattle.leaves.specs.Numbers.{_⊘_, zero⁺, isFinite}
 use Rattle.leaves.specs.Loops.{firstTo}
-use Rattle.leaves.proofs.Loops.{cell, cell-row, cell-col, sum-ext, amax-ext, first-ext, first-all}
-use Rattle.matrix.specs.Matrix.{Matrix, at, rows, identity, product, transpose, trace, amax, firstEntry, allFinite}
-use Rattle.matrix.specs.Jacobi.{Decomposition, start, swept, scaledBack, unturned, decompose}
+use Rattle.leaves.proofs.Loops.{cell, at-cell, sum-ext, amax-ext, first-ext, first-all}
+use Rattle.matrix.specs.Matrix.{Matrix, at, rows, identity, product, transpose, symmetrized, divided, trace, amax, firstEntry, allFinite}
+use Rattle.matrix.specs.Jacobi.{Decomposition, start, swept, scaledBack, unturned, decomposedBy, decompose}
 use Rattle.matrix.proofs.Stored.{cell-ext, rows-ext, product-ext}
 
 pub first-entry-alike : (m n : ℕ) (f g : ℕ → ℕ → Bool) → ((i j : ℕ) → i < m → j < n → f i j ≡ g i j) → firstEntry m n f ≡ firstEntry m n g
@@ -24,7 +24,7 @@ unfolding allFinite
 finite-same m n f g h = ap (λ (o : Option (ℕ × ℕ)). elim o as (λ z. Bool) [ none ↦ true | some k ↦ false ]) (first-entry-alike m n (λ i j. not (isFinite (f i j))) (λ i j. not (isFinite (g i j))) (λ i j a b. ap not (h i j a b)))
 
 module _ (m n : ℕ) (f g : Matrix) (h : (i j : ℕ) → i < m → j < n → f i j ≡ g i j) where
-  amax-alike : amax m n f ≡ amax m n g
+  pub amax-alike : amax m n f ≡ amax m n g
   unfolding amax
   amax-alike = amax-ext (m * n) (λ k. f (k / n) (k % n)) (λ k. g (k / n) (k % n)) (cell-ext m n f g h)
 
@@ -36,7 +36,7 @@ pub finite-all : (m n : ℕ) (a : Matrix) → allFinite m n a ≡ true → (i j 
 unfolding allFinite firstEntry
 finite-all m n a h i j hi hj =
     not-false (isFinite (a i j))
-    (sym (λ t. bad (cell-row i n j hj t) (cell-col i n j hj t)) ∙ first-all (λ k. bad (k / n) (k % n)) (m * n) (none-there (firstTo (m * n) (λ k. bad (k / n) (k % n))) h) (i * n + j) (cell i m j n hi hj))
+    (sym (at-cell bad i n j hj) ∙ first-all (λ k. bad (k / n) (k % n)) (m * n) (none-there (firstTo (m * n) (λ k. bad (k / n) (k % n))) h) (i * n + j) (cell i m j n hi hj))
   where
     bad : ℕ → ℕ → Bool
     bad i j = not (isFinite (a i j))
@@ -53,16 +53,12 @@ module _ (n : ℕ) (f g : Matrix) (h : (i j : ℕ) → i < n → j < n → f i j
   start-alike : (scale : Float) → start n scale f ≡ start n scale g
   unfolding start
   start-alike scale =
-      ap (λ (b : List Float). rows n n (λ i j. (at b n i j ⊕ at b n j i) ⊗ half))
+      ap (λ (b : List Float). rows n n (symmetrized (at b n)))
       (rows-ext n n (product n (left f) identity) (product n (left g) identity) (λ i j hi hj. product-ext n (left f) (left g) identity identity i j
-      (λ k l. product-ext n (transpose identity) (transpose identity) (λ i j. f i j ⊘ scale) (λ i j. g i j ⊘ scale) i k (λ k l. refl) (λ o u. ap (λ (x : Float). x ⊘ scale) (h o k u l))) (λ k l. refl)))
+      (λ k l. product-ext n (transpose identity) (transpose identity) (divided f scale) (divided g scale) i k (λ k l. refl) (λ o u. ap (λ (x : Float). x ⊘ scale) (h o k u l))) (λ k l. refl)))
     where
       left : Matrix → Matrix
-      left f = product n (transpose identity) (λ i j. f i j ⊘ scale)
-
--- a decomposition, by whether the matrix is finite, whether its largest size is zero, that size, and what the sweeps begin with
-abbrev pub decomposedBy : ℕ → ℕ → Bool → Bool → Float → List Float → Decomposition
-decomposedBy limit n finite empty scale b = elim finite [ false ↦ unturned n false | true ↦ elim empty [ true ↦ unturned n true | false ↦ scaledBack n scale (swept limit n b) ] ]
+      left f = product n (transpose identity) (divided f scale)
 
 pub decompose-is : (limit n : ℕ) (a : Matrix) → decompose limit n a ≡ decomposedBy limit n (allFinite n n a) (eq (amax n n a) zero⁺) (amax n n a) (start n (amax n n a) a)
 unfolding decompose

@@ -2,7 +2,7 @@
 use mathlib.Core.Path.{_≡_, refl, sym, ap, _∙_, subst}
 use mathlib.Core.Logic.{_⊎_, inl, inr}
 use mathlib.Core.Bool.{Bool, true, false}
-use Prim.Native.Nat.{ℕ, _+_, _*_, _≤_, _<_}
+use Prim.Native.Nat.{ℕ, _+_, _-_, _*_, _^_, _≤_, _<_}
 use native.Mathlib.Nat.{le-trans, le-of-lt, lt-of-le-of-lt, mul-le-mul-left, mul-le-mul-right, le-of-mul-le-mul-right, lt-of-mul-lt-mul-right, mul-lt-mul-of-pos-right, mul-pos, mul-zero, mul-comm, mul-mul-mul-comm, le-of-eq}
 use native.Mathlib.Omega.{arith}
 use lib.Dec.{T, lit≤, lit<}
@@ -13,12 +13,12 @@ use borrow.Author.Tests.{lt-ltb}
 use Rattle.leaves.specs.Numbers.{_⊕_, _⊗_, _⊘_, zero⁺, one}
 use Rattle.leaves.specs.Root.{sqrt}
 use Rattle.leaves.proofs.Rounding.{near, near-error}
-use Rattle.leaves.proofs.Units.{U, U-pos, Top, Val, rounded, sign, mag, val-mag, zero-val, val-finite, finite-fin, mag-val, lt-val, rounded-val, rounded-cases}
+use Rattle.leaves.proofs.Units.{U, U-pos, Top, Val, one-val, rounded, sign, mag, val-mag, zero-val, val-finite, finite-fin, mag-val, lt-val, rounded-val, rounded-cases}
 use Rattle.leaves.proofs.Arithmetic.{add-rounded, mul-rounded, div-rounded}
 use Rattle.leaves.proofs.Signs.{same-signs}
 use Rattle.leaves.proofs.SqrtNearest.{Nearest, nearest-of}
 use Rattle.matrix.specs.Rotation.{cosine}
-use Rattle.matrix.proofs.Squares.{Close, square-mono, square-back, half-u, t-c, circle}
+use Rattle.matrix.proofs.Squares.{Close, InCircle, square-mono, square-back, half-u, t-c, circle}
 
 -- ---- units
 pub near-close : (n d : ℕ) → 0 < d → Close (near n d) n d
@@ -46,9 +46,6 @@ Top-small = lit≤ tt
 ratio : (x y a p j k : ℕ) → x * p ≤ y * a → a * j ≤ p * k → 0 < p → x * j ≤ y * k
 ratio x y a p j k h g P = le-of-mul-le-mul-right {m = x * j} {n = y * k} {k = p} (let f = mul-le-mul-right j h in let e = mul-le-mul-left y g in omega arith) P
 
-pub one-val : Val one false U
-one-val = (refl, omega arith)
-
 -- ---- the cosine and the sine, finite
 pub record Circle (c s : Float) : Type 0 where
   pub C : ℕ
@@ -56,7 +53,7 @@ pub record Circle (c s : Float) : Type 0 where
   pub σ : Bool
   pub S : ℕ
   pub vs : Val s σ S
-  pub unit : (C * C + S * S) * 1024 ≤ U * U * 1025
+  pub unit : InCircle U C S
 
 module _ (t : Float) (σ : Bool) (n : ℕ) (v : Val t σ n) where
   -- where t² + 1 overflows, both are zero
@@ -73,7 +70,7 @@ module _ (t : Float) (σ : Bool) (n : ℕ) (v : Val t σ n) where
       at-inf : one ⊘ sqrt (inf false) ≡ zero⁺
       at-inf = unfold sqrt div in refl
 
-      few : (s : ℕ) → s ≤ 1 → (0 * 0 + s * s) * 1024 ≤ U * U * 1025
+      few : (s : ℕ) → s ≤ 1 → InCircle U 0 s
       few s h = let a = square-mono h in let b = square-mono U-big in omega arith
 
   -- where it does not: w is t² + 1, of W units
@@ -98,15 +95,15 @@ module _ (t : Float) (σ : Bool) (n : ℕ) (v : Val t σ n) where
     unfolding R
     cu =
         let r = mag (sqrt w) in
-        let a = le-trans (rw mag-w at (root .at-least)) (le-of-eq (mul-mul-mul-comm r 9007199254740993 r 9007199254740993)) in
-        ratio (U * W) (r * r) (9007199254740993 * 9007199254740993) 81129638414606681695789005144064 65536 65537 (le-trans (le-of-eq (ap (λ (z : ℕ). z * 81129638414606681695789005144064) (mul-comm U W))) a) (lit≤ tt) (lit< tt)
+        let a = le-trans (rw mag-w at (root .at-least)) (le-of-eq (mul-mul-mul-comm r (2 ^ 53 + 1) r (2 ^ 53 + 1))) in
+        ratio (U * W) (r * r) ((2 ^ 53 + 1) * (2 ^ 53 + 1)) (2 ^ 106) 65536 65537 (le-trans (le-of-eq (ap (λ (z : ℕ). z * 2 ^ 106) (mul-comm U W))) a) (lit≤ tt) (lit< tt)
 
     small : R * 1048576 ≤ U * U
     unfolding R
     small =
         let r = mag (sqrt w) in
         let b : r * r * 1 ≤ W * U * 2 =
-        ratio (r * r) (W * U) 81129638414606681695789005144064 (9007199254740991 * 9007199254740991) 1 2 (le-trans (le-of-eq (mul-mul-mul-comm r r 9007199254740991 9007199254740991)) (rw mag-w at (root .at-most))) (lit≤ tt) (lit< tt) in
+        ratio (r * r) (W * U) (2 ^ 106) ((2 ^ 53 - 1) * (2 ^ 53 - 1)) 1 2 (le-trans (le-of-eq (mul-mul-mul-comm r r (2 ^ 53 - 1) (2 ^ 53 - 1))) (rw mag-w at (root .at-most))) (lit≤ tt) (lit< tt) in
         square-back (r * 1048576) (U * U) (let c = mul-le-mul-right U (le-of-lt under) in omega (arith, Top-small))
 
     half : U ≤ 2 * R

@@ -8,7 +8,7 @@ use lib.Ieee.{Float}
 use Rattle.leaves.specs.Loops.{loop}
 use Rattle.matrix.specs.Limits.{maxSide}
 use Rattle.matrix.specs.Rotation.{State, rotated, rotateBy, rotate}
-use Rattle.matrix.specs.Jacobi.{sweep, afterSweeps}
+use Rattle.matrix.specs.Jacobi.{sweepRow, sweep, afterSweeps}
 use Rattle.matrix.specs.Inner.{state}
 use Rattle.matrix.proofs.Rotated.{rotate-cases}
 
@@ -47,10 +47,10 @@ module _ (n : ℕ) (P : ℕ → State → Type 0) (step : (r p q : ℕ) (st : St
   row-keeps p zero r st h i = rw add-zero i
   row-keeps p (suc m) r st h i = rw add-suc (step (r + m) p (suc p + m) (loop m (λ k. rotate n p (suc p + k)) st) (omega arith) (omega arith) (row-keeps p m r st (omega arith) i))
 
-  pub rows-keep : (m r : ℕ) (st : State) → P r st → P (r + places n m) (loop m (λ p. loop (n - suc p) (λ k. rotate n p (suc p + k))) st)
+  pub rows-keep : (m r : ℕ) (st : State) → P r st → P (r + places n m) (loop m (sweepRow n) st)
   unfolding loop places
   rows-keep zero r st i = rw add-zero i
-  rows-keep (suc m) r st i = rw (← add-assoc r (places n m) (n - suc m)) (row-keeps m (n - suc m) (r + places n m) (loop m (λ p. loop (n - suc p) (λ k. rotate n p (suc p + k))) st) (le-refl (n - suc m)) (rows-keep m r st i))
+  rows-keep (suc m) r st i = rw (← add-assoc r (places n m) (n - suc m)) (row-keeps m (n - suc m) (r + places n m) (loop m (sweepRow n) st) (le-refl (n - suc m)) (rows-keep m r st i))
 
   sweep-keeps : (r : ℕ) (st : State) → P r st → P (r + pairs n) (sweep n st)
   unfolding sweep
@@ -78,7 +78,7 @@ module _ (n : ℕ) (a₀ v₀ : List Float) {a v : List Float} {r : ℕ} where
   pub row-count : (p j : ℕ) → state a v (0 + r) ≡ loop j (λ j. rotate n p (suc p + j)) (state a₀ v₀ 0) → j ≤ n - suc p → r ≤ 0 + j
   row-count p j e h = by-end e (row-keeps n AtMost (rotate-count n) p j 0 (state a₀ v₀ 0) h (le-refl 0))
 
-  pub rows-count : (p : ℕ) → state a v (0 + r) ≡ loop p (λ p. loop (n - suc p) (λ k. rotate n p (suc p + k))) (state a₀ v₀ 0) → r ≤ 0 + places n p
+  pub rows-count : (p : ℕ) → state a v (0 + r) ≡ loop p (sweepRow n) (state a₀ v₀ 0) → r ≤ 0 + places n p
   rows-count p e = by-end e (rows-keep n AtMost (rotate-count n) p 0 (state a₀ v₀ 0) (le-refl 0))
 
   pub sweep-count : state a v (0 + r) ≡ sweep n (state a₀ v₀ 0) → r ≤ 0 + pairs n
@@ -93,5 +93,8 @@ unfolding places
 places-most n zero = zero-le
 places-most n (suc m) = omega (arith, places-most n m, suc-mul m n)
 
+pub square-most : {n : ℕ} → n ≤ maxSide → n * n ≤ maxSide * maxSide
+square-most h = mul-le-mul h h
+
 pub pairs-most : (n : ℕ) → n ≤ maxSide → pairs n ≤ maxSide * maxSide
-pairs-most n h = rw (← places-all n) (le-trans (places-most n n) (mul-le-mul h h))
+pairs-most n h = rw (← places-all n) (le-trans (places-most n n) (square-most h))

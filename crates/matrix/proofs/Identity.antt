@@ -1,10 +1,10 @@
 -- A matrix of finite numbers times the identity: each entry is added to +0, which turns -0 into +0 and changes no other number. So what the sweeps begin with
--- needs no product. Assumes nothing.
+-- needs no product (`start-is`). Over its largest size a finite matrix, not zero, is finite (`quotients-finite`). Assumes nothing.
 use mathlib.Core.Path.{_≡_, refl, sym, ap, _∙_, subst}
 use mathlib.Core.Logic.{_⊎_, inl, inr, _≢_}
 use mathlib.Core.List.{List}
 use mathlib.Core.Bool.{Bool, true, false, cond, true≢false}
-use Prim.Native.Nat.{ℕ, zero, suc, _+_, _*_, _/_, _%_, _≤_, _<_}
+use Prim.Native.Nat.{ℕ, zero, suc, _*_, _≤_, _<_}
 use native.Mathlib.Nat.{mul-comm, zero-mul, eq-zero-or-pos, eq-or-lt-of-le, le-of-suc-le-suc, le-refl, le-of-eq, le-trans, lt-of-le-of-lt, mul-le-mul-right}
 use native.Mathlib.Omega.{arith}
 use lib.Dec.{T, ltb, eqb}
@@ -14,23 +14,18 @@ use lib.Ieee.Fits.{add-fits, mul-fits, div-fits}
 use borrow.Author.Tests.{lt-ltb, le-ltb, eqb-true, eqb-false}
 use Rattle.leaves.proofs.Whole.{le-or-lt}
 use Rattle.leaves.specs.Numbers.{_⊕_, _⊗_, _⊘_, zero⁺, half, one, isFinite}
-use Rattle.leaves.specs.Loops.{loop, sumTo, amaxTo}
+use Rattle.leaves.specs.Loops.{loop, sumTo}
 use Rattle.leaves.proofs.Commutative.{product-comm}
+use Rattle.leaves.proofs.Scale.{times-one}
 use Rattle.leaves.proofs.Rounding.{near, Held, held-pow, near-held, near-most}
-use Rattle.leaves.proofs.Units.{U, U-pos, U-is, Top, Val, sign, mag, rounded, zero-val, zero-mag, val-finite, val-unique, eq-zero, mag-val, mag-held, rounded-val}
+use Rattle.leaves.proofs.Units.{Finite, nonzero-pos, U, U-pos, U-is, Top, Val, sign, mag, rounded, zero-val, zero-mag, val-finite, val-unique, mag-val, mag-held, rounded-val}
 use Rattle.leaves.proofs.Arithmetic.{sumSign, total, add-rounded, mul-rounded, div-rounded}
-use Rattle.leaves.proofs.Range.{range-abs, range-fits}
-use Rattle.leaves.proofs.Totals.{amax-one, amax-most}
-use Rattle.leaves.proofs.Loops.{cell, cell-row, cell-col, row-below, col-below, sum-ext}
-use Rattle.matrix.specs.Matrix.{Matrix, at, rows, identity, product, transpose, amax, allFinite}
+use Rattle.leaves.proofs.Loops.{sum-ext}
+use Rattle.matrix.specs.Matrix.{Matrix, at, rows, identity, product, transpose, symmetrized, divided, amax, allFinite}
 use Rattle.matrix.specs.Jacobi.{start}
 use Rattle.matrix.proofs.Alike.{finite-all}
-use Rattle.matrix.proofs.Stored.{rows-ext, rows-at}
-use Rattle.matrix.proofs.Angle.{one-val, Top-big}
-
--- a finite value of the format
-abbrev pub Finite : Float → Type 0
-Finite x = T (fits binary64 x) × T (isFinite x)
+use Rattle.matrix.proofs.Stored.{rows-ext, rows-at, amax-finite, amax-entry}
+use Rattle.matrix.proofs.Angle.{Top-big}
 
 -- a result that is x's units, rounded, is x
 by-units : (r x : Float) (s : Bool) (n d : ℕ) → T (fits binary64 r) → Finite x → 0 < d → r ≡ rounded s n d → s ≡ sign x → n ≡ mag x * d → r ≡ x
@@ -45,12 +40,7 @@ zero-finite : (s : Bool) → Finite (fin s 0 (pos 0))
 zero-finite s = unfold fits isFinite in (tt, tt)
 
 one-times : (x : Float) → Finite x → one ⊗ x ≡ x
-one-times x t =
-    by-units (one ⊗ x) x (unlike false (sign x)) (U * mag x) U (mul-fits binary64 one x) t U-pos (mul-rounded one x false (sign x) U (mag x) one-val (mag-val x (t .0) (t .1))) (plain (sign x)) (mul-comm U (mag x))
-  where
-    plain : (s : Bool) → unlike false s ≡ s
-    plain true = refl
-    plain false = refl
+one-times x t = product-comm one x ∙ times-one x (t .0)
 
 zero-times : (x : Float) → Finite x → (s : Bool) × (zero⁺ ⊗ x ≡ fin s 0 (pos 0))
 zero-times x t =
@@ -148,15 +138,14 @@ abbrev pub scaledEntry : Float → Matrix → Matrix
 scaledEntry scale a i j = zero⁺ ⊕ a i j ⊘ scale
 
 pub start-is : (n : ℕ) (scale : Float) (a : Matrix) → ((i j : ℕ) → i < n → j < n → Finite (a i j ⊘ scale))
-    → start n scale a ≡ rows n n (λ i j. (scaledEntry scale a i j ⊕ scaledEntry scale a j i) ⊗ half)
+    → start n scale a ≡ rows n n (symmetrized (scaledEntry scale a))
 unfolding start
 start-is n scale a t =
-    ap (λ (b : List Float). rows n n (λ i j. (at b n i j ⊕ at b n j i) ⊗ half)) (rows-ext n n (product n left identity) (scaledEntry scale a) second)
-    ∙ rows-ext n n (λ i j. (at (rows n n (scaledEntry scale a)) n i j ⊕ at (rows n n (scaledEntry scale a)) n j i) ⊗ half) (λ i j. (scaledEntry scale a i j ⊕ scaledEntry scale a j i) ⊗ half)
-    (λ i j hi hj k. (rows-at (scaledEntry scale a) n n i j hi hj k ⊕ rows-at (scaledEntry scale a) n n j i hj hi k) ⊗ half)
+    ap (λ (b : List Float). rows n n (symmetrized (at b n))) (rows-ext n n (product n left identity) (scaledEntry scale a) second)
+    ∙ rows-ext n n (symmetrized (at (rows n n (scaledEntry scale a)) n)) (symmetrized (scaledEntry scale a)) (λ i j hi hj k. (rows-at (scaledEntry scale a) n n i j hi hj k ⊕ rows-at (scaledEntry scale a) n n j i hj hi k) ⊗ half)
   where
     left : Matrix
-    left = product n (transpose identity) (λ i j. a i j ⊘ scale)
+    left = product n (transpose identity) (divided a scale)
 
     first : (i j : ℕ) → i < n → j < n → left i j ≡ scaledEntry scale a i j
     first i j hi hj = times-identity n i (λ k. a k j ⊘ scale) (λ k h. t k j h hj) hi
@@ -170,35 +159,23 @@ start-is n scale a t =
 -- over its largest size a finite matrix, not zero, is finite
 pub quotients-finite : (n : ℕ) (a : Matrix) → ((i j : ℕ) → i < n → j < n → T (fits binary64 (a i j))) → allFinite n n a ≡ true → eq (amax n n a) zero⁺ ≡ false
     → (i j : ℕ) → i < n → j < n → Finite (a i j ⊘ amax n n a)
-unfolding amax
 quotients-finite n a fit all nonzero i j hi hj =
     let x = entry i j hi hj in
     let v = mag-val (a i j) (x .0) (x .1) in
+    let large = amax-finite n n a entry in
     let w = mag-val largest (large .0) (large .1) in
-    let D = positive in (
+    let D = nonzero-pos largest large nonzero in (
       div-fits binary64 (a i j) largest,
       rw (div-rounded (a i j) largest (sign (a i j)) (sign largest) (mag (a i j)) (mag largest) v w D)
           (val-finite _ _ _ (rounded-val (unlike (sign (a i j)) (sign largest)) (mag (a i j) * U) (mag largest) D
-          (lt-of-le-of-lt (near-most (mag (a i j) * U) (mag largest) U D held-U (le-trans (mul-le-mul-right U below) (le-of-eq (mul-comm (mag largest) U)))) U-below))),
+          (lt-of-le-of-lt (near-most (mag (a i j) * U) (mag largest) U D held-U (le-trans (mul-le-mul-right U (amax-entry n n a entry i j hi hj)) (le-of-eq (mul-comm (mag largest) U)))) U-below))),
     )
   where
     entry : (i j : ℕ) → i < n → j < n → Finite (a i j)
     entry i j hi hj = (fit i j hi hj, subst T (sym (finite-all n n a all i j hi hj)) tt)
 
-    cells : (k : ℕ) → k < n * n → Finite (a (k / n) (k % n))
-    cells k h = entry (k / n) (k % n) (row-below k n h) (col-below k n h)
-
     largest : Float
-    largest = amaxTo (n * n) (λ k. a (k / n) (k % n))
-
-    large : Finite largest
-    large = amax-one Finite (n * n) (λ k. a (k / n) (k % n)) (zero-finite false) (λ k h. let c = cells k h in let r = range-abs (range-fits (a (k / n) (k % n)) (c .0) (c .1)) in (r .fit, r .finite))
-
-    below : mag (a i j) ≤ mag largest
-    below = subst (λ (x : Float). mag x ≤ mag largest) (λ t. a (cell-row i n j hj t) (cell-col i n j hj t)) (amax-most (λ k. a (k / n) (k % n)) (n * n) cells (i * n + j) (cell i n j n hi hj))
-
-    positive : 0 < mag largest
-    positive = elim (eq-zero-or-pos (mag largest)) [ inl z ↦ absurd (eqb-false (mag largest) 0 (sym (eq-zero largest (large .0) (large .1)) ∙ nonzero) z) | inr p ↦ p ]
+    largest = amax n n a
 
     held-U : Held U
     held-U = rw U-is (held-pow 1074)

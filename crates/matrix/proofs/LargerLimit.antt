@@ -5,33 +5,32 @@ use mathlib.Core.List.{List}
 use mathlib.Core.Option.{Option, none, some}
 use Prim.Native.Nat.{ℕ, _≤_}
 use lib.Ieee.{Float, eq}
-use Rattle.leaves.specs.Numbers.{_⊗_, zero⁺, ε}
+use Rattle.leaves.specs.Numbers.{zero⁺}
 use Rattle.leaves.specs.Loops.{firstTo}
-use Rattle.leaves.specs.Root.{sqrt}
-use Rattle.matrix.specs.Matrix.{Matrix, at, amax, squares, allFinite}
+use Rattle.matrix.specs.Matrix.{Matrix, amax, allFinite}
 use Rattle.matrix.specs.Rotation.{State}
-use Rattle.matrix.specs.Jacobi.{Swept, sweeping, start, swept, scaledBack, decompose}
-use Rattle.matrix.proofs.First.{first-later}
-use Rattle.matrix.proofs.Alike.{decomposedBy, decompose-is}
-use Rattle.matrix.proofs.Sweeps.{stopping, sweptBy, sweeping-is, initial}
+use Rattle.matrix.specs.Jacobi.{Swept, stopping, sweptBy, sweeping, start, tolerance, initial, swept, scaledBack, decomposedBy, decompose}
+use Rattle.leaves.proofs.First.{first-later}
+use Rattle.matrix.proofs.Alike.{decompose-is}
+use Rattle.matrix.proofs.Sweeps.{sweeping-is}
 
-module _ (n : ℕ) (tolerance : Float) (st : State) where
+module _ (n : ℕ) (most : Float) (st : State) where
   abbrev stop : ℕ → Bool
-  stop = stopping n tolerance st
+  stop = stopping n most st
 
   abbrev by : ℕ → Option ℕ → Swept
-  by = sweptBy n tolerance st
+  by = sweptBy n most st
 
-  is : (limit : ℕ) → sweeping limit n tolerance st ≡ by limit (firstTo limit stop)
-  is = sweeping-is n tolerance st
+  is : (limit : ℕ) → sweeping limit n most st ≡ by limit (firstTo limit stop)
+  is = sweeping-is n most st
 
-  sweeping-later : (limit limit′ : ℕ) → limit ≤ limit′ → sweeping limit n tolerance st .done ≡ true → sweeping limit′ n tolerance st ≡ sweeping limit n tolerance st
+  sweeping-later : (limit limit′ : ℕ) → limit ≤ limit′ → sweeping limit n most st .done ≡ true → sweeping limit′ n most st ≡ sweeping limit n most st
   sweeping-later limit limit′ l d = go (firstTo limit stop) refl (ap done-of (sym (is limit)) ∙ d)
     where
       done-of : Swept → Bool
       done-of w = w .done
 
-      go : (o : Option ℕ) → firstTo limit stop ≡ o → by limit o .done ≡ true → sweeping limit′ n tolerance st ≡ sweeping limit n tolerance st
+      go : (o : Option ℕ) → firstTo limit stop ≡ o → by limit o .done ≡ true → sweeping limit′ n most st ≡ sweeping limit n most st
       go none e d = absurd (true≢false (sym d))
       go (some k) e d = is limit′ ∙ ap (by limit′) (first-later stop limit limit′ k l e) ∙ sym (is limit ∙ ap (by limit) e)
 
@@ -41,4 +40,4 @@ larger-limit n a limit limit′ l = rw (decompose-is limit n a, decompose-is lim
     go : (x y : Bool) (scale : Float) (b : List Float) → decomposedBy limit n x y scale b .found ≡ true → decomposedBy limit′ n x y scale b ≡ decomposedBy limit n x y scale b
     go false y scale b d = refl
     go true true scale b d = refl
-    go true false scale b d = unfold scaledBack swept in ap (scaledBack n scale) (sweeping-later n (ε ⊗ sqrt (squares n (at b n))) (initial n b) limit limit′ l d)
+    go true false scale b d = unfold scaledBack swept in ap (scaledBack n scale) (sweeping-later n (tolerance n b) (initial n b) limit limit′ l d)

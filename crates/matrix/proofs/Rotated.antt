@@ -8,7 +8,7 @@ use lib.Ieee.{Float, eq}
 use Rattle.leaves.specs.Numbers.{_⊕_, _⊗_, _⊘_, zero⁺, one}
 use Rattle.leaves.specs.Root.{sqrt}
 use Rattle.matrix.specs.Matrix.{at}
-use Rattle.matrix.specs.Rotation.{State, turnColumns, tangent, cotangent, rotate, rotateBy, rotated, turnedBoth}
+use Rattle.matrix.specs.Rotation.{State, turnColumns, tangent, cotangent, tangentAt, rotate, rotateBy, rotated, turnedBoth}
 use Rattle.matrix.specs.Inner.{state}
 
 pub rotate-cases : (P : State → Type 0) (n p q : ℕ) (st : State) → P st → ((τ : Float) → P (rotateBy n p q (tangent τ) st)) → P (rotate n p q st)
@@ -28,11 +28,8 @@ module _ (n p q : ℕ) (a v : List Float) (y : Float) (ey : y ≡ at a n p q) (k
   unfolding rotate
   still h = rw (rotate, (λ i. eq (sym ey i) zero⁺) ∙ h)
 
-  unfoldable angle : Float
-  angle = tangent (cotangent (at a n p p) (at a n p q) (at a n q q))
-
-  goes : eq y zero⁺ ≡ false → rotateBy n p q angle (state a v k) ≡ rotate n p q (state a v k)
-  unfolding rotate rotateBy angle
+  goes : eq y zero⁺ ≡ false → rotateBy n p q (tangentAt n p q a) (state a v k) ≡ rotate n p q (state a v k)
+  unfolding rotate
   goes h = rw (rotate, (λ i. eq (sym ey i) zero⁺) ∙ h)
 
   by : (t r : Float) {a′ v′ : List Float} → r ≡ sqrt (t ⊗ t ⊕ one) → a′ ≡ turnedBoth n p q (one ⊘ r) (t ⊗ (one ⊘ r)) a → v′ ≡ turnColumns n p q (one ⊘ r) (t ⊗ (one ⊘ r)) v
@@ -40,7 +37,6 @@ module _ (n p q : ℕ) (a v : List Float) (y : Float) (ey : y ≡ at a n p q) (k
   unfolding rotateBy rotated
   by t r er ea ev = λ i. state ((ea ∙ (λ j. turnedBoth n p q (one ⊘ er j) (t ⊗ (one ⊘ er j)) a)) i) ((ev ∙ (λ j. turnColumns n p q (one ⊘ er j) (t ⊗ (one ⊘ er j)) v)) i) (suc k)
 
-  pub made : eq y zero⁺ ≡ false → {t r : Float} {a′ v′ : List Float} → t ≡ tangent (cotangent (at a n p p) (at a n p q) (at a n q q)) → r ≡ sqrt (t ⊗ t ⊕ one)
+  pub made : eq y zero⁺ ≡ false → {t r : Float} {a′ v′ : List Float} → t ≡ tangentAt n p q a → r ≡ sqrt (t ⊗ t ⊕ one)
       → a′ ≡ turnedBoth n p q (one ⊘ r) (t ⊗ (one ⊘ r)) a → v′ ≡ turnColumns n p q (one ⊘ r) (t ⊗ (one ⊘ r)) v → state a′ v′ (suc k) ≡ rotate n p q (state a v k)
-  unfolding angle
   made h {t} {r} et er ea ev = by t r er ea ev ∙ ap (λ (t : Float). rotateBy n p q t (state a v k)) et ∙ goes h

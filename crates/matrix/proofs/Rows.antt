@@ -13,7 +13,7 @@ use borrow.Author.Tests.{eqb-false, eq-eqb, ne-eqb}
 use Rattle.leaves.specs.Numbers.{_⊕_, _⊖_, _⊗_}
 use Rattle.leaves.proofs.Units.{U, mag}
 use Rattle.matrix.specs.Limits.{maxSide, maxSweeps}
-use Rattle.matrix.proofs.Squares.{square-back}
+use Rattle.matrix.proofs.Squares.{slack, square-back}
 use Rattle.matrix.proofs.Angle.{Angle}
 use Rattle.matrix.proofs.Turn.{Limit, Tame, Next, next}
 
@@ -64,7 +64,7 @@ sum-alone f n k l h = let a = sum-without f n k l in let b = sum-same (without f
         go false d = h j (d refl)
 
 -- two numbers changed
-module _ (f g : ℕ → ℕ) (n p q : ℕ) (pq : p < q) (qn : q < n) (h : (j : ℕ) → j ≢ p → j ≢ q → f j ≡ g j) where
+module _ (n p q : ℕ) (pq : p < q) (qn : q < n) where
   apart : (f : ℕ → ℕ) → sum f n ≡ sum (without (without f p) q) n + f q + f p
   apart f =
       let a = sum-without f n p (lt-trans pq qn) in
@@ -72,19 +72,19 @@ module _ (f g : ℕ → ℕ) (n p q : ℕ) (pq : p < q) (qn : q < n) (h : (j : �
       let c = other f p q (λ (d : q ≡ p). ne-of-lt pq (sym d)) in
       omega arith
 
-  alike : (j : ℕ) → without (without f p) q j ≡ without (without g p) q j
-  alike j = go (eqb j q) (eqb j p) (eqb-false j q) (eqb-false j p)
+  both-in : (f : ℕ → ℕ) → f p + f q ≤ sum f n
+  both-in f = let a = apart f in omega arith
+
+  exchanged : (f g : ℕ → ℕ) → ((j : ℕ) → j ≢ p → j ≢ q → f j ≡ g j) → sum g n + (f p + f q) ≡ sum f n + (g p + g q)
+  exchanged f g h = let a = apart f in let b = apart g in let c = sum-same (without (without f p) q) (without (without g p) q) n (λ j l. alike j) in omega arith
     where
-      go : (x y : Bool) → (x ≡ false → j ≢ q) → (y ≡ false → j ≢ p) → cond x 0 (cond y 0 (f j)) ≡ cond x 0 (cond y 0 (g j))
-      go true y a b = refl
-      go false true a b = refl
-      go false false a b = h j (b refl) (a refl)
-
-  exchanged : sum g n + (f p + f q) ≡ sum f n + (g p + g q)
-  exchanged = let a = apart f in let b = apart g in let c = sum-same (without (without f p) q) (without (without g p) q) n (λ j l. alike j) in omega arith
-
-  both-in : f p + f q ≤ sum f n
-  both-in = let a = apart f in omega arith
+      alike : (j : ℕ) → without (without f p) q j ≡ without (without g p) q j
+      alike j = go (eqb j q) (eqb j p) (eqb-false j q) (eqb-false j p)
+        where
+          go : (x y : Bool) → (x ≡ false → j ≢ q) → (y ≡ false → j ≢ p) → cond x 0 (cond y 0 (f j)) ≡ cond x 0 (cond y 0 (g j))
+          go true y a b = refl
+          go false true a b = refl
+          go false false a b = h j (b refl) (a refl)
 
 -- ---- a row after r turns
 abbrev squares : (ℕ → Float) → ℕ → ℕ
@@ -92,12 +92,12 @@ squares row j = mag (row j) * mag (row j)
 
 pub record Good (n : ℕ) (row : ℕ → Float) (r : ℕ) : Type 0 where
   pub tame : (j : ℕ) → j < n → Tame (row j)
-  pub most : (sum (squares row) n + 33554432) * 256 ^ r ≤ U * U * 2 * 257 ^ r
+  pub most : (sum (squares row) n + slack) * 256 ^ r ≤ U * U * 2 * 257 ^ r
 
 pub good-same : (n r : ℕ) (row row′ : ℕ → Float) → ((j : ℕ) → j < n → row j ≡ row′ j) → Good n row r → Good n row′ r
 good-same n r row row′ h g = record {
   tame = λ j l. subst Tame (h j l) (g .tame j l);
-  most = subst (λ (k : ℕ). (k + 33554432) * 256 ^ r ≤ U * U * 2 * 257 ^ r) (sum-same (squares row) (squares row′) n (λ j l. ap (λ (x : Float). mag x * mag x) (h j l))) (g .most);
+  most = subst (λ (k : ℕ). (k + slack) * 256 ^ r ≤ U * U * 2 * 257 ^ r) (sum-same (squares row) (squares row′) n (λ j l. ap (λ (x : Float). mag x * mag x) (h j l))) (g .most);
 }
 
 -- at most as many turns as the limits allow: a block of 177 at most doubles the squares
@@ -133,14 +133,14 @@ good-small n r row h g j l =
     fits-in : U * Most ≤ Limit
     fits-in = unfold U Most Limit in lit≤ tt
 
-    cancel : (x t d b u w : ℕ) → x * x ≤ t → (t + 33554432) * d ≤ u * u * 2 * b → 2 * b ≤ w * w * d → 0 < d → x * x ≤ u * w * (u * w)
+    cancel : (x t d b u w : ℕ) → x * x ≤ t → (t + slack) * d ≤ u * u * 2 * b → 2 * b ≤ w * w * d → 0 < d → x * x ≤ u * w * (u * w)
     cancel x t d b u w a g h D = le-of-mul-le-mul-right {m = x * x} {n = u * w * (u * w)} {k = d} (let f = mul-le-mul-left (u * u) h in let e = mul-le-mul-right d a in omega arith) D
 
 -- ---- a turn
 abbrev pub turnedRow : Float → Float → ℕ → ℕ → (ℕ → Float) → ℕ → Float
 turnedRow c s p q row j = cond (eqb j p) (c ⊗ row p ⊖ s ⊗ row q) (cond (eqb j q) (s ⊗ row p ⊕ c ⊗ row q) (row j))
 
-raised : (t t′ d b l : ℕ) → (t′ + 33554432) * 256 ≤ (t + 33554432) * 257 → (t + 33554432) * d ≤ l * b → (t′ + 33554432) * (d * 256) ≤ l * (b * 257)
+raised : (t t′ d b l : ℕ) → (t′ + slack) * 256 ≤ (t + slack) * 257 → (t + slack) * d ≤ l * b → (t′ + slack) * (d * 256) ≤ l * (b * 257)
 raised t t′ d b l h g = let f = mul-le-mul-right d h in omega arith
 
 pub good-still : (n r : ℕ) (row : ℕ → Float) → Good n row r → Good n row (suc r)
@@ -178,10 +178,10 @@ good-turned n r p q c s row pq qn a h g = record {
     at-q : squares row′ q ≡ mag (s ⊗ row p ⊕ c ⊗ row q) * mag (s ⊗ row p ⊕ c ⊗ row q)
     at-q = rw (ne-eqb q p (λ (d : q ≡ p). ne-of-lt pq (sym d)), eq-eqb q q refl)
 
-    shift : (t t′ x y : ℕ) → t′ + x ≡ t + y → x ≤ t → y * 256 ≤ x * 257 + 33554432 → (t′ + 33554432) * 256 ≤ (t + 33554432) * 257
+    shift : (t t′ x y : ℕ) → t′ + x ≡ t + y → x ≤ t → y * 256 ≤ x * 257 + slack → (t′ + slack) * 256 ≤ (t + slack) * 257
     shift t t′ x y e h k = omega arith
 
-    grown : (sum (squares row′) n + 33554432) * 256 ≤ (sum (squares row) n + 33554432) * 257
+    grown : (sum (squares row′) n + slack) * 256 ≤ (sum (squares row) n + slack) * 257
     grown =
-        shift (sum (squares row) n) (sum (squares row′) n) (squares row p + squares row q) (squares row′ p + squares row′ q) (exchanged (squares row) (squares row′) n p q pq qn other-j) (both-in (squares row) (squares row′) n p q pq qn other-j)
+        shift (sum (squares row) n) (sum (squares row′) n) (squares row p + squares row q) (squares row′ p + squares row′ q) (exchanged n p q pq qn (squares row) (squares row′) other-j) (both-in n p q pq qn (squares row))
         (rw (at-p, at-q) (N .growth))

@@ -1,17 +1,30 @@
 -- What a rotation's rounding errors do to lengths, as inequalities of whole numbers of units; l units are 1. A rounding is off by at most 2 ^ -20 of the exact
 -- value and one unit (`Close`). First, c² + s² is at most 1 + 2 ^ -10 (`circle`). Then the squares of the two numbers that are turned grow by at most 2 ^ -8
--- of themselves and 2 ^ 25 units squared (`turned`). Assumes nothing.
+-- of themselves and 2 ^ 17 units squared (`Grows`, `turned`). Assumes nothing.
 use mathlib.Core.Path.{_≡_, ap, _∙_, subst}
 use mathlib.Core.Logic.{inl, inr}
 use Prim.Native.Nat.{ℕ, _+_, _-_, _*_, _≤_, _<_}
 use native.Mathlib.Nat.{mul-le-mul, mul-le-mul-left, mul-le-mul-right, le-of-mul-le-mul-right, mul-pos}
 use native.Mathlib.Omega.{arith}
 use Rattle.leaves.proofs.Whole.{le-or-lt}
+use Rattle.leaves.proofs.Arithmetic.{distance}
 
 -- g is n / d, rounded
 pub record Close (g n d : ℕ) : Type 0 where
   pub hi : g * d * 1048576 ≤ n * 1048577 + d * 1048576
   pub lo : n * 1048575 ≤ g * d * 1048576 + d * 1048576
+
+-- c² + s² is at most 1 + 2 ^ -10
+abbrev pub InCircle : ℕ → ℕ → ℕ → Type 0
+InCircle l c s = (c * c + s * s) * 1024 ≤ l * l * 1025
+
+-- 256 times the 2 ^ 17 that the roundings add
+abbrev pub slack : ℕ
+slack = 33554432
+
+-- r² + t² is at most p² + q², grown by 2 ^ -8 of itself and 2 ^ 17
+abbrev pub Grows : ℕ → ℕ → ℕ → ℕ → Type 0
+Grows r t p q = (r * r + t * t) * 256 ≤ (p * p + q * q) * 257 + slack
 
 -- ---- second degree
 pub square-mono : {a b : ℕ} → a ≤ b → a * a ≤ b * b
@@ -62,7 +75,7 @@ module _ (l t z w u : ℕ) (big : 1073741824 ≤ l) (cz : Close z (t * t) l) (cw
     pub t-c : t * c ≤ 2 * (l * l)
     t-c = square-back (t * c) (2 * (l * l)) (let a = about-c in omega arith)
 
-    pub circle : (s : ℕ) → Close s (t * c) l → (c * c + s * s) * 1024 ≤ l * l * 1025
+    pub circle : (s : ℕ) → Close s (t * c) l → InCircle l c s
     circle s cs =
         let n = l * l in
         let a : s * l * 1048576 ≤ t * c * 1048577 + l * 1048576 = cs .hi in
@@ -77,10 +90,7 @@ module _ (l t z w u : ℕ) (big : 1073741824 ≤ l) (cz : Close z (t * t) l) (cw
         step cl tc sl n nn a b m = omega arith
 
 -- ---- two numbers of sizes p and q, turned: x, y, z, w round c p, s q, s p and c q; one result rounds the distance of x and y, and the other z + w
-abbrev pub distance : ℕ → ℕ → ℕ
-distance a b = a - b + (b - a)
-
-module _ (l c s p q x y z w r t : ℕ) (pos : 0 < l) (unit : (c * c + s * s) * 1024 ≤ l * l * 1025) (cx : Close x (c * p) l) (cy : Close y (s * q) l)
+module _ (l c s p q x y z w r t : ℕ) (pos : 0 < l) (unit : InCircle l c s) (cx : Close x (c * p) l) (cy : Close y (s * q) l)
     (cz : Close z (s * p) l) (cw : Close w (c * q) l) (cr : Close r (distance x y) 1) (ct : Close t (z + w) 1) where
   -- a result that rounds d, which is m / l up to the errors of two products of size h together
   result : (r d m h : ℕ) → d * l * 1048576 ≤ m * 1048576 + h + 2 * (l * 1048576) → m ≤ h → Close r d 1 → r * l * 1048576 ≤ m * 1048576 + 4 * (h + l * 1048576)
@@ -118,7 +128,7 @@ module _ (l c s p q x y z w r t : ℕ) (pos : 0 < l) (unit : (c * c + s * s) * 1
       at : (a m : ℕ) → a * (a + m) ≡ c * p * (s * q) → a * a + (a + m) * (a + m) ≡ c * p * (c * p) + s * q * (s * q) → m * m + (s * p + c * q) * (s * p + c * q) ≡ (c * c + s * s) * (p * p + q * q)
       at a m f g = omega arith
 
-  pub turned : (r * r + t * t) * 256 ≤ (p * p + q * q) * 257 + 33554432
+  pub turned : Grows r t p q
   turned =
       let m = distance (c * p) (s * q) in
       let a = square r m (c * p) (s * q) (result r (distance x y) m (c * p + s * q) far (omega arith) cr) in
@@ -128,8 +138,8 @@ module _ (l c s p q x y z w r t : ℕ) (pos : 0 < l) (unit : (c * c + s * s) * 1
       (collect (r * l * 1048576 * (r * l * 1048576)) (t * l * 1048576 * (t * l * 1048576)) (m * m) ((s * p + c * q) * (s * p + c * q)) (c * p * (c * p) + s * q * (s * q)) (s * p * (s * p) + c * q * (c * q)) ((c * c + s * s) * (p * p + q * q)) (l * l) (l * l * (p * p + q * q)) ((r * r + t * t) * (l * l)) (omega arith) (omega arith) exact (omega arith) (omega arith) (omega arith))
     where
       collect : (rr tt m n g h k l e v : ℕ) → rr * 1024 ≤ m * 1099511627776 * 1025 + 50380800 * (g + l * 1099511627776) → tt * 1024 ≤ n * 1099511627776 * 1025 + 50380800 * (h + l * 1099511627776)
-          → m + n ≡ k → g + h ≡ k → k * 1024 ≤ e * 1025 → v * 1099511627776 ≡ rr + tt → v * 256 ≤ e * 257 + l * 33554432
+          → m + n ≡ k → g + h ≡ k → k * 1024 ≤ e * 1025 → v * 1099511627776 ≡ rr + tt → v * 256 ≤ e * 257 + l * slack
       collect rr tt m n g h k l e v a b c d u w = omega arith
 
-      cancel : (v k l : ℕ) → 0 < l → v * l * 256 ≤ l * k * 257 + l * 33554432 → v * 256 ≤ k * 257 + 33554432
-      cancel v k l pos h = le-of-mul-le-mul-right {m = v * 256} {n = k * 257 + 33554432} {k = l} (omega arith) pos
+      cancel : (v k l : ℕ) → 0 < l → v * l * 256 ≤ l * k * 257 + l * slack → v * 256 ≤ k * 257 + slack
+      cancel v k l pos h = le-of-mul-le-mul-right {m = v * 256} {n = k * 257 + slack} {k = l} (omega arith) pos

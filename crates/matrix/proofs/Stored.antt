@@ -1,14 +1,17 @@
--- Laws of the matrices that are stored row by row. Assumes nothing.
-use mathlib.Core.Path.{_≡_, refl, sym, ap, _∙_}
+-- Laws of the matrices that are stored row by row, and of the largest size in a finite matrix. Assumes nothing.
+use mathlib.Core.Path.{_≡_, refl, sym, ap, _∙_, subst}
 use mathlib.Core.List.{List}
-use Prim.Native.Nat.{ℕ, _+_, _*_, _/_, _%_, _<_}
-use native.Mathlib.Nat.{div-add-mod', div-lt-iff-lt-mul, mod-lt}
+use Prim.Native.Nat.{ℕ, _+_, _*_, _/_, _%_, _≤_, _<_}
+use native.Mathlib.Nat.{div-add-mod'}
 use lib.ListN.{length}
 use lib.Ieee.{Float, nan}
-use Rattle.leaves.specs.Numbers.{_⊗_}
+use Rattle.leaves.specs.Numbers.{_⊗_, abs}
 use Rattle.leaves.specs.Loops.{nth}
-use Rattle.leaves.proofs.Loops.{cell, cell-row, cell-col, has-column, row-below, col-below, length-tab, nth-tab, tab-is, tab-ext, sum-ext}
-use Rattle.matrix.specs.Matrix.{Matrix, at, rows, product}
+use Rattle.leaves.proofs.Loops.{cell, at-cell, row-below, col-below, length-tab, nth-tab, tab-is, tab-ext, sum-ext}
+use Rattle.leaves.proofs.Units.{Finite, Top, mag}
+use Rattle.leaves.proofs.Range.{Range, range-abs, range-zero, range-fits}
+use Rattle.leaves.proofs.Totals.{amax-one, amax-most}
+use Rattle.matrix.specs.Matrix.{Matrix, at, rows, product, amax}
 
 -- number k is the entry in row k / n and column k % n
 pub entry-at : (a : List Float) (n k : ℕ) → at a n (k / n) (k % n) ≡ nth a k
@@ -23,23 +26,33 @@ unfolding rows
 rows-nth f m n k h = nth-tab (m * n) (λ k. f (k / n) (k % n)) k nan h
 
 pub rows-at : (f : Matrix) (m n i j : ℕ) → i < m → j < n → at (rows m n f) n i j ≡ f i j
-rows-at f m n i j hi hj = rows-nth f m n (i * n + j) (cell i m j n hi hj) ∙ (λ t. f (cell-row i n j hj t) (cell-col i n j hj t))
+rows-at f m n i j hi hj = rows-nth f m n (i * n + j) (cell i m j n hi hj) ∙ at-cell f i n j hj
 
 -- a stored matrix is f's where its entries are, so it is made of its own
 pub rows-is : (l : List Float) (n : ℕ) (f : Matrix) → length l ≡ n * n → ((i j : ℕ) → i < n → j < n → at l n i j ≡ f i j) → l ≡ rows n n f
 unfolding rows
-rows-is l n f e h = tab-is nan l (n * n) (λ k. f (k / n) (k % n)) e (λ k b. sym (entry-at l n k) ∙ h (k / n) (k % n) (row-below k n b) (col-below k n b))
+rows-is l n f e h = tab-is nan l (n * n) (λ k. f (k / n) (k % n)) e (λ k b. sym (entry-at l n k) ∙ h (k / n) (k % n) (row-below k n n b) (col-below k n n b))
 
 pub whole : (n : ℕ) (l : List Float) → length l ≡ n * n → l ≡ rows n n (at l n)
 whole n l e = rows-is l n (at l n) e (λ i j hi hj. refl)
 
 -- what holds in m rows and n columns holds cell by cell
 pub by-cell : (m n : ℕ) (P : ℕ → ℕ → Type 0) → ((i j : ℕ) → i < m → j < n → P i j) → (k : ℕ) → k < m * n → P (k / n) (k % n)
-by-cell m n P h k l = let p = has-column k m n l in h (k / n) (k % n) (div-lt-iff-lt-mul p .1 l) (mod-lt k p)
+by-cell m n P h k l = h (k / n) (k % n) (row-below k m n l) (col-below k m n l)
 
 -- alike within m rows and n columns, two matrices are alike cell by cell
 pub cell-ext : {A : Type 0} (m n : ℕ) (f g : ℕ → ℕ → A) → ((i j : ℕ) → i < m → j < n → f i j ≡ g i j) → (k : ℕ) → k < m * n → f (k / n) (k % n) ≡ g (k / n) (k % n)
 cell-ext m n f g h = by-cell m n (λ i j. f i j ≡ g i j) h
+
+-- the largest size is a finite value, and no entry is larger
+module _ (m n : ℕ) (a : Matrix) (each : (i j : ℕ) → i < m → j < n → Finite (a i j)) where
+  pub amax-finite : Finite (amax m n a)
+  unfolding amax
+  amax-finite = let r = amax-one (Range 0 1 Top) (m * n) (λ k. a (k / n) (k % n)) (range-zero 0 1 Top) (by-cell m n (λ i j. Range 0 1 Top (abs (a i j))) (λ i j hi hj. let c = each i j hi hj in range-abs (range-fits (a i j) (c .0) (c .1)))) in (r .fit, r .finite)
+
+  pub amax-entry : (i j : ℕ) → i < m → j < n → mag (a i j) ≤ mag (amax m n a)
+  unfolding amax
+  amax-entry i j hi hj = subst (λ (x : Float). mag x ≤ mag (amax m n a)) (at-cell a i n j hj) (amax-most (λ k. a (k / n) (k % n)) (m * n) (by-cell m n (λ i j. Finite (a i j)) each) (i * n + j) (cell i m j n hi hj))
 
 pub rows-ext : (m n : ℕ) (f g : Matrix) → ((i j : ℕ) → i < m → j < n → f i j ≡ g i j) → rows m n f ≡ rows m n g
 unfolding rows

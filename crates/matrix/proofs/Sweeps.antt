@@ -1,76 +1,55 @@
 -- Document 01, "Jacobi": sweeps ≤ limit, rotations ≤ sweeps × n(n - 1)/2.
 -- What every rotation keeps, the vectors and the count of a decomposition have. Assumes nothing.
 use mathlib.Core.Path.{_≡_, refl}
-use mathlib.Core.Bool.{Bool, false}
-use mathlib.Core.List.{List}
 use mathlib.Core.Option.{Option, none, some}
 use Prim.Native.Nat.{ℕ, _-_, _*_, _/_, _≤_, _<_, zero-le}
 use native.Mathlib.Nat.{le-refl, le-of-lt, zero-add}
 use lib.Ieee.{Float}
-use Rattle.leaves.specs.Numbers.{_⊗_, ε}
 use Rattle.leaves.specs.Loops.{loop, firstTo}
-use Rattle.leaves.specs.Root.{sqrt}
 use Rattle.leaves.proofs.Loops.{first-below}
-use Rattle.matrix.specs.Matrix.{Matrix, at, rows, identity, amax, squares}
+use Rattle.matrix.specs.Matrix.{Matrix, amax}
 use Rattle.matrix.specs.Rotation.{State}
-use Rattle.matrix.specs.Jacobi.{afterSweeps, test, stops, isConverged, Swept, sweeping, start, swept, scaledBack, unturned, decompose}
-use Rattle.matrix.specs.Inner.{state, sweptTo}
+use Rattle.matrix.specs.Jacobi.{afterSweeps, stopping, sweptBy, sweeping, start, tolerance, initial, swept, scaledBack, unturned, decompose}
 use Rattle.matrix.proofs.Counts.{pairs, sweeps-keep, AtMost, rotate-count}
 use Rattle.matrix.proofs.Alike.{decompose-cases}
 
 -- ---- sweeping, by what the search for the first sweep that the test forbids finds
-module _ (n : ℕ) (tolerance : Float) (st : State) where
-  -- whether the test forbids sweep k
-  abbrev pub stopping : ℕ → Bool
-  stopping k = stops (test n tolerance (afterSweeps k n st))
-
-  abbrev pub sweptBy : ℕ → Option ℕ → Swept
-  sweptBy limit o = elim o [
-    | none ↦ sweptTo false limit (afterSweeps limit n st)
-    | some k ↦ sweptTo (isConverged (test n tolerance (afterSweeps k n st))) k (afterSweeps k n st)
-  ]
-
-  pub sweeping-is : (limit : ℕ) → sweeping limit n tolerance st ≡ sweptBy limit (firstTo limit stopping)
+module _ (n : ℕ) (most : Float) (st : State) where
+  pub sweeping-is : (limit : ℕ) → sweeping limit n most st ≡ sweptBy n most st limit (firstTo limit (stopping n most st))
   unfolding sweeping
   sweeping-is limit = refl
 
-  sweeping-reached : (limit : ℕ) → sweeping limit n tolerance st .reached ≡ afterSweeps (sweeping limit n tolerance st .sweeps) n st
+  sweeping-reached : (limit : ℕ) → sweeping limit n most st .reached ≡ afterSweeps (sweeping limit n most st .sweeps) n st
   unfolding sweeping
-  sweeping-reached limit = go (firstTo limit stopping)
+  sweeping-reached limit = go (firstTo limit (stopping n most st))
     where
-      go : (o : Option ℕ) → sweptBy limit o .reached ≡ afterSweeps (sweptBy limit o .sweeps) n st
+      go : (o : Option ℕ) → sweptBy n most st limit o .reached ≡ afterSweeps (sweptBy n most st limit o .sweeps) n st
       go none = refl
       go (some k) = refl
 
-  sweeping-limit : (limit : ℕ) → sweeping limit n tolerance st .sweeps ≤ limit
+  sweeping-limit : (limit : ℕ) → sweeping limit n most st .sweeps ≤ limit
   unfolding sweeping
-  sweeping-limit limit = go (firstTo limit stopping) (first-below stopping limit)
+  sweeping-limit limit = go (firstTo limit (stopping n most st)) (first-below (stopping n most st) limit)
     where
-      go : (o : Option ℕ) → ((k : ℕ) → o ≡ some k → k < limit) → sweptBy limit o .sweeps ≤ limit
+      go : (o : Option ℕ) → ((k : ℕ) → o ≡ some k → k < limit) → sweptBy n most st limit o .sweeps ≤ limit
       go none h = le-refl limit
       go (some k) h = le-of-lt (h k refl)
 
 -- ---- the decomposition
-abbrev pub initial : ℕ → List Float → State
-initial n b = state b (rows n n identity) 0
-
 module _ (n : ℕ) (a : Matrix) where
   unfoldable pub begun : State
   begun = initial n (start n (amax n n a) a)
-
-  abbrev tolerance : Float
-  tolerance = ε ⊗ sqrt (squares n (at (begun .matrix) n))
 
   -- V and the count of rotations are those of the state after as many sweeps as were made
   pub decompose-reached : (limit : ℕ) → let d = decompose limit n a in let st = afterSweeps (d .sweeps) n begun in (d .vectors ≡ st .vectors) × (d .rotations ≡ st .rotations)
   unfolding begun
   decompose-reached limit =
       decompose-cases (λ d. let st = afterSweeps (d .sweeps) n begun in (d .vectors ≡ st .vectors) × (d .rotations ≡ st .rotations)) limit n a (λ found. unfold unturned afterSweeps loop in (refl, refl))
-      (unfold scaledBack swept in let e = sweeping-reached n tolerance begun limit in ((λ i. e i .vectors), (λ i. e i .rotations)))
+      (unfold scaledBack swept in let e = sweeping-reached n (tolerance n (begun .matrix)) begun limit in ((λ i. e i .vectors), (λ i. e i .rotations)))
 
   pub sweeps-bound : (limit : ℕ) → decompose limit n a .sweeps ≤ limit
   unfolding begun
-  sweeps-bound limit = decompose-cases (λ d. d .sweeps ≤ limit) limit n a (λ found. unfold unturned in zero-le) (unfold scaledBack swept in sweeping-limit n tolerance begun limit)
+  sweeps-bound limit = decompose-cases (λ d. d .sweeps ≤ limit) limit n a (λ found. unfold unturned in zero-le) (unfold scaledBack swept in sweeping-limit n (tolerance n (begun .matrix)) begun limit)
 
   pub rotations-bound : (limit : ℕ) → decompose limit n a .rotations ≤ decompose limit n a .sweeps * (n * (n - 1) / 2)
   unfolding pairs begun

@@ -11,14 +11,14 @@ use lib.Dec.{eqb}
 use lib.ListN.{length, set, length-set}
 use lib.Ieee.{Float}
 use borrow.Author.Tests.{eqb-true, eqb-false, eq-eqb, ne-eqb}
-use Rattle.leaves.specs.Numbers.{_⊕_, _⊖_, _⊗_, _⊘_, zero⁺, half}
+use Rattle.leaves.specs.Numbers.{_⊕_, _⊖_, _⊗_, zero⁺, half}
 use Rattle.leaves.specs.Loops.{loop}
 use Rattle.leaves.proofs.Whole.{le-or-lt}
 use Rattle.leaves.proofs.Commutative.{plus-comm}
 use Rattle.leaves.proofs.Loops.{cell}
-use Rattle.matrix.specs.Matrix.{Matrix, at, rows, identity, product, transpose, Symmetric}
+use Rattle.matrix.specs.Matrix.{Matrix, at, rows, identity, product, transpose, Symmetric, divided, symmetrized}
 use Rattle.matrix.specs.Rotation.{State, tangent, cosine, turnColumns, turnRows, rotated, rotateBy, rotate, turnedBoth}
-use Rattle.matrix.specs.Jacobi.{afterSweeps, start}
+use Rattle.matrix.specs.Jacobi.{afterSweeps, start, sweepRow}
 use Rattle.matrix.specs.Inner.{state, turnedBlock, mirrored}
 use Rattle.matrix.proofs.Stored.{rows-at, rows-is}
 use Rattle.matrix.proofs.Rotated.{rotate-cases}
@@ -146,6 +146,34 @@ module _ (c s : Float) (n p q : ℕ) (pq : p < q) (qn : q < n) where
     both-at : (i j : ℕ) → i < n → j < n → (i ≡ p → j ≡ q → ⊥) → (i ≡ q → j ≡ p → ⊥) → at (turnedBoth n p q c s a) n i j ≡ twice (at a n) i j
     both-at i j hi hj x y = zero-no turned length-turned i j hj x y ∙ turned-at i j hi hj
 
+    -- ---- the rows turned, then the block
+    abbrev by-rows : List Float
+    by-rows = turnRows n p q c s a
+
+    length-by-rows : length by-rows ≡ n * n
+    length-by-rows = length-turned-rows c s n p q pq qn a len
+
+    by-rows-at : (i j : ℕ) → i < n → j < n → at by-rows n i j ≡ turnedRow c s p q (λ r. at a n r j) i
+    by-rows-at i j hi hj = turned-rows-at c s n p q pq qn a len i j hi hj
+
+    abbrev x : Float
+    x = c ⊗ at by-rows n p p ⊖ s ⊗ at by-rows n p q
+
+    abbrev z : Float
+    z = s ⊗ at by-rows n q p ⊕ c ⊗ at by-rows n q q
+
+    abbrev cornered : List Float
+    cornered = set (set by-rows (p * n + p) x) (q * n + q) z
+
+    length-cornered : length cornered ≡ n * n
+    length-cornered = length-two n by-rows length-by-rows p p q q pn pn qn qn (ne-of-lt pq) x z
+
+    abbrev blocked : List Float
+    blocked = turnedBlock n p q c s by-rows
+
+    pub blocked-meet : at blocked n p q ≡ at blocked n q p
+    blocked-meet = zero-pq cornered length-cornered p q refl refl ∙ sym (zero-qp cornered length-cornered q p pn refl refl)
+
     module _ (same : Symmetric n a) where
       both-symmetric : Symmetric n (turnedBoth n p q c s a)
       both-symmetric i j hi hj = go (place i) (place j)
@@ -162,34 +190,9 @@ module _ (c s : Float) (n p q : ℕ) (pq : p < q) (qn : q < n) where
           go (inr (inl e)) (inr (inr g)) = other (λ x y. g .1 y) (λ x y. g .0 y)
           go (inr (inr e)) k = other (λ x y. e .0 x) (λ x y. e .1 x)
 
-      -- ---- the rows turned, then the block
-      abbrev by-rows : List Float
-      by-rows = turnRows n p q c s a
-
-      length-by-rows : length by-rows ≡ n * n
-      length-by-rows = length-turned-rows c s n p q pq qn a len
-
-      by-rows-at : (i j : ℕ) → i < n → j < n → at by-rows n i j ≡ turnedRow c s p q (λ r. at a n r j) i
-      by-rows-at i j hi hj = turned-rows-at c s n p q pq qn a len i j hi hj
-
-      -- they are the columns, turned
+      -- the rows turned are the columns, turned
       flipped : (i j : ℕ) → i < n → j < n → at by-rows n i j ≡ turnedRow c s p q (at a n j) i
       flipped i j hi hj = by-rows-at i j hi hj ∙ turned-same c s p q i (λ r. at a n r j) (at a n j) (same p j pn hj) (same q j qn hj) (same i j hi hj)
-
-      abbrev x : Float
-      x = c ⊗ at by-rows n p p ⊖ s ⊗ at by-rows n p q
-
-      abbrev z : Float
-      z = s ⊗ at by-rows n q p ⊕ c ⊗ at by-rows n q q
-
-      abbrev cornered : List Float
-      cornered = set (set by-rows (p * n + p) x) (q * n + q) z
-
-      length-cornered : length cornered ≡ n * n
-      length-cornered = length-two n by-rows length-by-rows p p q q pn pn qn qn (ne-of-lt pq) x z
-
-      abbrev blocked : List Float
-      blocked = turnedBlock n p q c s by-rows
 
       corner-p : (i j : ℕ) → i ≡ p → j ≡ p → at cornered n i j ≡ twice (at a n) i j
       corner-p i j e g =
@@ -244,9 +247,6 @@ module _ (c s : Float) (n p q : ℕ) (pq : p < q) (qn : q < n) where
       pub mirrored-both : rows n n (mirrored n p q blocked) ≡ turnedBoth n p q c s a
       mirrored-both = sym (rows-is (turnedBoth n p q c s a) n (mirrored n p q blocked) length-both (λ i j hi hj. sym (mirrored-at i j hi hj (place j))))
 
-      pub blocked-meet : at blocked n p q ≡ at blocked n q p
-      blocked-meet = zero-pq cornered length-cornered p q refl refl ∙ sym (zero-qp cornered length-cornered q p pn refl refl)
-
 -- ---- rows p and q copied to the columns, row by row of the matrix
 module _ (n p q : ℕ) (pq : p < q) (qn : q < n) (a : List Float) (len : length a ≡ n * n) (meet : at a n p q ≡ at a n q p) where
   abbrev from : ℕ → List Float → ℕ → Float
@@ -258,13 +258,13 @@ module _ (n p q : ℕ) (pq : p < q) (qn : q < n) (a : List Float) (len : length 
       pn : p < n
       pn = lt-trans pq qn
 
-      past : p < m → (b : Bool) → (b ≡ true → m ≡ q) → cond b (at a n q p) (at a n p m) ≡ at a n p m
-      past h true e = sym meet ∙ ap (at a n p) (sym (e refl))
-      past h false e = refl
+      past : (b : Bool) → (b ≡ true → m ≡ q) → cond b (at a n q p) (at a n p m) ≡ at a n p m
+      past true e = sym meet ∙ ap (at a n p) (sym (e refl))
+      past false e = refl
 
       in-p : (m ≤ p) ⊎ (p < m) → at v n p m ≡ at a n p m
       in-p (inl h) = H .left p m pn hm h
-      in-p (inr h) = H .done p m pn hm h ∙ rw (ne-eqb m p (λ e. ne-of-lt h (sym e))) (past h (eqb m q) (eqb-true m q))
+      in-p (inr h) = H .done p m pn hm h ∙ rw (ne-eqb m p (λ e. ne-of-lt h (sym e))) (past (eqb m q) (eqb-true m q))
 
       in-q : (m ≤ q) ⊎ (q < m) → at v n q m ≡ at a n q m
       in-q (inl h) = H .left q m qn hm h
@@ -296,7 +296,7 @@ module _ (n : ℕ) (a₀ v₀ : List Float) {a v : List Float} {r : ℕ} (len : 
   pub row-symmetric : (p j : ℕ) → state a v r ≡ loop j (λ j. rotate n p (suc p + j)) (state a₀ v₀ 0) → j ≤ n - suc p → Symmetric n a
   row-symmetric p j e h = by-end e (row-keeps n (Kept n) (rotate-symmetric n) p j 0 (state a₀ v₀ 0) h (len, same))
 
-  pub rows-symmetric : (p : ℕ) → state a v r ≡ loop p (λ p. loop (n - suc p) (λ k. rotate n p (suc p + k))) (state a₀ v₀ 0) → Symmetric n a
+  pub rows-symmetric : (p : ℕ) → state a v r ≡ loop p (sweepRow n) (state a₀ v₀ 0) → Symmetric n a
   rows-symmetric p e = by-end e (rows-keep n (Kept n) (rotate-symmetric n) p 0 (state a₀ v₀ 0) (len, same))
 
   pub sweeps-symmetric : (k : ℕ) → state a v r ≡ afterSweeps k n (state a₀ v₀ 0) → Symmetric n a
@@ -306,10 +306,7 @@ module _ (n : ℕ) (a₀ v₀ : List Float) {a v : List Float} {r : ℕ} (len : 
 pub start-symmetric : (n : ℕ) (scale : Float) (a : Matrix) → Symmetric n (start n scale a)
 unfolding start
 start-symmetric n scale a i j hi hj =
-    rows-at averaged n n i j hi hj ∙ ap (λ (x : Float). x ⊗ half) (plus-comm (at b n i j) (at b n j i)) ∙ sym (rows-at averaged n n j i hj hi)
+    rows-at (symmetrized (at b n)) n n i j hi hj ∙ ap (λ (x : Float). x ⊗ half) (plus-comm (at b n i j) (at b n j i)) ∙ sym (rows-at (symmetrized (at b n)) n n j i hj hi)
   where
     b : List Float
-    b = rows n n (product n (product n (transpose identity) (λ i j. a i j ⊘ scale)) identity)
-
-    averaged : Matrix
-    averaged i j = (at b n i j ⊕ at b n j i) ⊗ half
+    b = rows n n (product n (product n (transpose identity) (divided a scale)) identity)

@@ -5,7 +5,7 @@ use mathlib.Core.Logic.{_⊎_, inl, inr, _≢_}
 use mathlib.Core.Bool.{Bool, true, false, cond}
 use mathlib.Core.List.{List}
 use Prim.Native.Nat.{ℕ, suc, _+_, _*_, _^_, _≤_, _<_}
-use native.Mathlib.Nat.{le-trans, le-suc, mul-le-mul, mul-one, zero-add}
+use native.Mathlib.Nat.{le-trans, le-suc, mul-le-mul, zero-add}
 use native.Mathlib.Omega.{arith}
 use lib.Dec.{T, eqb}
 use lib.ListN.{length}
@@ -15,8 +15,8 @@ use lib.Ieee.{Float, nan, lt, binary64, fits}
 use lib.Ieee.Fits.{cond-fits, div-fits}
 use Rattle.leaves.specs.Numbers.{_⊕_, _⊗_, _⊘_, zero⁺, half, one, 1e150, abs, signum, isFinite}
 use Rattle.leaves.specs.Root.{sqrt}
-use Rattle.leaves.proofs.Units.{U, mag, val-mag, zero-mag}
-use Rattle.leaves.proofs.Range.{Range}
+use Rattle.leaves.proofs.Units.{U, mag, val-mag, one-val, zero-mag}
+use Rattle.leaves.proofs.Range.{Range, range-most}
 use Rattle.matrix.specs.Limits.{maxSide, maxSweeps}
 use Rattle.matrix.specs.Matrix.{Matrix, at, rows, identity}
 use Rattle.matrix.specs.Rotation.{State, tangent, cosine, turnColumns, rotated, rotateBy, rotate}
@@ -25,7 +25,8 @@ use Rattle.matrix.proofs.Stored.{rows-at, length-rows}
 use Rattle.matrix.proofs.Rotated.{rotate-cases}
 use Rattle.matrix.proofs.Counts.{pairs, pairs-most, sweeps-keep}
 use Rattle.matrix.proofs.Sweeps.{begun, decompose-reached, sweeps-bound}
-use Rattle.matrix.proofs.Angle.{one-val, U-big, Angle, angle}
+use Rattle.matrix.proofs.Squares.{slack}
+use Rattle.matrix.proofs.Angle.{U-big, Angle, angle}
 use Rattle.matrix.proofs.Turn.{Limit, Tame}
 use Rattle.matrix.proofs.Cells.{length-columns, columns-at}
 use Rattle.matrix.proofs.Rows.{sum, sum-alone, Good, mostTurns, turnedRow, good-same, good-small, good-still, good-turned}
@@ -70,7 +71,7 @@ identity-good n k h = record { tame = λ j l. tame-at (eqb k j); most = let e = 
     elsewhere : (j : ℕ) → j ≢ k → mag (identity k j) * mag (identity k j) ≡ 0
     elsewhere j d = rw (ne-eqb k j (λ e. d (sym e)), zero-mag false (pos 0))
 
-    first : (t : ℕ) → t ≡ U * U → (t + 33554432) * 256 ^ 0 ≤ U * U * 2 * 257 ^ 0
+    first : (t : ℕ) → t ≡ U * U → (t + slack) * 256 ^ 0 ≤ U * U * 2 * 257 ^ 0
     first t e = let a = mul-le-mul U-big U-big in omega arith
 
 identity-sound : (n : ℕ) → Sound n 0 (rows n n identity)
@@ -82,7 +83,7 @@ abbrev pub Small : Float → Type 0
 Small x = (x ≡ nan) ⊎ Range 0 1 Limit x
 
 small : (x : Float) → Tame x → mag x ≤ Limit → Small x
-small x t h = elim (t .1) [ inl e ↦ inl e | inr f ↦ inr (record { fit = t .0; finite = f; count = mag x; grain = sym (mul-one (mag x)); least = λ p. p; most = h }) ]
+small x t h = elim (t .1) [ inl e ↦ inl e | inr f ↦ inr (range-most x (t .0) f h) ]
 
 pub vectors-small : (limit n : ℕ) (a : Matrix) → n ≤ maxSide → limit ≤ maxSweeps → (i j : ℕ) → i < n → j < n → Small (at (decompose limit n a .vectors) n i j)
 unfolding Sound begun

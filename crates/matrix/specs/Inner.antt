@@ -1,4 +1,4 @@
--- Records put together from their parts, as contracts name them, and what only the contracts of private functions cite. Definitions only.
+-- What only the contracts of inner functions cite: records put together from their parts, and layouts of the code. Definitions only.
 use Prim.Native.Nat.{ℕ, suc, _+_, _*_}
 use mathlib.Core.Bool.{Bool, cond}
 use mathlib.Core.List.{List}

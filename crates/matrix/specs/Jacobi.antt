@@ -3,13 +3,13 @@
 use Prim.Native.Nat.{ℕ, suc, _+_, _-_}
 use mathlib.Core.Bool.{Bool, true, false}
 use mathlib.Core.List.{List}
-use mathlib.Core.Option.{none, some}
+use mathlib.Core.Option.{Option, none, some}
 use lib.Dec.{ltb}
 use lib.Ieee.{Float, le, eq, isNan}
-use Rattle.leaves.specs.Numbers.{_⊕_, _⊗_, zero⁺, half, two, ε}
+use Rattle.leaves.specs.Numbers.{_⊗_, zero⁺, two, ε}
 use Rattle.leaves.specs.Loops.{loop, firstTo, minTo, maxTo, tab, nth}
 use Rattle.leaves.specs.Root.{sqrt}
-use Rattle.matrix.specs.Matrix.{Matrix, at, rows, identity, product, transpose, divided, squared, amax, sumOver, squares, allFinite}
+use Rattle.matrix.specs.Matrix.{Matrix, at, rows, identity, product, transpose, symmetrized, divided, squared, amax, sumOver, squares, allFinite}
 use Rattle.matrix.specs.Rotation.{State, rotate}
 
 -- ---- sweeps
@@ -57,13 +57,21 @@ pub record Swept : Type 0 where
   pub sweeps : ℕ
   pub reached : State
 
--- to the first state that the test stops, or to the limit. No test follows the last sweep.
-unfoldable pub sweeping : ℕ → ℕ → Float → State → Swept
-sweeping limit n tolerance st =
-    elim (firstTo limit (λ k. stops (test n tolerance (afterSweeps k n st)))) [
+-- whether the test forbids sweep k
+abbrev pub stopping : ℕ → Float → State → ℕ → Bool
+stopping n tolerance st k = stops (test n tolerance (afterSweeps k n st))
+
+-- by the first sweep that is forbidden, if there is one below the limit. No test follows the last sweep.
+abbrev pub sweptBy : ℕ → Float → State → ℕ → Option ℕ → Swept
+sweptBy n tolerance st limit o =
+    elim o [
       | none ↦ record { done = false; sweeps = limit; reached = afterSweeps limit n st }
       | some k ↦ let reached = afterSweeps k n st in record { done = isConverged (test n tolerance reached); sweeps = k; reached = reached }
     ]
+
+-- to the first state that the test stops, or to the limit
+unfoldable pub sweeping : ℕ → ℕ → Float → State → Swept
+sweeping limit n tolerance st = sweptBy n tolerance st limit (firstTo limit (stopping n tolerance st))
 
 -- ---- the decomposition
 
@@ -86,10 +94,17 @@ largestValue n d = maxTo n (nth (d .values))
 unfoldable pub start : ℕ → Float → Matrix → List Float
 start n scale a =
     let b = rows n n (product n (product n (transpose identity) (divided a scale)) identity) in
-    rows n n (λ i j. (at b n i j ⊕ at b n j i) ⊗ half)
+    rows n n (symmetrized (at b n))
+
+-- the tolerance of the test, and the state before the first sweep
+abbrev pub tolerance : ℕ → List Float → Float
+tolerance n a = ε ⊗ sqrt (squares n (at a n))
+
+abbrev pub initial : ℕ → List Float → State
+initial n a = record { matrix = a; vectors = rows n n identity; rotations = 0 }
 
 unfoldable pub swept : ℕ → ℕ → List Float → Swept
-swept limit n a = sweeping limit n (ε ⊗ sqrt (squares n (at a n))) (record { matrix = a; vectors = rows n n identity; rotations = 0 })
+swept limit n a = sweeping limit n (tolerance n a) (initial n a)
 
 unfoldable pub scaledBack : ℕ → Float → Swept → Decomposition
 scaledBack n scale w = record {
@@ -104,10 +119,13 @@ scaledBack n scale w = record {
 unfoldable pub unturned : ℕ → Bool → Decomposition
 unturned n found = record { found = found; values = tab n (λ i. zero⁺); vectors = rows n n identity; sweeps = 0; rotations = 0 }
 
-unfoldable pub decompose : ℕ → ℕ → Matrix → Decomposition
-decompose limit n a =
-    let scale = amax n n a in
-    elim (allFinite n n a) [
+-- by whether the matrix is finite, whether its largest size is zero, that size, and what the sweeps begin with
+abbrev pub decomposedBy : ℕ → ℕ → Bool → Bool → Float → List Float → Decomposition
+decomposedBy limit n finite empty scale b =
+    elim finite [
       | false ↦ unturned n false
-      | true ↦ elim (eq scale zero⁺) [ true ↦ unturned n true | false ↦ scaledBack n scale (swept limit n (start n scale a)) ]
+      | true ↦ elim empty [ true ↦ unturned n true | false ↦ scaledBack n scale (swept limit n b) ]
     ]
+
+unfoldable pub decompose : ℕ → ℕ → Matrix → Decomposition
+decompose limit n a = let scale = amax n n a in decomposedBy limit n (allFinite n n a) (eq scale zero⁺) scale (start n scale a)

@@ -1,4 +1,4 @@
--- What a search through a matrix answers, as a row and a column. Definitions only.
+-- What only the contracts of inner functions cite: what a search through a matrix answers, as a row and a column. Definitions only.
 use Prim.Native.Nat.{ℕ}
 use mathlib.Core.Option.{Option, none, some}
 use Rattle.matrix.specs.declared.places.Place.{Place}

@@ -3,10 +3,10 @@
 use Prim.Native.Nat.{ℕ, suc, _+_, _*_}
 use mathlib.Core.Bool.{true, false, cond}
 use mathlib.Core.List.{List}
-use lib.ListN.{getD, set}
-use lib.Ieee.{Float, nan, lt, eq}
+use lib.ListN.{set}
+use lib.Ieee.{Float, lt, eq}
 use Rattle.leaves.specs.Numbers.{_⊕_, _⊖_, _⊗_, _⊘_, zero⁺, half, one, two, 1e150, abs, signum}
-use Rattle.leaves.specs.Loops.{loop}
+use Rattle.leaves.specs.Loops.{loop, nth}
 use Rattle.leaves.specs.Root.{sqrt}
 use Rattle.matrix.specs.Matrix.{at}
 
@@ -18,12 +18,16 @@ cotangent x y z = (z ⊖ x) ⊘ (two ⊗ y)
 unfoldable pub tangent : Float → Float
 tangent τ = cond (lt 1e150 (abs τ)) (half ⊘ τ) (signum τ ⊘ (abs τ ⊕ sqrt (τ ⊗ τ ⊕ one)))
 
+-- tan θ for the angle that zeroes the entry in row p and column q
+abbrev pub tangentAt : ℕ → ℕ → ℕ → List Float → Float
+tangentAt n p q a = tangent (cotangent (at a n p p) (at a n p q) (at a n q q))
+
 abbrev pub cosine : Float → Float
 cosine t = one ⊘ sqrt (t ⊗ t ⊕ one)
 
 -- numbers i and j of a list, turned by the angle whose cosine is c and whose sine is s
 unfoldable pub turn : Float → Float → ℕ → ℕ → List Float → List Float
-turn c s i j l = set (set l i (c ⊗ getD l i nan ⊖ s ⊗ getD l j nan)) j (s ⊗ getD l i nan ⊕ c ⊗ getD l j nan)
+turn c s i j l = set (set l i (c ⊗ nth l i ⊖ s ⊗ nth l j)) j (s ⊗ nth l i ⊕ c ⊗ nth l j)
 
 -- columns p and q turned, and rows p and q
 unfoldable pub turnColumns : ℕ → ℕ → ℕ → Float → Float → List Float → List Float
@@ -55,6 +59,4 @@ rotateBy n p q t st = let c = cosine t in rotated n p q c (t ⊗ c) st
 
 -- nothing is done at an entry 0
 unfoldable pub rotate : ℕ → ℕ → ℕ → State → State
-rotate n p q st =
-    let a = at (st .matrix) n in
-    elim (eq (a p q) zero⁺) [ true ↦ st | false ↦ rotateBy n p q (tangent (cotangent (a p p) (a p q) (a q q))) st ]
+rotate n p q st = elim (eq (at (st .matrix) n p q) zero⁺) [ true ↦ st | false ↦ rotateBy n p q (tangentAt n p q (st .matrix)) st ]

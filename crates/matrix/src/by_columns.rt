@@ -1,6 +1,6 @@
 // One Jacobi rotation (eigen.rs, `rotate`) of a symmetric A where V is stored column by column: its two columns lie along memory.
 ghost use mathlib.Core.Path.{_≡_};
-ghost use Prim.Native.Nat.{ℕ, _+_, _*_, _<_};
+ghost use Prim.Native.Nat.{ℕ, _*_, _<_};
 ghost use lib.ListN.{length};
 ghost use Rattle.matrix.specs.Rotation as Rotation;
 ghost use Rattle.matrix.specs.Matrix.{Symmetric};

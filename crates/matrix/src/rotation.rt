@@ -1,8 +1,7 @@
 // One Jacobi rotation (eigen.rs, `rotate`).
 ghost use mathlib.Core.Path.{_≡_};
-ghost use Prim.Native.Nat.{ℕ, _+_, _*_, _<_};
+ghost use Prim.Native.Nat.{ℕ, _*_, _<_};
 ghost use lib.ListN.{length};
-ghost use Rattle.matrix.specs.Matrix.{at};
 ghost use Rattle.matrix.specs.Rotation as Rotation;
 ghost use Rattle.matrix.specs.Inner.{state, counted};
 ghost use Rattle.matrix.specs.Rotation.{turnedBoth};
@@ -70,7 +69,7 @@ fn tangent(tau: f64) -> f64
 // The tangent of the rotation at p and q.
 pub(crate) fn tangent_at(a: &[f64], n: usize, p: usize, q: usize) -> f64
     requires { ⌜ (p < n) × (q < n) × (length (now a) ≡ n * n) ⌝ }
-    ensures { λ r. ⌜ r ≡ Rotation.tangent (Rotation.cotangent (at (now (a .entry)) n p p) (at (now (a .entry)) n p q) (at (now (a .entry)) n q q)) ⌝ }
+    ensures { λ r. ⌜ r ≡ Rotation.tangentAt n p q (now (a .entry)) ⌝ }
 {
     let x = get(a, n, p, p);
     let y = get(a, n, p, q);

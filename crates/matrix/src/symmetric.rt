@@ -1,6 +1,6 @@
 // One Jacobi rotation's turn of a matrix that is symmetric to the last bit: rows p and q are turned along memory and copied to the columns.
 ghost use mathlib.Core.Path.{_≡_};
-ghost use Prim.Native.Nat.{_+_, _*_, _<_};
+ghost use Prim.Native.Nat.{_*_, _<_};
 ghost use lib.ListN.{length};
 ghost use Rattle.matrix.specs.Matrix.{at, rows, Symmetric};
 ghost use Rattle.matrix.specs.Inner.{turnedBlock, mirrored};

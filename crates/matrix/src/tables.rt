@@ -1,4 +1,4 @@
-// Matrices stored whole: each function fills `out`.
+// Matrices stored whole: copied, averaged, divided, made and transposed.
 ghost use mathlib.Core.Path.{_≡_};
 ghost use Prim.Native.Nat.{ℕ, _*_};
 ghost use lib.ListN.{length};

@@ -22,7 +22,7 @@ use Rattle.paper.specs.Text.{glyph, digits, unpadded}
 use Rattle.paper.specs.Screen.{shownAs, shown, shownText, screenText}
 use Rattle.paper.specs.Answer.{refused, bitsText, lineText, linesText, outcome, outcomeText}
 use Rattle.paper.specs.Grammar.{kinds, placeIn, little, starts, taken, sheet}
-use Rattle.paper.specs.Rules.{outline, present, shapeFits, settingsFit, takes, wellFormed, malformed, readPaper}
+use Rattle.paper.specs.Rules.{outline, present, shapeFits, settingsFit, takes, wellFormed, malformed, isQuestion, readPaper}
 use Rattle.paper.specs.Marking.{estimateOf, shrinkageOf, regularizationOf, limitOf, settingsOf, targetOf, asked, columns, answerOf, examined, marking}
 
 -- 01 0200 0200 | 02 000000000000F03F | 02 0000000000000040 | 02 0000000000000840 | 02 0000000000001840 | 0B 00
@@ -52,7 +52,7 @@ text-6 =
 
 -- what a computed case unfolds
 unfoldable computed : ℕ
-unfolding marking examined readPaper sheet kinds taken starts little outline wellFormed shapeFits settingsFit takes present placeIn answerOf columns asked settingsOf estimateOf shrinkageOf regularizationOf targetOf limitOf adjustedCovariance settle first adjustedOrder opening ofGiven ofSettings notFinite badRegularization badShrinkage badEstimate notTheSample noCorrelation noVariance isAdjusted decompositionOf unturned base covariance gram deviation mean largest constantAsset intensity adjusted shrunk regularized rows trace amax firstEntry allFinite loop sumTo amaxTo firstTo tab fill isFinite abs larger sqrt root sticky halfExponent radicand shift add sub mul div lt le eq ofInt ofBits round size outcome outcomeText linesText lineText shownText shown shownAs digits unpadded glyph toBits
+unfolding marking examined readPaper isQuestion sheet kinds taken starts little outline wellFormed shapeFits settingsFit takes present placeIn answerOf columns asked settingsOf estimateOf shrinkageOf regularizationOf targetOf limitOf adjustedCovariance settle first adjustedOrder opening ofGiven ofSettings notFinite badRegularization badShrinkage badEstimate notTheSample noCorrelation noVariance isAdjusted decompositionOf unturned base covariance gram deviation mean largest constantAsset intensity adjusted shrunk regularized rows trace amax firstEntry allFinite loop sumTo amaxTo firstTo tab fill isFinite abs larger sqrt root sticky halfExponent radicand shift add sub mul div lt le eq ofInt ofBits round size outcome outcomeText linesText lineText shownText shown shownAs digits unpadded glyph toBits
 computed = 0
 
 pub marking-6 : marking case-6 ≡ text-6

@@ -1,8 +1,8 @@
--- How long a question file and what is printed of it can be: a file has at most 9,840 bytes, and the text at most 8,192, so that a program may lend
+-- How long a question file and what is printed of it can be: a file has at most `maxFile` bytes, and the text at most `maxText`, so that a program may lend
 -- buffers of that size. Assumes nothing.
 use mathlib.Core.Path.{_≡_, refl, sym, ap, _∙_}
-use mathlib.Core.Bool.{Bool, true, false, _&&_, cond}
-use mathlib.Core.List.{List, [], _∷_, _++_}
+use mathlib.Core.Bool.{Bool, true, false, cond}
+use mathlib.Core.List.{List, [], _∷_, _++_, map}
 use Prim.Native.Nat.{ℕ, zero, suc, _+_, _-_, _*_, _/_, _%_, _≤_, _<_}
 use native.Mathlib.Omega.{arith}
 use lib.ListN.{length, take, drop, replicate, length-append, length-drop, length-replicate}
@@ -23,14 +23,14 @@ use Rattle.paper.specs.declared.screen.Shown.{Shown}
 use Rattle.paper.specs.declared.screen.Shown.the-variants.{Big, Number}
 use Rattle.paper.specs.Text.{Out, out, write, digits, unpadded, maxDigits, decimal}
 use Rattle.paper.specs.Screen.{shown, shownText}
-use Rattle.paper.specs.Answer.{Outcome, refused, ok, lineText, linesText, outcome, outcomeText}
-use Rattle.paper.specs.Grammar.{fileAssets, starts, body, none, more, taken, sheet, kinds}
-use Rattle.paper.specs.Rules.{outline, value, assets, periods, wellFormed, malformed, question, readPaper}
+use Rattle.paper.specs.Answer.{malformedNumber, Outcome, refused, ok, lineText, linesText, outcome, outcomeText}
+use Rattle.paper.specs.Grammar.{fileAssets, starts, body, none, more, taken, Sheet, sheet, kinds}
+use Rattle.paper.specs.Rules.{outline, value, assets, periods, wellFormed, malformed, question, isQuestion, readPaper}
 use Rattle.paper.specs.Marking.{asked, columns, answerOf, examined, marking}
-use Rattle.paper.specs.Inner.{buffer}
+use Rattle.paper.specs.Inner.{buffer, total}
 use Rattle.paper.proofs.Digits.{digits-length}
 use Rattle.paper.proofs.Writes.{write-room}
-use Rattle.paper.proofs.Outlines.{sizes}
+use Rattle.paper.proofs.Outlines.{well-formed, sizes}
 use Rattle.paper.proofs.Marks.{asked-0, asked-1, asked-2, asked-3, answer-fits}
 
 -- ---- a file
@@ -49,18 +49,17 @@ taken-bytes k (suc m) bs = go (starts k bs) (taken-bytes k m (drop (k .body + 1)
     go true h = sum m (k .body + 1) (length bs) _ (rw length-drop at h)
     go false h = omega arith
 
-bytes-of : List Kind → ℕ
-bytes-of [] = 0
-bytes-of (k ∷ ks) = k .most * (k .body + 1) + bytes-of ks
-
-sheet-bytes : (ks : List Kind) (bs : List ℕ) → length bs ≤ bytes-of ks + length (sheet ks bs .rest)
-unfolding sheet bytes-of
+sheet-bytes : (ks : List Kind) (bs : List ℕ) → length bs ≤ total (map (λ (k : Kind). k .most * (k .body + 1)) ks) + length (sheet ks bs .rest)
+unfolding sheet total map
 sheet-bytes [] bs = omega arith
 sheet-bytes (k ∷ ks) bs = omega (arith, taken-bytes k (k .most) bs, sheet-bytes ks (taken k (k .most) bs .rest))
 
+abbrev pub maxFile : ℕ
+maxFile = 9840
+
 -- a longer file is no question
-pub too-long : (bs : List ℕ) → 9840 < length bs → readPaper bs ≡ malformed
-unfolding readPaper kinds bytes-of
+pub too-long : (bs : List ℕ) → maxFile < length bs → readPaper bs ≡ malformed
+unfolding readPaper isQuestion kinds total map
 too-long bs h = rw (ne-eqb (length (sheet kinds bs .rest)) 0 (λ e. omega (arith, sheet-bytes kinds bs)))
 
 -- ---- a text
@@ -176,12 +175,14 @@ answer-entries o r g e =
 
 pub text-length : (paper : List ℕ) → length (marking paper) ≤ maxText
 unfolding marking examined readPaper
-text-length paper = go (eqb (length (sheet kinds paper .rest)) 0) (wellFormed (outline (sheet kinds paper .lists))) refl
+text-length paper = go (isQuestion s) refl
   where
-    go : (a b : Bool) → wellFormed (outline (sheet kinds paper .lists)) ≡ b → length (outcomeText (examined (cond (a && b) (question (sheet kinds paper .lists)) malformed))) ≤ maxText
-    go true true e = outcome-length _ (answer-entries (outline (sheet kinds paper .lists)) _ _ e)
-    go true false e = outcome-length (refused 15) (omega arith)
-    go false b e = outcome-length (refused 15) (omega arith)
+    s : Sheet
+    s = sheet kinds paper
+
+    go : (b : Bool) → isQuestion s ≡ b → length (outcomeText (examined (cond b (question (s .lists)) malformed))) ≤ maxText
+    go true e = outcome-length _ (answer-entries (outline (s .lists)) _ _ (well-formed s e))
+    go false e = outcome-length (refused malformedNumber) (omega arith)
 
 -- what `mark` leaves at the front of a buffer with room is the whole text
 pub whole-text : (paper s v : List ℕ) (n : ℕ) → maxText ≤ length s → out v n ≡ write (out s 0) (marking paper) → (take n v ≡ marking paper) × (n ≡ length (marking paper))

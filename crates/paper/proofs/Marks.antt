@@ -1,4 +1,4 @@
--- Laws of `specs/Marking.antt`: the question asked, and what a well-formed outline tells. Assumes nothing.
+-- Laws of `specs/Marking.antt`: the question asked, and the answer slice. Assumes nothing.
 use mathlib.Core.Path.{_≡_, refl, ap}
 use mathlib.Core.Bool.{Bool, true, false, cond}
 use mathlib.Core.List.{List, _∷_}

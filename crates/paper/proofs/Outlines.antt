@@ -1,6 +1,6 @@
 -- Laws of the rules of `specs/Rules.antt`, as the code tests them. Assumes nothing.
 use mathlib.Core.Path.{_≡_, refl, sym, _∙_, subst}
-use mathlib.Core.Bool.{Bool, true, false, _&&_, _||_}
+use mathlib.Core.Bool.{Bool, true, false, _&&_, _||_, and-eq-true-iff}
 use mathlib.Core.List.{List}
 use Prim.Native.Nat.{ℕ, suc, _+_, _*_, _≤_, _<_}
 use native.Mathlib.Nat.{add-zero, mul-le-mul}
@@ -12,8 +12,8 @@ use lib.Dec.{leb, eqb, T, leb→le, eqb→eq}
 use lib.Ieee.Fits.{and-l, and-r}
 use borrow.Author.Tests.{eqb-true}
 use Rattle.paper.specs.declared.rules.Outline.{Outline}
-use Rattle.paper.specs.Grammar.{fileAssets, filePeriods}
-use Rattle.paper.specs.Rules.{count, has, value, assets, periods, present, shapeFits, settingsFit, takes, wellFormed}
+use Rattle.paper.specs.Grammar.{fileAssets, filePeriods, Sheet}
+use Rattle.paper.specs.Rules.{count, has, value, assets, periods, present, shapeFits, settingsFit, takes, wellFormed, outline, isQuestion}
 
 -- ---- how many of the listed kinds come: n of those before place i
 
@@ -43,6 +43,10 @@ product-fits t n h k = small (t * n) (mul-le-mul h k)
     small x h = omega arith
 
 -- ---- how large a question can be
+
+pub well-formed : (s : Sheet) → isQuestion s ≡ true → wellFormed (outline (s .lists)) ≡ true
+unfolding isQuestion
+well-formed s e = and-eq-true-iff (eqb (length (s .rest)) 0) _ .0 e .1
 
 pub record Sizes (o : Outline) : Type 0 where
   pub assets-few : assets o ≤ fileAssets

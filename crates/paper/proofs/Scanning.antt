@@ -1,7 +1,7 @@
 -- Laws of `sheet`: the kinds of a file, one after another, and the lists that its numbers are cut into again. Assumes nothing.
 use mathlib.Core.Path.{_≡_, refl, sym, ap, _∙_}
 use mathlib.Core.Bool.{Bool, true, false, cond}
-use mathlib.Core.List.{List, [], _∷_, _++_, map, append-assoc, append-nil}
+use mathlib.Core.List.{List, [], _∷_, _++_, map, flatten, append-assoc, append-nil}
 use Prim.Native.Nat.{ℕ, zero, suc, _+_, _≤_, _<_}
 use native.Mathlib.Nat.{add-le-add}
 use native.Mathlib.Numerals.{add-one}
@@ -13,13 +13,13 @@ use Rattle.paper.specs.declared.reader.Took.{Took}
 use Rattle.paper.specs.Text.{Out, out, write}
 use Rattle.paper.specs.Grammar.{maxRecords, starts, body, none, more, taken, Sheet, sheet, kinds, missing}
 use Rattle.paper.specs.Rules.{firstOf, outline}
-use Rattle.paper.specs.Inner.{TookIs, ScannedIs, flat, buffer, split}
+use Rattle.paper.specs.Inner.{TookIs, ScannedIs, buffer, split, total}
 use Rattle.paper.proofs.Table.{next-kind}
 use Rattle.paper.proofs.Writes.{onward, ended}
 
 -- Of the file w, the kinds ks are left from a place on; o is written so far, of o₀ at first, and cs and fs are the counts and the first bodies so far.
 pub record Going (s : List ℕ) (w : Sheet) (o₀ : Out) (ks : List Kind) (at : ℕ) (o : Out) (cs fs : List ℕ) : Type 0 where
-  pub numbers : write o (flat (sheet ks (drop at s) .lists)) ≡ write o₀ (flat (w .lists))
+  pub numbers : write o (flatten (sheet ks (drop at s) .lists)) ≡ write o₀ (flatten (w .lists))
   pub rest : sheet ks (drop at s) .rest ≡ w .rest
   pub counts : cs ++ map length (sheet ks (drop at s) .lists) ≡ map length (w .lists)
   pub firsts : fs ++ map firstOf (sheet ks (drop at s) .lists) ≡ map firstOf (w .lists)
@@ -30,11 +30,11 @@ going-all s o = record { numbers = refl; rest = refl; counts = refl; firsts = re
 going-more : (s : List ℕ) (w : Sheet) (o₀ : Out) (k : Kind) (ks : List Kind) (at : ℕ) (cs fs v : List ℕ) (i : ℕ) (v' : List ℕ) (r : Took) (f : ℕ)
     → Going s w o₀ (k ∷ ks) at (out v i) cs fs → TookIs s (taken k (k .most) (drop at s)) v i v' r → f ≡ firstOf (taken k (k .most) (drop at s) .bodies)
     → Going s w o₀ ks (r .at) (out v' (r .next)) (cs ++ (r .count ∷ [])) (fs ++ (f ∷ []))
-unfolding sheet flat
+unfolding sheet flatten
 going-more s w o₀ k ks at cs fs v i v' r f g x e =
     let t = taken k (k .most) (drop at s) in
     record {
-      numbers = rw (x .rest) (onward (out v i) (t .bodies) (flat (sheet ks (t .rest) .lists)) _ (x .numbers) refl ∙ g .numbers);
+      numbers = rw (x .rest) (onward (out v i) (t .bodies) (flatten (sheet ks (t .rest) .lists)) _ (x .numbers) refl ∙ g .numbers);
       rest = rw (x .rest) (g .rest);
       counts = rw (x .rest, x .count) (append-assoc cs (length (t .bodies) ∷ []) _ ∙ g .counts);
       firsts = rw (x .rest, e) (append-assoc fs (firstOf (t .bodies) ∷ []) _ ∙ g .firsts);
@@ -51,7 +51,7 @@ going-turn s w o₀ i at v n v' r counts firsts f k h hc hf g e x y =
 
 pub going-end : (s : List ℕ) (w : Sheet) (v₀ : List ℕ) (i at : ℕ) (v : List ℕ) (n : ℕ) (counts firsts : List ℕ) → length kinds ≤ i → length counts ≤ i → length firsts ≤ i → at ≤ length s
     → Going s w (out v₀ 0) (drop i kinds) at (out v n) (take i counts) (take i firsts) → ScannedIs w s v₀ v (record { end = at; outline = record { counts = counts; firsts = firsts } })
-unfolding sheet flat outline
+unfolding sheet flatten outline
 going-end s w v₀ i at v n counts firsts h hc hf l g =
     let g' = rw (drop-of-length-le kinds h, take-all i counts hc, take-all i firsts hf) at g in
     record {
@@ -72,22 +72,18 @@ taken-length k (suc m) bs = go (starts k bs) (taken-length k m (drop (k .body + 
     go true h = omega arith
     go false h = omega arith
 
-most-of : List Kind → ℕ
-most-of [] = 0
-most-of (k ∷ ks) = k .most + most-of ks
+flatten-length : (ks : List Kind) (bs : List ℕ) → length (flatten (sheet ks bs .lists)) ≤ total (map (λ (k : Kind). k .most) ks)
+unfolding sheet flatten total map
+flatten-length [] bs = omega arith
+flatten-length (k ∷ ks) bs = let t = taken k (k .most) bs in rw length-append (add-le-add (taken-length k (k .most) bs) (flatten-length ks (t .rest)))
 
-flat-length : (ks : List Kind) (bs : List ℕ) → length (flat (sheet ks bs .lists)) ≤ most-of ks
-unfolding sheet flat most-of
-flat-length [] bs = omega arith
-flat-length (k ∷ ks) bs = let t = taken k (k .most) bs in rw length-append (add-le-add (taken-length k (k .most) bs) (flat-length ks (t .rest)))
-
-pub numbers-fit : (s : List ℕ) → length (flat (sheet kinds s .lists)) ≤ maxRecords
-unfolding kinds most-of
-numbers-fit s = flat-length kinds s
+pub numbers-fit : (s : List ℕ) → length (flatten (sheet kinds s .lists)) ≤ maxRecords
+unfolding kinds total map
+numbers-fit s = flatten-length kinds s
 
 -- ---- the numbers of a file, cut again
 
-pub split-flat : (q : List (List ℕ)) (r : List ℕ) → split (map length q) (flat q ++ r) ≡ q
-unfolding split flat
-split-flat [] r = refl
-split-flat (vs ∷ q) r = rw (append-assoc vs (flat q) r, take-append-seam vs (flat q ++ r), drop-append-seam vs (flat q ++ r), split-flat q r)
+pub split-flatten : (q : List (List ℕ)) (r : List ℕ) → split (map length q) (flatten q ++ r) ≡ q
+unfolding split flatten
+split-flatten [] r = refl
+split-flatten (vs ∷ q) r = rw (append-assoc vs (flatten q) r, take-append-seam vs (flatten q ++ r), drop-append-seam vs (flatten q ++ r), split-flatten q r)

@@ -21,6 +21,10 @@ unfoldable pub linesText : ℕ → ℕ → List Float → List ℕ
 linesText c k [] = []
 linesText c k (x ∷ xs) = lineText (k / c) (k % c) x ++ linesText c (suc k) xs
 
+-- the number of a file that is no question
+abbrev pub malformedNumber : ℕ
+malformedNumber = 15
+
 -- refused with a number; or n rows of c columns, with their entries
 pub data Outcome : Type 0 where
   refused : ℕ → Outcome

@@ -1,7 +1,8 @@
--- What the reader's contracts cite: a value of the code, with the numbers that were filled, stands for what the definitions take. Definitions only.
+-- What only the contracts of inner functions cite: a value of the code, with the numbers that were filled, stands for what the definitions take.
+-- Definitions only.
 use mathlib.Core.Path.{_≡_}
 use mathlib.Core.Bool.{cond}
-use mathlib.Core.List.{List, [], _∷_, _++_}
+use mathlib.Core.List.{List, [], _∷_, flatten}
 use Prim.Native.Nat.{ℕ, _+_, _≤_}
 use lib.ListN.{length, take, drop}
 use lib.Ieee.{Float}
@@ -19,18 +20,13 @@ pub record TookIs (s : List ℕ) (t : Taken) (v : List ℕ) (i : ℕ) (v' : List
   pub rest : drop (r .at) s ≡ t .rest
   pub count : r .count ≡ length (t .bodies)
 
--- all bodies, kind after kind
-unfoldable pub flat : List (List ℕ) → List ℕ
-flat [] = []
-flat (vs ∷ q) = vs ++ flat q
-
 -- the buffer
 abbrev pub buffer : Out → List ℕ
 buffer (out v i) = v
 
 -- the file s was taken as f; its bodies went to the front of the numbers v, which became v'
 pub record ScannedIs (f : Sheet) (s v v' : List ℕ) (r : Scanned) : Type 0 where
-  pub numbers : v' ≡ buffer (write (out v 0) (flat (f .lists)))
+  pub numbers : v' ≡ buffer (write (out v 0) (flatten (f .lists)))
   pub within : r .end ≤ length s
   pub rest : drop (r .end) s ≡ f .rest
   pub outline-is : r .outline ≡ outline (f .lists)
@@ -49,7 +45,7 @@ pub record ReadIs (s v v' : List ℕ) (r : Parsed) : Type 0 where
   pub room : maxRecords ≡ length v'
   pub reading-is : reading r v' ≡ readPaper s
   pub outline-is : r .outline ≡ outline (sheet kinds s .lists)
-  pub numbers : v' ≡ buffer (write (out v 0) (flat (sheet kinds s .lists)))
+  pub numbers : v' ≡ buffer (write (out v 0) (flatten (sheet kinds s .lists)))
 
 -- how many numbers there are
 unfoldable pub total : List ℕ → ℕ

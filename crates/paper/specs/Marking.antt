@@ -20,11 +20,11 @@ use Rattle.estimators.specs.declared.Settings.{Settings}
 use Rattle.paper.specs.declared.rules.Outline.{Outline}
 use Rattle.paper.specs.Grammar.{kinds, placeIn}
 use Rattle.paper.specs.Rules.{outline, has, value, assets, periods, Reading, malformed, question, readPaper}
-use Rattle.paper.specs.Answer.{Outcome, refused, outcome, outcomeText}
+use Rattle.paper.specs.Answer.{malformedNumber, Outcome, refused, outcome, outcomeText}
 
 -- ---- the settings record
 
--- target byte 0 or 1
+-- of target byte 0 or 1
 unfoldable pub targetOf : ℕ → Target
 targetOf byte = cond (eqb byte 0) ConstantVariance ConstantCorrelation
 
@@ -86,7 +86,7 @@ abbrev pub floats : List (List ℕ) → ℕ → List Float
 floats q b = map float (getD q (placeIn kinds b) [])
 
 unfoldable pub examined : Reading → Outcome
-examined malformed = refused 15
+examined malformed = refused malformedNumber
 examined (question q) = answerOf (outline q) (floats q 2) (floats q 9)
 
 unfoldable pub marking : List ℕ → List ℕ

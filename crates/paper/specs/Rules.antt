@@ -6,7 +6,7 @@ use mathlib.Core.List.{List, [], _∷_, map}
 use lib.ListN.{length, getD}
 use lib.Dec.{leb, eqb}
 use Rattle.paper.specs.declared.rules.Outline.{Outline}
-use Rattle.paper.specs.Grammar.{fileAssets, filePeriods, kinds, placeIn, sheet}
+use Rattle.paper.specs.Grammar.{fileAssets, filePeriods, kinds, placeIn, Sheet, sheet}
 
 abbrev pub firstOf : List ℕ → ℕ
 firstOf vs = getD vs 0 0
@@ -53,9 +53,13 @@ shrinkages = 4 ∷ 5 ∷ []
 abbrev pub estimates : List ℕ
 estimates = 6 ∷ 7 ∷ 8 ∷ 9 ∷ []
 
+-- target byte 0 or 1
+abbrev pub isTarget : ℕ → Bool
+isTarget byte = leb byte 1
+
 -- at most one shrinkage and one estimate; a known target
 unfoldable pub settingsFit : Outline → Bool
-settingsFit o = leb (present o shrinkages) 1 && leb (present o estimates) 1 && leb (value o 5) 1
+settingsFit o = leb (present o shrinkages) 1 && leb (present o estimates) 1 && isTarget (value o 5)
 
 -- what question q takes: 0 covariance, a sweep limit only beside a given matrix; 1 weighted mean, the half-life and no other setting;
 -- 2 James-Stein and 3 Bayes-Stein, a sweep limit alone
@@ -76,5 +80,8 @@ pub data Reading : Type 0 where
   question : List (List ℕ) → Reading
 
 -- nothing is left over, and the rules are met
+unfoldable pub isQuestion : Sheet → Bool
+isQuestion s = eqb (length (s .rest)) 0 && wellFormed (outline (s .lists))
+
 unfoldable pub readPaper : List ℕ → Reading
-readPaper bs = let s = sheet kinds bs in cond (eqb (length (s .rest)) 0 && wellFormed (outline (s .lists))) (question (s .lists)) malformed
+readPaper bs = let s = sheet kinds bs in cond (isQuestion s) (question (s .lists)) malformed

@@ -21,6 +21,9 @@ use crate::reader::read;
 // Bytes that are always enough for what is printed, as `mark_whole` has it.
 pub const TEXT: usize = 8192;
 
+// The refusal of a file that is no question: the definitions' `malformedNumber`.
+const MALFORMED: u64 = 15;
+
 // Marks a question file: writes what is printed of it to the front of `out`, and answers how many bytes that is.
 // An `out` that is too short takes the text's beginning.
 pub fn mark(paper: &[u8], out: &mut [u8]) -> usize
@@ -34,7 +37,7 @@ pub fn mark(paper: &[u8], out: &mut [u8]) -> usize
     if ok {
         examine(outline, &numbers, out)
     } else {
-        put_refused(15, out, 0)
+        put_refused(MALFORMED, out, 0)
     }
 }
 

@@ -1,4 +1,4 @@
--- The decomposition with C linkage: its number, and what the slices lent to it hold after the call. Definitions only.
+-- What only the contracts of the C interface cite: the number of a decomposition, and what the slices lent to it hold after the call. Definitions only.
 use Prim.Native.Nat.{ℕ, _*_}
 use mathlib.Core.Bool.{Bool, true, false, not, cond, _&&_}
 use mathlib.Core.List.{List, [], _∷_}

@@ -1,2 +1,2 @@
--- The decomposition with C linkage: what it leaves in the numbers and slices lent to it.
+-- What only the contracts of the C interface cite: what the decomposition leaves in the numbers and slices lent to it.
 pub mod Jacobi

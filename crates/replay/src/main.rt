@@ -8,7 +8,7 @@ mod report;
 // The first number says how many answers follow.
 fn main() {
     let most = input::whole();
-    let mut counts = [0u64; 16];
+    let mut counts = [0u64; report::PLACES];
     let mut different = 0u64;
     let mut i = 0;
     while i < most {

@@ -2,14 +2,20 @@
 ghost use Prim.Native.Nat.{_<_};
 use libc::STDOUT_FILENO;
 
-// The last place is for all numbers that are no refusal of a call.
+// A place for answers, one for each refusal of a call, and the last for all other numbers.
+pub(crate) const PLACES: usize = 16;
+
 fn place(number: u32) -> usize
     ensures { λ r. ⌜ r < 16 ⌝ }
 {
-    if number < 15 { number as usize } else { 15 }
+    if number < PLACES as u32 - 1 {
+        number as usize
+    } else {
+        PLACES - 1
+    }
 }
 
-pub(crate) fn count(counts: &mut [u64; 16], number: u32) {
+pub(crate) fn count(counts: &mut [u64; PLACES], number: u32) {
     let k = place(number);
     counts[k] = std::num::wrapping_add_u64(counts[k], 1);
 }
@@ -26,10 +32,10 @@ fn refusal(number: u64, count: u64) {
     line(b": ", count);
 }
 
-pub(crate) fn print(counts: &[u64; 16], different: u64) {
+pub(crate) fn print(counts: &[u64; PLACES], different: u64) {
     line(b"accepted: ", counts[0]);
     let mut i = 1usize;
-    while i < 16 {
+    while i < PLACES {
         refusal(i as u64, counts[i]);
         i += 1;
     }

@@ -17,7 +17,7 @@ fn mark(paper: &[u8]) {
 // Stops where a paper is not there whole.
 fn mark_all(papers: &[u8]) {
     let mut at = 0;
-    while papers.len() - at > 2 {
+    while papers.len() - at >= 2 {
         let length = wide(papers[at]) + 256 * wide(papers[at + 1]);
         let from = at + 2;
         if length > papers.len() - from {

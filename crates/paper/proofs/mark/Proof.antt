@@ -1,4 +1,4 @@
--- `paper::mark` meets its contract: what was read is examined, or refused with 15.
+-- `paper::mark` meets its contract: what was read is examined, or refused as malformed.
 use mathlib.Core.Path.{ap, _∙_}
 use borrow.Author.Needs.{needs}
 use Rattle.paper.specs.Text.{write}

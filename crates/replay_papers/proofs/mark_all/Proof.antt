@@ -1,4 +1,4 @@
--- `replay_papers::mark_all` meets its contract: the place stays within the papers, and each turn brings it on by at least two bytes.
+-- `replay_papers::mark_all` is safe and ends: the place stays within the papers, and each turn brings it on by at least two bytes.
 use Prim.Native.Nat.{_-_, _≤_}
 use lib.ListN.{length}
 use borrow.Author.Needs.{needs}

@@ -3,7 +3,7 @@ use mathlib.Core.Path.{_≡_, ap, _∙_}
 use mathlib.Core.List.{List, []}
 use Prim.Native.Nat.{ℕ}
 use borrow.Author.Needs.{needs}
-use borrow.Author.Tests.{lt-ltb, le-ltb}
+use borrow.Author.Tests.{le-leb, lt-leb}
 use lib.Ieee.{Float, ofBits}
 use Rattle.estimators.specs.Calls.{answered, ledoitWolfIntensity}
 use Rattle.estimators.specs.declared.Target.{Target}
@@ -26,7 +26,7 @@ returns : tie.Need-returns
 unfolding engineLedoitWolf ofBits
 returns c =
     let b = c .before .before .before in
-    ap (λ (l : Left). l .report) (tells-unknown (c .hand-out .ensures) {old = []} _ (le-ltb _ _ (b .before .if1 .taken)) (b .reported .ensures))
+    ap (λ (l : Left). l .report) (tells-unknown (c .hand-out .ensures) {old = []} _ (lt-leb _ _ (b .before .if1 .taken)) (b .reported .ensures))
 
 target-requires : tie.Need-target-requires
 target-requires c κs = search needs
@@ -46,7 +46,7 @@ returns-2 c =
     let told = c .before .before .before in
     let call = told .before in
     let a = call .before .before .before .before .args in
-    let known = lt-ltb _ _ (call .before .before .if1 .left) in
+    let known = le-leb _ _ (call .before .before .if1 .left) in
     ap (λ (l : Left). l .report) (tells-known (c .hand-out2 .ensures) [] known (told .report-of .ensures) (with-target (a .returns .now) (a .assets) (a .periods) (call .ledoit-wolf .ensures) (call .before .target .ensures)))
 
 pub engine-ledoit-wolf-spec : {M : Type 1} → statement M

@@ -1,7 +1,7 @@
 -- `estimators::adjusted::adjust` meets its contract: `regularize` after `shrink`, in arrays of the largest size.
 use mathlib.Core.Path.{sym}
-use native.Mathlib.Nat.{mul-le-mul}
 use lib.Seq.{length-take-le}
+use Rattle.matrix.proofs.Counts.{square-most}
 use Rattle.estimators.specs.Adjusted.{adjusted}
 use borrow.Author.Needs.{needs}
 use Rattle.estimators.proofs.adjusted.adjust.Statement.{statement}
@@ -20,13 +20,13 @@ shrink-requires : tie.Need-shrink-requires
 shrink-requires c κs = let p = c .before .before .before .before .pre in (p .0, p .1, p .2, length-take-le _ _ (p .1), p .3)
 
 array-borrow-prefix-unit : tie.Need-array-borrow-prefix-unit
-array-borrow-prefix-unit c = mul-le-mul (c .before .before .before .before .before .before .before .before .pre .1) (c .before .before .before .before .before .before .before .before .pre .1)
+array-borrow-prefix-unit c = square-most (c .before .before .before .before .before .before .before .before .pre .1)
 
 slice-aggregate-regularize : tie.Need-slice-aggregate-regularize
-slice-aggregate-regularize c = sym (length-take-le _ _ (mul-le-mul (c .before .before .before .before .before .before .before .before .before .pre .1) (c .before .before .before .before .before .before .before .before .before .pre .1)))
+slice-aggregate-regularize c = sym (length-take-le _ _ (square-most (c .before .before .before .before .before .before .before .before .before .pre .1)))
 
 regularize-requires : tie.Need-regularize-requires
-regularize-requires c κs = (length-take-le _ _ (mul-le-mul (c .before .before .before .before .before .before .before .before .before .before .pre .1) (c .before .before .before .before .before .before .before .before .before .before .pre .1)), search needs)
+regularize-requires c κs = (length-take-le _ _ (square-most (c .before .before .before .before .before .before .before .before .before .before .pre .1)), search needs)
 
 same-length : tie.Need-same-length
 same-length c = search needs

@@ -1,6 +1,6 @@
 -- `estimators::adjusted::shrink` meets its contract, by the cases of the shrinkage and its target.
-use mathlib.Core.Path.{refl, _∙_}
-use Rattle.matrix.proofs.Stored.{rows-is}
+use mathlib.Core.Path.{_∙_}
+use Rattle.matrix.proofs.Stored.{whole}
 use Rattle.estimators.specs.Adjusted.{shrunk}
 use borrow.Author.Needs.{needs}
 use Rattle.estimators.proofs.adjusted.shrink.Statement.{statement}
@@ -38,7 +38,7 @@ same-length c = search needs
 
 returns : tie.Need-returns
 unfolding shrunk
-returns c = rw (c .before .before .before .before .enum-told .given .1) (c .before .before .copy .ensures ∙ rows-is _ _ _ (c .before .before .before .before .before .before .before .before .before .pre .2) (λ i j hi hj. refl))
+returns c = rw (c .before .before .before .before .enum-told .given .1) (c .before .before .copy .ensures ∙ whole _ _ (c .before .before .before .before .before .before .before .before .before .pre .2))
 
 same-length-2 : tie.Need-same-length-2
 same-length-2 c = search needs

@@ -1,9 +1,9 @@
 -- `estimators::base::put_base` meets its contract, by the cases of the estimate.
-use mathlib.Core.Path.{refl, sym, ap, _∙_}
+use mathlib.Core.Path.{sym, ap, _∙_}
 use lib.ListN.{length}
 use lib.Ieee.{Float}
 use Rattle.matrix.specs.Matrix.{at, rows}
-use Rattle.matrix.proofs.Stored.{length-rows, rows-is}
+use Rattle.matrix.proofs.Stored.{length-rows, whole}
 use Rattle.estimators.specs.Weighted.{weightedCovariance}
 use Rattle.estimators.specs.Adjusted.{base}
 use borrow.Author.Needs.{needs}
@@ -14,13 +14,13 @@ enum-told : tie.Need-enum-told
 enum-told c = search needs
 
 copy-requires : tie.Need-copy-requires
-copy-requires c κs = let h = c .before .before .before .before .before .before .before .pre in ap length (h .5) ∙ length-rows _ _ _ ∙ sym (h .7)
+copy-requires c κs = let h = c .before .before .before .before .before .before .before .pre in ap length (h .4) ∙ length-rows _ _ _ ∙ sym (h .6)
 
 enum-told-2 : tie.Need-enum-told-2
 enum-told-2 c = search needs
 
 copy-requires-2 : tie.Need-copy-requires-2
-copy-requires-2 c κs = let h = c .before .before .before .before .before .before .before .pre in h .6 ∙ sym (h .7)
+copy-requires-2 c κs = let h = c .before .before .before .before .before .before .before .pre in h .5 ∙ sym (h .6)
 
 enum-known-estimate : tie.Need-enum-known-estimate
 enum-known-estimate c = search needs
@@ -29,33 +29,33 @@ log-decay-requires : tie.Need-log-decay-requires
 log-decay-requires c κs = search needs
 
 covariance-requires : tie.Need-covariance-requires
-covariance-requires c κs = let h = c .before .before .before .before .before .before .before .before .before .pre in (h .0, h .1, h .2, h .3, h .4, h .7)
+covariance-requires c κs = let h = c .before .before .before .before .before .before .before .before .before .pre in (h .0, h .1, h .2, h .3, h .6)
 
 enum-told-3 : tie.Need-enum-told-3
 enum-told-3 c = search needs
 
 semicovariance-requires : tie.Need-semicovariance-requires
-semicovariance-requires c κs = let h = c .before .before .before .before .before .before .before .pre in (h .0, h .2, h .3, h .7)
+semicovariance-requires c κs = let h = c .before .before .before .before .before .before .before .pre in (h .0, h .1, h .2, h .6)
 
 enum-known-estimate-2 : tie.Need-enum-known-estimate-2
 enum-known-estimate-2 c = search needs
 
 semicovariance-below-requires : tie.Need-semicovariance-below-requires
-semicovariance-below-requires c κs = let h = c .before .before .before .before .before .before .before .before .pre in (h .0, h .2, h .7)
+semicovariance-below-requires c κs = let h = c .before .before .before .before .before .before .before .before .pre in (h .0, h .1, h .6)
 
 same-length : tie.Need-same-length
 same-length c = search needs
 
 returns : tie.Need-returns
 unfolding base
-returns c = rw (c .before .before .before .before .enum-told .given .1) (c .before .before .copy .ensures ∙ c .before .before .before .before .before .before .before .before .before .before .pre .5)
+returns c = rw (c .before .before .before .before .enum-told .given .1) (c .before .before .copy .ensures ∙ c .before .before .before .before .before .before .before .before .before .before .pre .4)
 
 same-length-2 : tie.Need-same-length-2
 same-length-2 c = search needs
 
 returns-2 : tie.Need-returns-2
 unfolding base
-returns-2 c = rw (c .before .before .before .before .enum-told2 .given .1) (c .before .before .copy2 .ensures ∙ rows-is _ _ _ (c .before .before .before .before .before .before .before .before .before .before .pre .6) (λ i j hi hj. refl))
+returns-2 c = rw (c .before .before .before .before .enum-told2 .given .1) (c .before .before .copy2 .ensures ∙ whole _ _ (c .before .before .before .before .before .before .before .before .before .before .pre .5))
 
 same-length-3 : tie.Need-same-length-3
 same-length-3 c = search needs

@@ -2,25 +2,21 @@
 use mathlib.Core.Path.{_≡_, _∙_}
 use mathlib.Core.Bool.{not}
 use mathlib.Core.List.{List, [], _∷_}
-use Prim.Native.Nat.{ℕ, _<_}
+use Prim.Native.Nat.{ℕ}
 use lib.Ieee.{Float}
 use borrow.Author.Needs.{needs}
-use Rattle.leaves.specs.Numbers.{_⊘_}
 use Rattle.leaves.specs.Loops.{tab, nth}
 use Rattle.matrix.specs.Matrix.{Matrix, at, rows}
 use Rattle.matrix.proofs.Stored.{rows-ext}
-use Rattle.estimators.specs.Sample.{volatility, correlation}
+use Rattle.estimators.specs.Sample.{volatility, correlationBy, correlation}
 use Rattle.estimators.specs.Refusals.{when, first}
 use Rattle.estimators.specs.declared.Refusal.the-variants.{Singular}
-use Rattle.estimators.proofs.Stored.{nth-stored}
+use Rattle.estimators.proofs.Entries.{correlation-stored}
 use Rattle.estimators.proofs.bayes_stein.correlate.Statement.{statement}
 use Rattle.estimators.proofs.bayes_stein.correlate.Tie as tie
 
-correlated : (n : ℕ) (Σ : Matrix) (v out : List Float) → v ≡ tab n (volatility Σ) → out ≡ rows n n (λ i j. Σ i j ⊘ nth v i ⊘ nth v j) → out ≡ rows n n (correlation Σ)
-correlated n Σ v out ev eo = eo ∙ rows-ext n n (λ i j. Σ i j ⊘ nth v i ⊘ nth v j) (correlation Σ) (λ i j hi hj t. Σ i j ⊘ root i hi t ⊘ root j hj t)
-  where
-    root : (i : ℕ) → i < n → nth v i ≡ volatility Σ i
-    root i h = nth-stored n (volatility Σ) ev i h
+correlated : (n : ℕ) (Σ : Matrix) (v out : List Float) → v ≡ tab n (volatility Σ) → out ≡ rows n n (correlationBy (nth v) Σ) → out ≡ rows n n (correlation Σ)
+correlated n Σ v out ev eo = eo ∙ rows-ext n n (correlationBy (nth v) Σ) (correlation Σ) (correlation-stored n Σ ev)
 
 put-volatilities-requires : tie.Need-put-volatilities-requires
 put-volatilities-requires c κs = search needs

@@ -4,14 +4,14 @@ use mathlib.Core.List.{List}
 use Prim.Native.Nat.{ℕ, _<_}
 use native.Mathlib.Omega.{arith}
 use lib.IntN.{ℤ, pos, negℤ}
-use lib.ListN.{getD}
 use lib.Ieee.{Float}
 use borrow.Author.Needs.{needs}
 use Rattle.leaves.specs.Numbers.{_⊘_, one}
 use Rattle.leaves.specs.Loops.{nth}
-use Rattle.leaves.specs.Root.{sqrt}
 use Rattle.matrix.specs.Matrix.{Matrix}
 use Rattle.matrix.specs.Jacobi.{Decomposition}
+use Rattle.estimators.specs.Exponents.{exponentAt}
+use Rattle.estimators.specs.Sample.{volatility}
 use Rattle.estimators.specs.BayesStein.{Pull, bayesSteinPull, ratioOf, distanceOf, pulledBy}
 use Rattle.estimators.specs.Gather.{Gathered}
 use Rattle.estimators.proofs.Stored.{nth-stored}
@@ -21,7 +21,7 @@ use Rattle.estimators.proofs.bayes_stein.pull_in.Statement.{statement}
 use Rattle.estimators.proofs.bayes_stein.pull_in.Tie as tie
 
 steps : (n : ℕ) (T : Float) (μ : ℕ → Float) (Σ : Matrix) (e : ℕ → ℤ) (d : Decomposition) (a b : ℤ) (ones scaled : List Float) (r s : Float) (w : Pull)
-    → Gathered n (λ i. one ⊘ sqrt (Σ i i)) (λ i. negℤ (e i)) a ones → Gathered n (λ i. μ i ⊘ sqrt (Σ i i)) (λ i. pos 0) b scaled
+    → Gathered n (λ i. one ⊘ volatility Σ i) (λ i. negℤ (e i)) a ones → Gathered n (λ i. μ i ⊘ volatility Σ i) (λ i. pos 0) b scaled
     → r ≡ ratioOf n d ones scaled → s ≡ distanceOf n d ones scaled r → w ≡ pulledBy n T r s a b → w ≡ bayesSteinPull n T μ Σ e d
 unfolding bayesSteinPull
 steps n T μ Σ e d a b ones scaled r s w A B is-r is-s is-w = rw (is-w, is-s, is-r, A .numbers, B .numbers, A .power, B .power)
@@ -63,8 +63,8 @@ returns c Σ d is-v is-values is-vectors =
     let a = s .args in
     let ra = read (A .gather-ones .result) (omega (arith, A .gather-ones .ensures .size)) in
     let rb = read (B .gather-means .result) (omega (arith, B .gather-means .ensures .size)) in
-    let root : (i : ℕ) → i < a .n → nth (a .volatilities .now) i ≡ sqrt (Σ i i) = λ i h. nth-stored (a .n) (λ i. sqrt (Σ i i)) is-v i h in
-    steps (a .n) (a .periods) (nth (a .means .now)) Σ (λ i. getD (a .exponents .now) i (pos 0)) d (A .gather-ones .result) (B .gather-means .result) _ _ (R .ratio .result) (D .distance .result) _
+    let root : (i : ℕ) → i < a .n → nth (a .volatilities .now) i ≡ volatility Σ i = λ i h. nth-stored (a .n) (volatility Σ) is-v i h in
+    steps (a .n) (a .periods) (nth (a .means .now)) Σ (exponentAt (a .exponents .now)) d (A .gather-ones .result) (B .gather-means .result) _ _ (R .ratio .result) (D .distance .result) _
     (gathered-as (λ i h. ap (λ (x : Float). one ⊘ x) (root i h)) (λ i h. refl) (A .gather-ones .ensures))
     (gathered-as (λ i h. ap (λ (x : Float). nth (a .means .now) i ⊘ x) (root i h)) (λ i h. refl) (B .gather-means .ensures))
     (R .ratio .ensures d is-values is-vectors)

@@ -2,6 +2,7 @@
 use mathlib.Core.Path.{sym}
 use Prim.Native.Nat.{_-_, _*_, _/_, _%_}
 use native.Mathlib.Omega.{arith}
+use Rattle.estimators.specs.Sample.{correlationBy}
 use borrow.Author.Needs.{needs}
 use Rattle.leaves.specs.Numbers.{_⊘_}
 use Rattle.leaves.specs.Loops.{nth}
@@ -14,7 +15,7 @@ use Rattle.estimators.proofs.bayes_stein.put_correlations.Statement.{st
 use Rattle.estimators.proofs.bayes_stein.put_correlations.Tie as tie
 
 abbrev Inv-loop : tie.InvT-loop
-Inv-loop covariance volatilities n out₀ size k₀ out k = Filled (λ k. at covariance n (k / n) (k % n) ⊘ nth volatilities (k / n) ⊘ nth volatilities (k % n)) k (n * n) out₀ out
+Inv-loop covariance volatilities n out₀ size k₀ out k = Filled (λ k. correlationBy (nth volatilities) (at covariance n) (k / n) (k % n)) k (n * n) out₀ out
 
 abbrev μ-loop : tie.MeasureT-loop
 μ-loop covariance volatilities n out₀ size k₀ out k = n * n - k
@@ -35,19 +36,19 @@ div-out : tie.Need-div-out Inv-loop μ-loop
 div-out c = side _ _ (c .before .loop-test .taken)
 
 mul-out-2 : tie.Need-mul-out-2 Inv-loop μ-loop
-mul-out-2 c = omega (arith, row-below _ _ (c .before .loop-test .taken))
+mul-out-2 c = omega (arith, row-below _ _ _ (c .before .loop-test .taken))
 
 shared-slice-read-out-2 : tie.Need-shared-slice-read-out-2 Inv-loop μ-loop
-shared-slice-read-out-2 c = omega (arith, row-below _ _ (c .before .before .loop-test .taken))
+shared-slice-read-out-2 c = omega (arith, row-below _ _ _ (c .before .before .loop-test .taken))
 
 rem-out : tie.Need-rem-out Inv-loop μ-loop
 rem-out c = side _ _ (c .before .before .loop-test .taken)
 
 mul-out-3 : tie.Need-mul-out-3 Inv-loop μ-loop
-mul-out-3 c = omega (arith, col-below _ _ (c .before .before .loop-test .taken))
+mul-out-3 c = omega (arith, col-below _ _ _ (c .before .before .loop-test .taken))
 
 shared-slice-read-out-3 : tie.Need-shared-slice-read-out-3 Inv-loop μ-loop
-shared-slice-read-out-3 c = omega (arith, col-below _ _ (c .before .before .before .loop-test .taken))
+shared-slice-read-out-3 c = omega (arith, col-below _ _ _ (c .before .before .before .loop-test .taken))
 
 mul-out-4 : tie.Need-mul-out-4 Inv-loop μ-loop
 mul-out-4 c = search needs
@@ -72,7 +73,7 @@ same-length : tie.Need-same-length Inv-loop μ-loop
 same-length c = c .before .loop .inv .len
 
 returns : tie.Need-returns Inv-loop μ-loop
-returns c = let a = c .before .before .args in filled-rows (λ i j. at (a .covariance .now) (a .n) i j ⊘ nth (a .volatilities .now) i ⊘ nth (a .volatilities .now) j) (a .n) (c .before .loop .inv) (c .loop-test .left) (search needs)
+returns c = let a = c .before .before .args in filled-rows (correlationBy (nth (a .volatilities .now)) (at (a .covariance .now) (a .n))) (a .n) (c .before .loop .inv) (c .loop-test .left) (search needs)
 
 pub put-correlations-spec : {M : Type 1} → statement M
 put-correlations-spec = tie.close (tie.spec Inv-loop μ-loop mul-size loop-holds mul-out shared-slice-read-out div-out mul-out-2 shared-slice-read-out-2 rem-out mul-out-3 shared-slice-read-out-3 mul-out-4 slice-write-out add-k loop-less loop-again same-length returns)

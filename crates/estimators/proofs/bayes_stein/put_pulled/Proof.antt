@@ -2,14 +2,15 @@
 use mathlib.Core.Path.{refl, ap, _∙_}
 use Prim.Native.Nat.{_-_}
 use native.Mathlib.Omega.{arith}
-use lib.IntN.{ℤ, pos}
-use lib.ListN.{length, getD}
+use lib.IntN.{ℤ}
+use lib.ListN.{length}
 use lib.Ieee.{Float, ofBits}
 use borrow.Author.Needs.{needs}
 use Rattle.leaves.specs.Numbers.{_⊕_, _⊖_, _⊗_, one}
 use Rattle.leaves.specs.Loops.{nth}
 use Rattle.leaves.proofs.Invariants.{Filled, filled-more, filled-whole, filled-none}
 use Rattle.leaves.specs.Scaling.{pow2Scaled}
+use Rattle.estimators.specs.Exponents.{exponentAt}
 use Rattle.estimators.specs.BayesStein.{pulled}
 use Rattle.estimators.specs.Stein.{pullOf}
 use Rattle.estimators.proofs.Exponents.{read}
@@ -17,7 +18,7 @@ use Rattle.estimators.proofs.bayes_stein.put_pulled.Statement.{statemen
 use Rattle.estimators.proofs.bayes_stein.put_pulled.Tie as tie
 
 abbrev Inv-loop : tie.InvT-loop
-Inv-loop means exponents intensity target out₀ i₀ out i = Filled (λ i. pulled (pullOf intensity target) (nth means i) (getD exponents i (pos 0))) i (length out₀) out₀ out
+Inv-loop means exponents intensity target out₀ i₀ out i = Filled (λ i. pulled (pullOf intensity target) (nth means i) (exponentAt exponents i)) i (length out₀) out₀ out
 
 abbrev μ-loop : tie.MeasureT-loop
 μ-loop means exponents intensity target out₀ i₀ out i = length out₀ - i
@@ -58,7 +59,7 @@ loop-again c =
     let s = c .before .before .before .before .before .before .before in
     let l = c .before .before .before .before .loop in
     let a = s .args in
-    let k = read (getD (a .exponents .now) (l .i) (pos 0)) (omega (arith, s .pre .2 (l .i) (omega arith))) in
+    let k = read (exponentAt (a .exponents .now) (l .i)) (omega (arith, s .pre .2 (l .i) (omega arith))) in
     filled-more (l .inv) (omega arith) (omega arith) (ap (λ (x : Float). x ⊕ a .intensity ⊗ a .target) (c .pow2-scaled .ensures ∙ ap (λ (z : ℤ). pow2Scaled ((one ⊖ a .intensity) ⊗ nth (a .means .now) (l .i)) z) k))
 
 same-length : tie.Need-same-length Inv-loop μ-loop

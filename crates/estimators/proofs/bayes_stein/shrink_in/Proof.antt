@@ -1,29 +1,31 @@
 -- `estimators::bayes_stein::shrink_in` meets its contract: each return is the case of `settle` that the checks leave.
 use mathlib.Core.Path.{_≡_, sym, ap, _∙_}
-use mathlib.Core.List.{List, _∷_, _++_}
+use mathlib.Core.List.{List, _∷_}
 use Prim.Native.Nat.{ℕ}
-use lib.IntN.{ℤ, pos}
-use lib.ListN.{length, getD}
+use lib.IntN.{ℤ}
+use lib.ListN.{length}
 use lib.Ieee.{Float}
 use borrow.Author.Needs.{needs}
 use Rattle.leaves.specs.Loops.{tab, nth}
 use Rattle.leaves.proofs.Loops.{length-tab}
 use Rattle.matrix.specs.Matrix.{at, rows}
 use Rattle.matrix.specs.Jacobi.{Decomposition, decompose}
+use Rattle.estimators.specs.Exponents.{exponentAt}
 use Rattle.estimators.specs.Sample.{volatility, correlation}
 use Rattle.estimators.specs.Refusals as Refusals
 use Rattle.estimators.specs.Refusals.{first}
 use Rattle.estimators.specs.BayesStein.{Pull, bayesSteinPull, pulled}
 use Rattle.estimators.specs.Checks.{checked}
-use Rattle.estimators.specs.Held.{momentsOf}
+use Rattle.estimators.specs.Moments.{momentsOf}
 use Rattle.estimators.specs.Calls.{Answered, answered, settle}
 use Rattle.estimators.specs.Stein.{pullOf, Pulls, bayesSteinOf}
-use Rattle.estimators.specs.Order.{byCorrelations, byDecomposition}
+use Rattle.estimators.specs.Order.{byCorrelations, byDecomposition, ofCorrelations}
 use Rattle.estimators.specs.declared.Refusal.{Refusal}
 use Rattle.estimators.specs.declared.Answer.the-variants.{Refused, Shrunk}
 use Rattle.estimators.specs.declared.checks.Check.{Check}
 use Rattle.estimators.specs.declared.checks.Check.the-variants.{Passes, Refuses}
-use Rattle.estimators.proofs.Firsts.{first-front}
+use Rattle.estimators.proofs.Firsts.{first-then}
+use Rattle.estimators.proofs.Opened.{settle-refused, settle-accepted}
 use Rattle.estimators.proofs.bayes_stein.shrink_in.Statement.{statement}
 use Rattle.estimators.proofs.bayes_stein.shrink_in.Tie as tie
 
@@ -31,7 +33,7 @@ use Rattle.estimators.proofs.bayes_stein.shrink_in.Tie as tie
 module _ (n limit : ℕ) (μ Σ : List Float) (T : Float) (es : List ℤ) (size : ℕ → Float) (slice v C : List Float) (constant : Check)
     (is-v : v ≡ tab n (volatility (at Σ n))) (is-C : C ≡ rows n n (correlation (at Σ n))) (is-constant : checked constant ≡ first (byCorrelations n size (at Σ n) (at C n))) where
   abbrev e : ℕ → ℤ
-  e i = getD es i (pos 0)
+  e = exponentAt es
 
   abbrev outcome : Pull → ℕ → ℕ → Answered
   outcome w sweeps rotations = answered (Shrunk (w .intensity) (w .target) sweeps rotations) (tab n (λ i. pulled w (nth μ i) (e i)))
@@ -40,7 +42,7 @@ module _ (n limit : ℕ) (μ Σ : List Float) (T : Float) (es : List ℤ) (size 
   accepts C = let d = decompose limit n (at C n) in outcome (bayesSteinPull n T (nth μ) (at Σ n) e d) (d .sweeps) (d .rotations)
 
   abbrev checks : List Float → List Refusals.Check
-  checks C = byCorrelations n size (at Σ n) (at C n) ++ byDecomposition n (decompose limit n (at C n))
+  checks C = ofCorrelations n size (at Σ n) (at C n) (decompose limit n (at C n))
 
   abbrev Answers : Answered → Type 0
   Answers a = a ≡ bayesSteinOf n limit (momentsOf μ Σ T) e size slice
@@ -51,11 +53,11 @@ module _ (n limit : ℕ) (μ Σ : List Float) (T : Float) (es : List ℤ) (size 
 
   -- the first check, with the others after it
   front : first (checked constant ∷ byDecomposition n (decompose limit n (at C n))) ≡ first (checks C)
-  front = (λ t. first (is-constant t ∷ byDecomposition n (decompose limit n (at C n)))) ∙ sym (first-front (byCorrelations n size (at Σ n) (at C n)) (byDecomposition n (decompose limit n (at C n))))
+  front = first-then (byCorrelations n size (at Σ n) (at C n)) (byDecomposition n (decompose limit n (at C n))) is-constant
 
   refused : {c : Refusal} → constant ≡ Refuses c → Answers (answered (Refused c) slice)
-  unfolding first settle
-  refused h = (λ t. settle (first (checked (sym h t) ∷ byDecomposition n (decompose limit n (at C n)))) slice (accepts C)) ∙ (λ t. settle (front t) slice (accepts C)) ∙ stored
+  unfolding first
+  refused h = settle-refused slice (accepts C) ((λ t. first (checked (sym h t) ∷ byDecomposition n (decompose limit n (at C n)))) ∙ front) ∙ stored
 
   -- d is the decomposition found
   module _ (h : constant ≡ Passes) (d : Decomposition) (is-d : d ≡ decompose limit n (at C n)) (singular : Check) (is-singular : checked singular ≡ first (byDecomposition n d)) where
@@ -64,17 +66,14 @@ module _ (n limit : ℕ) (μ Σ : List Float) (T : Float) (es : List ℤ) (size 
     back = is-singular ∙ (λ t. first (checked (sym h t) ∷ byDecomposition n (is-d t))) ∙ front
 
     singular-refused : {c : Refusal} → singular ≡ Refuses c → Answers (answered (Refused c) slice)
-    unfolding settle
-    singular-refused g = (λ t. settle (checked (sym g t)) slice (accepts C)) ∙ (λ t. settle (back t) slice (accepts C)) ∙ stored
+    singular-refused g = settle-refused slice (accepts C) (ap checked (sym g) ∙ back) ∙ stored
 
     accepted : singular ≡ Passes → (α μ₀ : Float) (out : List Float) → Pulls n μ v es T (d .values) (d .vectors) α μ₀ → out ≡ tab n (λ i. pulled (pullOf α μ₀) (nth μ i) (e i))
         → Answers (answered (Shrunk α μ₀ (d .sweeps) (d .rotations)) out)
-    unfolding settle
     accepted g α μ₀ out pulls is-out =
         let w = pulls (at Σ n) (decompose limit n (at C n)) is-v (λ t. sym is-d t .values) (λ t. sym is-d t .vectors) in
-        (λ t. settle (checked (sym g t)) slice (answered (Shrunk α μ₀ (d .sweeps) (d .rotations)) (is-out t)))
-        ∙ (λ t. settle (back t) slice (outcome (w t) (is-d t .sweeps) (is-d t .rotations)))
-        ∙ stored
+        (λ t. answered (Shrunk α μ₀ (d .sweeps) (d .rotations)) (is-out t)) ∙ (λ t. outcome (w t) (is-d t .sweeps) (is-d t .rotations))
+        ∙ settle-accepted slice (accepts C) (ap checked (sym g) ∙ back) ∙ stored
 
 correlate-requires : tie.Need-correlate-requires
 correlate-requires c κs = search needs

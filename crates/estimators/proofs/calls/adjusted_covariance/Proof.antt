@@ -3,8 +3,8 @@ use mathlib.Core.Path.{sym, ap, _∙_}
 use lib.ListN.{length}
 use lib.Seq.{length-take-le}
 use Prim.Native.Nat.{_*_}
-use native.Mathlib.Nat.{mul-le-mul}
 use mir.Facts.{fits-below}
+use Rattle.matrix.proofs.Counts.{square-most}
 use Rattle.estimators.specs.Order.{opening, ofGiven, ofSettings, adjustedOrder}
 use Rattle.estimators.specs.Checks.{checked}
 use Rattle.estimators.specs.Calls.{adjustedCovariance}
@@ -30,7 +30,7 @@ enum-told : tie.Need-enum-told
 enum-told c = search needs
 
 mul-size : tie.Need-mul-size
-mul-size c = let a = c .before .before .before .before .before .before .args in let shape = shape-passes (length (a .returns .now)) (a .n) (a .periods) (a .n * a .n) (length (a .answer .now)) (ap checked (c .enum-told .given .1)) (c .before .before .check-shape .ensures) .0 in fits-below tt (mul-le-mul (shape .1) (shape .1))
+mul-size c = let a = c .before .before .before .before .before .before .args in let shape = shape-passes (length (a .returns .now)) (a .n) (a .periods) (a .n * a .n) (length (a .answer .now)) (ap checked (c .enum-told .given .1)) (c .before .before .check-shape .ensures) .0 in fits-below tt (square-most (shape .1))
 
 slice-relend-prefix-adjusted-covariance : tie.Need-slice-relend-prefix-adjusted-covariance
 slice-relend-prefix-adjusted-covariance c = let a = c .before .before .before .before .before .before .args in shape-passes (length (a .returns .now)) (a .n) (a .periods) (a .n * a .n) (length (a .answer .now)) (ap checked (c .enum-told .given .1)) (c .before .before .check-shape .ensures) .1

@@ -3,7 +3,8 @@ use mathlib.Core.Path.{sym, _∙_}
 use native.Mathlib.Omega.{arith}
 use lib.Seq.{length-take-le}
 use Rattle.leaves.specs.Numbers.{_⊕_}
-use Rattle.estimators.proofs.Passes.{period-passed}
+use Rattle.leaves.specs.Loops.{nth}
+use Rattle.estimators.proofs.Stored.{tab-then}
 use borrow.Author.Needs.{needs}
 use Rattle.estimators.proofs.columns.add_period.Statement.{statement}
 use Rattle.estimators.proofs.columns.add_period.Tie as tie
@@ -33,7 +34,7 @@ returns c =
     let f = p .before .before .before .before .before in
     let a = f .before .before .before .before .before .before .before .before .args in
     let h = f .before .before .before .before .before .before .before .before .pre in
-    p .add .ensures ∙ period-passed (λ v x. v ⊕ x) _ _ _ (a .out .now) _ (h .4) (f .form .ensures)
+    p .add .ensures ∙ tab-then _ _ _ (λ k x. nth (a .out .now) k ⊕ x) (h .4) (f .form .ensures)
 
 pub add-period-spec : {M : Type 1} → statement M
 add-period-spec = tie.close (tie.spec array-borrow-prefix-buffer slice-aggregate-d form-requires add-requires same-length returns)

@@ -1,8 +1,8 @@
 -- `estimators::covariance::adjusted_covariance` meets its contract: `adjusted_in`, in arrays of the largest size.
 use mathlib.Core.Path.{refl, sym}
-use native.Mathlib.Nat.{mul-le-mul}
 use lib.Seq.{length-take-le}
 use borrow.Author.Needs.{needs}
+use Rattle.matrix.proofs.Counts.{square-most}
 use Rattle.estimators.proofs.covariance.adjusted_covariance.Statement.{statement}
 use Rattle.estimators.proofs.covariance.adjusted_covariance.Tie as tie
 
@@ -10,28 +10,28 @@ mul-size : tie.Need-mul-size
 mul-size c = search needs
 
 array-borrow-prefix-sample : tie.Need-array-borrow-prefix-sample
-array-borrow-prefix-sample c = mul-le-mul (c .before .before .before .pre .0 .1) (c .before .before .before .pre .0 .1)
+array-borrow-prefix-sample c = square-most (c .before .before .before .pre .0 .1)
 
 slice-aggregate-adjusted-in : tie.Need-slice-aggregate-adjusted-in
-slice-aggregate-adjusted-in c = sym (length-take-le _ _ (mul-le-mul (c .before .before .before .before .pre .0 .1) (c .before .before .before .before .pre .0 .1)))
+slice-aggregate-adjusted-in c = sym (length-take-le _ _ (square-most (c .before .before .before .before .pre .0 .1)))
 
 slice-aggregate-adjusted-in-2 : tie.Need-slice-aggregate-adjusted-in-2
 slice-aggregate-adjusted-in-2 c = search needs
 
 array-borrow-prefix-b : tie.Need-array-borrow-prefix-b
-array-borrow-prefix-b c = mul-le-mul (c .before .before .before .before .before .pre .0 .1) (c .before .before .before .before .before .pre .0 .1)
+array-borrow-prefix-b c = square-most (c .before .before .before .before .before .pre .0 .1)
 
 slice-aggregate-adjusted-in-3 : tie.Need-slice-aggregate-adjusted-in-3
-slice-aggregate-adjusted-in-3 c = sym (length-take-le _ _ (mul-le-mul (c .before .before .before .before .before .before .pre .0 .1) (c .before .before .before .before .before .before .pre .0 .1)))
+slice-aggregate-adjusted-in-3 c = sym (length-take-le _ _ (square-most (c .before .before .before .before .before .before .pre .0 .1)))
 
 array-borrow-prefix-a : tie.Need-array-borrow-prefix-a
-array-borrow-prefix-a c = mul-le-mul (c .before .before .before .before .before .before .pre .0 .1) (c .before .before .before .before .before .before .pre .0 .1)
+array-borrow-prefix-a c = square-most (c .before .before .before .before .before .before .pre .0 .1)
 
 slice-aggregate-adjusted-in-4 : tie.Need-slice-aggregate-adjusted-in-4
-slice-aggregate-adjusted-in-4 c = sym (length-take-le _ _ (mul-le-mul (c .before .before .before .before .before .before .before .pre .0 .1) (c .before .before .before .before .before .before .before .pre .0 .1)))
+slice-aggregate-adjusted-in-4 c = sym (length-take-le _ _ (square-most (c .before .before .before .before .before .before .before .pre .0 .1)))
 
 adjusted-in-requires : tie.Need-adjusted-in-requires
-adjusted-in-requires c κs = let p = c .before .before .before .before .before .before .before .before .pre in let fits = length-take-le _ _ (mul-le-mul (p .0 .1) (p .0 .1)) in (p .0, fits, refl, fits, fits, p .1)
+adjusted-in-requires c κs = let p = c .before .before .before .before .before .before .before .before .pre in let fits = length-take-le _ _ (square-most (p .0 .1)) in (p .0, fits, refl, fits, fits, p .1)
 
 same-length : tie.Need-same-length
 same-length c = search needs

@@ -1,8 +1,8 @@
 -- `estimators::covariance::adjusted_in` meets its contract: the returns, the given matrix, then the rest.
 use mathlib.Core.Path.{sym, ap, _∙_}
-use native.Mathlib.Nat.{mul-le-mul}
 use native.Mathlib.Omega.{arith}
 use lib.Seq.{length-take-le}
+use Rattle.matrix.proofs.Counts.{square-most}
 use Rattle.estimators.specs.Checks.{checked}
 use Rattle.estimators.proofs.OfGiven.{examined-refused, examined-accepted, same-side}
 use Rattle.estimators.proofs.Estimated.{returns-refuse, given-refuses, given-passes}
@@ -43,20 +43,20 @@ enum-known-examined-2 c = search needs
 slice-reshare-prefix-estimate-in : tie.Need-slice-reshare-prefix-estimate-in
 slice-reshare-prefix-estimate-in c =
     let l = c .before .before .before .before .before .before .before .before .before .before .before .before .before .before .before .before .before .before .before .before .before in
-    let small = mul-le-mul (l .pre .0 .1) (l .pre .0 .1) in
+    let small = square-most (l .pre .0 .1) in
     omega (arith, small, l .pre .2, c .before .before .before .before .before .before .examine-given .kept .1 .1 .1 .0)
 
 slice-aggregate-estimate-in : tie.Need-slice-aggregate-estimate-in
 slice-aggregate-estimate-in c =
     let l = c .before .before .before .before .before .before .before .before .before .before .before .before .before .before .before .before .before .before .before .before .before .before in
-    let small = mul-le-mul (l .pre .0 .1) (l .pre .0 .1) in
+    let small = square-most (l .pre .0 .1) in
     sym (length-take-le _ _ (omega (arith, small, l .pre .2, c .before .before .before .before .before .before .before .examine-given .kept .1 .1 .1 .0)))
 
 estimate-in-requires : tie.Need-estimate-in-requires
 estimate-in-requires c κs =
     let l = c .before .before .before .before .before .before .before .before .before .before .before .before .before .before .before .before .before .before .before .before .before .before .before .before .before in
     let p = l .pre in
-    let small = mul-le-mul (p .0 .1) (p .0 .1) in
+    let small = square-most (p .0 .1) in
     (p .0, c .before .before .before .before .before .before .before .before .before .before .before .before .before .before .before .before .check-returns .ensures .0, length-take-le _ _ (omega (arith, small, p .2, c .before .before .before .before .before .before .before .before .before .before .examine-given .kept .1 .1 .1 .0)), p .3, p .4, p .5)
 
 same-length-2 : tie.Need-same-length-2

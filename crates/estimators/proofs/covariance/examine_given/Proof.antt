@@ -1,12 +1,12 @@
 -- `estimators::covariance::examine_given` meets its contract: the sizes are looked at first, then the numbers.
 use mathlib.Core.Path.{sym, ap, _∙_}
 use mathlib.Core.Bool.{true≢false}
-use native.Mathlib.Nat.{mul-le-mul}
 use native.Mathlib.Omega.{arith}
 use mir.Facts.{fits-below}
 use borrow.Author.Tests.{not-true, not-false}
 use lib.ListN.{length}
 use lib.Seq.{length-take-le, take-at}
+use Rattle.matrix.proofs.Counts.{square-most}
 use Rattle.matrix.proofs.Stored.{length-rows}
 use Rattle.estimators.specs.Checks.{checked}
 use Rattle.estimators.proofs.OfGiven.{sizes-pass, none-given, sizes-refuse, sizes-fit}
@@ -41,26 +41,26 @@ enum-told : tie.Need-enum-told
 enum-told c = search needs
 
 mul-size : tie.Need-mul-size
-mul-size c = let sizes = sizes-pass _ _ _ (ap checked (c .enum-told .given .1)) (c .before .before .check-sizes .ensures) in fits-below tt (mul-le-mul (sizes .2) (sizes .2))
+mul-size c = let sizes = sizes-pass _ _ _ (ap checked (c .enum-told .given .1)) (c .before .before .check-sizes .ensures) in fits-below tt (square-most (sizes .2))
 
 slice-relend-prefix-examine : tie.Need-slice-relend-prefix-examine
 slice-relend-prefix-examine c =
     let a = c .before .before .before .before .before .before .before .args in
     let sizes = sizes-pass (a .settings .limit) (length (a .given .now)) (a .side) (ap checked (c .enum-told .given .1)) (c .before .before .check-sizes .ensures) in
-    let small = mul-le-mul (sizes .2) (sizes .2) in
+    let small = square-most (sizes .2) in
     omega (arith, small, c .before .before .before .before .before .before .before .pre)
 
 slice-aggregate-examine : tie.Need-slice-aggregate-examine
 slice-aggregate-examine c =
     let a = c .before .before .before .before .before .before .before .before .args in
     let sizes = sizes-pass (a .settings .limit) (length (a .given .now)) (a .side) (ap checked (c .before .enum-told .given .1)) (c .before .before .before .check-sizes .ensures) in
-    let small = mul-le-mul (sizes .2) (sizes .2) in
+    let small = square-most (sizes .2) in
     sym (length-take-le _ _ (omega (arith, small, c .before .before .before .before .before .before .before .before .pre)))
 
 examine-requires : tie.Need-examine-requires
 examine-requires c κs =
     let sizes = sizes-pass _ _ _ (ap checked (c .before .enum-told .given .1)) (c .before .before .before .check-sizes .ensures) in
-    let small = mul-le-mul (sizes .2) (sizes .2) in
+    let small = square-most (sizes .2) in
     (sizes .1, sizes .2, sizes .0, sizes .3, length-take-le _ _ (omega (arith, small, c .before .before .before .before .before .before .before .before .pre)))
 
 same-length : tie.Need-same-length

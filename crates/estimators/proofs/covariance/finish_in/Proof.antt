@@ -31,8 +31,8 @@ same-length c = search needs
 returns : tie.Need-returns
 returns c =
     let a = c .before .before .before .before .before .before .before .before .before .before .before .before .before .before .before .before .args in
-    finished-refused (a .settings) (a .intensity) (a .periods) (a .n) (at (a .r .now) (a .n)) (a .sweeps) (a .rotations) (a .b .now) (a .out .now)
-    (ap checked (sym (c .before .bad .given .1)) ∙ (estimate-checked (a .settings) (a .intensity) (a .periods) (a .n) (at (a .r .now) (a .n)) (a .sweeps) (a .rotations) (a .b .now) (a .out .now) (c .before .before .before .before .before .before .before .before .before .before .before .is-adjusted .ensures) (c .before .before .before .before .before .before .before .before .before .adjust .ensures) (c .before .before .before .before .before .before .no-variance .ensures) (c .before .before .before .before .check-answer .ensures) (c .before .before .before .first .ensures)))
+    finished-refused (a .settings) (a .intensity) (a .periods) (a .n) (at (a .r .now) (a .n)) (a .b .now) (a .sweeps) (a .rotations) (a .out .now)
+    (ap checked (sym (c .before .bad .given .1)) ∙ (estimate-checked (a .settings) (a .intensity) (a .periods) (a .n) (at (a .r .now) (a .n)) (a .b .now) (c .before .before .before .before .before .before .before .before .before .before .before .is-adjusted .ensures) (c .before .before .before .before .before .before .before .before .before .adjust .ensures) (c .before .before .before .before .before .before .no-variance .ensures) (c .before .before .before .before .check-answer .ensures) (c .before .before .before .first .ensures)))
 
 enum-told : tie.Need-enum-told
 enum-told c = search needs
@@ -49,8 +49,8 @@ same-length-3 c = search needs
 returns-2 : tie.Need-returns-2
 returns-2 c =
     let a = c .before .before .before .before .before .before .before .before .before .before .before .before .before .before .before .before .before .before .before .before .args in
-    finished-accepted (a .settings) (a .intensity) (a .periods) (a .n) (at (a .r .now) (a .n)) (a .sweeps) (a .rotations) (a .b .now) (a .out .now)
-    (ap checked (sym (c .before .before .before .before .before .enum-told .given .1)) ∙ (estimate-checked (a .settings) (a .intensity) (a .periods) (a .n) (at (a .r .now) (a .n)) (a .sweeps) (a .rotations) (a .b .now) (a .out .now) (c .before .before .before .before .before .before .before .before .before .before .before .before .before .before .before .is-adjusted .ensures) (c .before .before .before .before .before .before .before .before .before .before .before .before .before .adjust .ensures) (c .before .before .before .before .before .before .before .before .before .before .no-variance .ensures) (c .before .before .before .before .before .before .before .before .check-answer .ensures) (c .before .before .before .before .before .before .before .first .ensures)))
+    finished-accepted (a .settings) (a .intensity) (a .periods) (a .n) (at (a .r .now) (a .n)) (a .b .now) (a .sweeps) (a .rotations) (a .out .now)
+    (ap checked (sym (c .before .before .before .before .before .enum-told .given .1)) ∙ (estimate-checked (a .settings) (a .intensity) (a .periods) (a .n) (at (a .r .now) (a .n)) (a .b .now) (c .before .before .before .before .before .before .before .before .before .before .before .before .before .before .before .is-adjusted .ensures) (c .before .before .before .before .before .before .before .before .before .before .before .before .before .adjust .ensures) (c .before .before .before .before .before .before .before .before .before .before .no-variance .ensures) (c .before .before .before .before .before .before .before .before .check-answer .ensures) (c .before .before .before .before .before .before .before .first .ensures)))
     (c .before .before .copy .ensures ∙ c .before .before .before .before .before .before .before .before .before .before .before .before .before .adjust .ensures)
 
 pub finish-in-spec : {M : Type 1} → statement M

@@ -11,7 +11,7 @@ use Rattle.leaves.specs.Numbers.{zero⁺}
 use Rattle.leaves.specs.Loops.{firstTo}
 use Rattle.leaves.proofs.Loops.{row, at-end}
 use Rattle.matrix.specs.Matrix.{at}
-use Rattle.matrix.proofs.First.{first-none, first-more, first-at}
+use Rattle.leaves.proofs.First.{first-none, first-more, first-at}
 use Rattle.estimators.proofs.covariance.zero_variance.Statement.{statement}
 use Rattle.estimators.proofs.covariance.zero_variance.Tie as tie
 

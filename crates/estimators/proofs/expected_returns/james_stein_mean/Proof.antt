@@ -45,7 +45,7 @@ shrink-requires : tie.Need-shrink-requires
 shrink-requires c κs =
     let s = c .before .before .before .before .before .before .before .before .before .before .before in
     let a = s .args in
-    let limited : a .limit ≤ maxSweeps = within (a .returns .now) (a .n) (a .periods) (a .out .now) (s .pre .0) (s .pre .1) (c .before .before .before .before .before .before .before .before .check-opened .ensures) (a .limit) (c .before .before .before .before .before .before .before .bad-sweep-limit .ensures) (c .before .before .before .before .before .before .first .ensures) (ap checked (c .before .before .before .before .enum-told .given .1)) in
+    let limited : a .limit ≤ maxSweeps = within (a .limit) _ (c .before .before .before .before .before .before .before .bad-sweep-limit .ensures) (c .before .before .before .before .before .before .first .ensures) (ap checked (c .before .before .before .before .enum-told .given .1)) in
     (s .pre .0 .0, s .pre .0 .1, limited, s .pre .1)
 
 same-length : tie.Need-same-length

@@ -3,8 +3,8 @@ use mathlib.Core.Path.{_≡_, refl, ap, _∙_}
 use mathlib.Core.List.{List}
 use Prim.Native.Nat.{ℕ, _≤_}
 use native.Mathlib.Omega.{arith}
-use lib.IntN.{ℤ, pos, negℤ, natAbs}
-use lib.ListN.{length, getD}
+use lib.IntN.{ℤ, negℤ, natAbs}
+use lib.ListN.{length}
 use lib.Ieee.{Float}
 use mir.Syntax.{w32}
 use mir.Val.{toZ, ofZ}
@@ -13,8 +13,9 @@ use Rattle.leaves.specs.Numbers.{_⊘_}
 use Rattle.leaves.specs.Loops.{tab, nth}
 use Rattle.leaves.proofs.Loops.{length-tab}
 use Rattle.estimators.specs.BayesStein.{commonExponent, gathered}
-use Rattle.estimators.specs.Gather.{Gathered, twoExponents}
+use Rattle.estimators.specs.Gather.{Gathered}
 use Rattle.estimators.proofs.Stored.{nth-stored}
+use Rattle.estimators.specs.Exponents.{exponentAt, twoExponents}
 use Rattle.estimators.proofs.Exponents.{read}
 use Rattle.estimators.proofs.Gathered.{gathered-as}
 use Rattle.estimators.proofs.gather.gather.Statement.{statement}
@@ -44,7 +45,7 @@ returns : tie.Need-returns
 returns c =
     let a = c .before .before .before .before .before .before .before .before .before .before .before .before .before .args in
     let b = c .before .before .before .before .common-exponent in
-    made (length (a .out .now)) (λ i. nth (a .xs .now) i ⊘ nth (a .volatilities .now) i) (λ i. negℤ (getD (a .exponents .now) i (pos 0))) _ (b .result) _ (c .before .before .before .before .before .before .before .before .divide .ensures) (b .ensures .0) (b .ensures .1) (c .before .before .scale .ensures)
+    made (length (a .out .now)) (λ i. nth (a .xs .now) i ⊘ nth (a .volatilities .now) i) (λ i. negℤ (exponentAt (a .exponents .now) i)) _ (b .result) _ (c .before .before .before .before .before .before .before .before .divide .ensures) (b .ensures .0) (b .ensures .1) (c .before .before .scale .ensures)
 
 pub gather-spec : {M : Type 1} → statement M
 gather-spec = tie.close (tie.spec divide-requires common-exponent-requires scale-requires same-length returns)

@@ -5,7 +5,8 @@ use lib.Seq.{length-take-le}
 use native.Mathlib.Omega.{arith}
 use borrow.Author.Needs.{needs}
 use Rattle.matrix.specs.Limits.{maxSide}
-use Rattle.estimators.proofs.Gathered.{gathered-as, gathered-read, part-at}
+use Rattle.estimators.proofs.Gathered.{gathered-as, gathered-read}
+use Rattle.estimators.proofs.Room.{part-at}
 use Rattle.estimators.proofs.gather.gather_means.Statement.{statement}
 use Rattle.estimators.proofs.gather.gather_means.Tie as tie
 

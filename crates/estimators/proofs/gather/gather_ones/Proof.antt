@@ -6,7 +6,8 @@ use borrow.Author.Needs.{needs}
 use Rattle.leaves.specs.Numbers.{_⊘_, one}
 use Rattle.leaves.specs.Loops.{nth}
 use Rattle.matrix.specs.Limits.{maxSide}
-use Rattle.estimators.proofs.Gathered.{gathered-as, gathered-read, part-at}
+use Rattle.estimators.proofs.Gathered.{gathered-as, gathered-read}
+use Rattle.estimators.proofs.Room.{part-at}
 use Rattle.estimators.proofs.gather.gather_ones.Statement.{statement}
 use Rattle.estimators.proofs.gather.gather_ones.Tie as tie
 

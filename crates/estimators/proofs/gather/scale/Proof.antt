@@ -2,8 +2,8 @@
 use mathlib.Core.Path.{refl, sym, ap, _∙_}
 use Prim.Native.Nat.{_-_}
 use native.Mathlib.Omega.{arith}
-use lib.IntN.{ℤ, pos, negℤ, _-ℤ_}
-use lib.ListN.{length, getD}
+use lib.IntN.{ℤ, negℤ, _-ℤ_}
+use lib.ListN.{length}
 use lib.Ieee.{nan}
 use mir.Syntax.{w32}
 use mir.Val.{toZ}
@@ -11,13 +11,14 @@ use borrow.Author.Needs.{needs}
 use Rattle.leaves.specs.Loops.{nth}
 use Rattle.leaves.proofs.Invariants.{Filled, filled-here, filled-more, filled-whole, filled-none}
 use Rattle.leaves.specs.Scaling.{pow2Scaled}
+use Rattle.estimators.specs.Exponents.{exponentAt}
 use Rattle.estimators.specs.BayesStein.{gathered}
 use Rattle.estimators.proofs.Exponents.{read, neg-fits, both-fits, both-read}
 use Rattle.estimators.proofs.gather.scale.Statement.{statement}
 use Rattle.estimators.proofs.gather.scale.Tie as tie
 
 abbrev Inv-loop : tie.InvT-loop
-Inv-loop exponents e out₀ i₀ out i = Filled (λ i. pow2Scaled (nth out₀ i) (negℤ (getD exponents i (pos 0)) -ℤ toZ w32 e)) i (length out₀) out₀ out
+Inv-loop exponents e out₀ i₀ out i = Filled (λ i. pow2Scaled (nth out₀ i) (negℤ (exponentAt exponents i) -ℤ toZ w32 e)) i (length out₀) out₀ out
 
 abbrev μ-loop : tie.MeasureT-loop
 μ-loop exponents e out₀ i₀ out i = length out₀ - i
@@ -38,10 +39,10 @@ shared-slice-copy-out-pow2-scaled : tie.Need-shared-slice-copy-out-pow2-scaled I
 shared-slice-copy-out-pow2-scaled c = search needs
 
 sub-pow2-scaled : tie.Need-sub-pow2-scaled Inv-loop μ-loop
-sub-pow2-scaled c = let s = c .before .before .before .before .before in neg-fits (getD (s .args .exponents .now) (c .before .before .before .loop .i) (pos 0)) (omega (arith, s .pre .1 (c .before .before .before .loop .i) (omega arith)))
+sub-pow2-scaled c = let s = c .before .before .before .before .before in neg-fits (exponentAt (s .args .exponents .now) (c .before .before .before .loop .i)) (omega (arith, s .pre .1 (c .before .before .before .loop .i) (omega arith)))
 
 sub-pow2-scaled-2 : tie.Need-sub-pow2-scaled-2 Inv-loop μ-loop
-sub-pow2-scaled-2 c = let s = c .before .before .before .before .before in both-fits (getD (s .args .exponents .now) (c .before .before .before .loop .i) (pos 0)) (s .args .e) (omega (arith, s .pre .1 (c .before .before .before .loop .i) (omega arith), s .pre .2))
+sub-pow2-scaled-2 c = let s = c .before .before .before .before .before in both-fits (exponentAt (s .args .exponents .now) (c .before .before .before .loop .i)) (s .args .e) (omega (arith, s .pre .1 (c .before .before .before .loop .i) (omega arith), s .pre .2))
 
 pow2-scaled-requires : tie.Need-pow2-scaled-requires Inv-loop μ-loop
 pow2-scaled-requires c κs = search needs
@@ -62,7 +63,7 @@ loop-again : tie.Need-loop-again Inv-loop μ-loop
 loop-again c =
     let s = c .before .before .before .before .before .before in
     let l = c .before .before .before .before .loop in
-    let x = getD (s .args .exponents .now) (l .i) (pos 0) in
+    let x = exponentAt (s .args .exponents .now) (l .i) in
     let e = s .args .e in
     let k = both-read x e (omega (arith, s .pre .1 (l .i) (omega arith), s .pre .2)) ∙ ap (λ (z : ℤ). negℤ x -ℤ z) (sym (read e (omega (arith, s .pre .2)))) in
     filled-more (l .inv) (omega arith) (omega arith) (c .pow2-scaled .ensures ∙ (λ t. pow2Scaled (filled-here nan (l .inv) (omega arith) (omega arith) t) (k t)))

@@ -10,9 +10,9 @@ use lib.Ieee.{Float, eq, ofBits}
 use borrow.Author.Needs.{needs}
 use Rattle.leaves.specs.Numbers.{zero⁺}
 use Rattle.leaves.specs.Scaling.{binaryExponent}
-use Rattle.estimators.specs.Held.{maxExponent}
 use Rattle.estimators.specs.BayesStein.{largerZ, withExponent}
-use Rattle.estimators.specs.Gather.{largestOf, Summed, twoExponents}
+use Rattle.estimators.specs.Gather.{largestOf, Summed}
+use Rattle.estimators.specs.Exponents.{maxExponent, twoExponents}
 use Rattle.estimators.proofs.Exponents.{size-minus, minus-fits, minus-read}
 use Rattle.estimators.proofs.gather.with_exponent.Statement.{statement}
 use Rattle.estimators.proofs.gather.with_exponent.Tie as tie

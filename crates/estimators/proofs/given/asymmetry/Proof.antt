@@ -1,8 +1,8 @@
 -- `estimators::given::asymmetry` meets its contract: what its two calls ensure.
 use mathlib.Core.Path.{ap, _∙_}
-use lib.Ieee.{Float, lt}
-use Rattle.leaves.specs.Numbers.{_⊖_, _⊗_, 1e-12, abs}
-use Rattle.matrix.specs.Matrix.{at, firstEntry}
+use lib.Ieee.{Float}
+use Rattle.leaves.specs.Numbers.{_⊗_, 1e-12}
+use Rattle.matrix.specs.Matrix.{at, firstAsymmetric}
 use Rattle.estimators.specs.Given.{asymmetry}
 use borrow.Author.Needs.{needs}
 use Rattle.estimators.proofs.given.asymmetry.Statement.{statement}
@@ -16,7 +16,7 @@ first-asymmetric-requires c κs = search needs
 
 returns : tie.Need-returns
 unfolding asymmetry
-returns c = let a = c .before .before .before .args in c .first-asymmetric .ensures ∙ ap (λ (m : Float). firstEntry (a .n) (a .n) (λ i j. lt (1e-12 ⊗ m) (abs (at (a .g .now) (a .n) i j ⊖ at (a .g .now) (a .n) j i)))) (c .before .amax .ensures)
+returns c = let a = c .before .before .before .args in c .first-asymmetric .ensures ∙ ap (λ (m : Float). firstAsymmetric (a .n) (1e-12 ⊗ m) (at (a .g .now) (a .n))) (c .before .amax .ensures)
 
 pub asymmetry-spec : {M : Type 1} → statement M
 asymmetry-spec = tie.close (tie.spec amax-requires first-asymmetric-requires returns)

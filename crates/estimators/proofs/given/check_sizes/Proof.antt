@@ -1,8 +1,8 @@
 -- `estimators::given::check_sizes` meets its contract: each return is the first check that the tests leave.
 use mathlib.Core.Path.{_∙_}
-use native.Mathlib.Nat.{mul-le-mul}
 use native.Mathlib.Omega.{arith}
 use borrow.Author.Tests.{eq-eqb, ne-eqb, lt-ltb, le-ltb}
+use Rattle.matrix.proofs.Counts.{square-most}
 use Rattle.estimators.specs.Refusals.{first}
 use Rattle.estimators.proofs.Firsts.{first-alone}
 use borrow.Author.Needs.{needs}
@@ -31,7 +31,7 @@ unfolding first
 returns-3 c = rw (← c .before .before .before .before .bad-sweep-limit .ensures, c .before .before .enum-told .given .1, ne-eqb _ _ (c .before .if1 .left), lt-ltb _ _ (c .if2 .taken))
 
 mul-when : tie.Need-mul-when
-mul-when c = omega (arith, mul-le-mul (c .if2 .left) (c .if2 .left))
+mul-when c = omega (arith, square-most (c .if2 .left))
 
 when-requires : tie.Need-when-requires
 when-requires c κs = search needs

@@ -17,7 +17,7 @@ use Rattle.estimators.specs.declared.checks.Check.{Check}
 use Rattle.estimators.specs.declared.checks.Check.the-variants.{Passes, Refuses}
 use Rattle.estimators.specs.declared.given.Examined.{Examined}
 use Rattle.estimators.specs.declared.given.Examined.the-variants.{Refused}
-use Rattle.estimators.proofs.Firsts.{first-front}
+use Rattle.estimators.proofs.Firsts.{first-then}
 use Rattle.estimators.proofs.Entries.{amax-rows}
 use borrow.Author.Needs.{needs}
 use Rattle.estimators.proofs.given.examine.Statement.{statement}
@@ -30,14 +30,14 @@ of limit n out = decomposeGiven limit n (at out n)
 module _ (limit n : ℕ) (g : Matrix) (bad : Check) (eb : checked bad ≡ first (byEntries n g)) {out : List Float} (eo : out ≡ rows n n (averaged g)) where
   refused : {c : Refusal} → bad ≡ Refuses c → Refused c ≡ examined (first (byNumbers n g (of limit n out))) (of limit n out)
   unfolding first
-  refused h = rw (first-front (byEntries n g) (byValues n (averaged g) (of limit n out)), ← eb, h)
+  refused h = rw (← first-then (byEntries n g) (byValues n (averaged g) (of limit n out)) eb, h)
 
   accepted : {r : Examined} → bad ≡ Passes → r ≡ judged n (at out n) (of limit n out) → r ≡ examined (first (byNumbers n g (of limit n out))) (of limit n out)
   unfolding first
   accepted h e =
       let d = of limit n out in
       e ∙ ap (λ (m : Float). examined (first (when (not (d .found)) NotDecomposed ∷ when (indefinite n d) (Indefinite (smallestValue n d ⊗ m)) ∷ [])) d) (ap (λ (o : List Float). amax n n (at o n)) eo ∙ amax-rows (averaged g) n)
-      ∙ rw (first-front (byEntries n g) (byValues n (averaged g) d), ← eb, h)
+      ∙ rw (← first-then (byEntries n g) (byValues n (averaged g) d) eb, h)
 
 average-requires : tie.Need-average-requires
 average-requires c κs = search needs

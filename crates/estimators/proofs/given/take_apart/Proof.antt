@@ -1,8 +1,8 @@
 -- `estimators::given::take_apart` meets its contract: `take_apart_in`, in arrays of the largest size.
 use mathlib.Core.Path.{sym}
-use native.Mathlib.Nat.{mul-le-mul}
 use lib.Seq.{length-take-le}
 use borrow.Author.Needs.{needs}
+use Rattle.matrix.proofs.Counts.{square-most}
 use Rattle.estimators.proofs.given.take_apart.Statement.{statement}
 use Rattle.estimators.proofs.given.take_apart.Tie as tie
 
@@ -10,10 +10,10 @@ mul-size : tie.Need-mul-size
 mul-size c = search needs
 
 array-borrow-prefix-over : tie.Need-array-borrow-prefix-over
-array-borrow-prefix-over c = mul-le-mul (c .before .pre .1) (c .before .pre .1)
+array-borrow-prefix-over c = square-most (c .before .pre .1)
 
 slice-aggregate-take-apart-in : tie.Need-slice-aggregate-take-apart-in
-slice-aggregate-take-apart-in c = sym (length-take-le _ _ (mul-le-mul (c .before .before .pre .1) (c .before .before .pre .1)))
+slice-aggregate-take-apart-in c = sym (length-take-le _ _ (square-most (c .before .before .pre .1)))
 
 array-borrow-prefix-values : tie.Need-array-borrow-prefix-values
 array-borrow-prefix-values c = search needs
@@ -22,13 +22,13 @@ slice-aggregate-take-apart-in-2 : tie.Need-slice-aggregate-take-apart-in-2
 slice-aggregate-take-apart-in-2 c = sym (length-take-le _ _ (c .before .before .before .pre .1))
 
 array-borrow-prefix-vectors : tie.Need-array-borrow-prefix-vectors
-array-borrow-prefix-vectors c = mul-le-mul (c .before .before .before .pre .1) (c .before .before .before .pre .1)
+array-borrow-prefix-vectors c = square-most (c .before .before .before .pre .1)
 
 slice-aggregate-take-apart-in-3 : tie.Need-slice-aggregate-take-apart-in-3
-slice-aggregate-take-apart-in-3 c = sym (length-take-le _ _ (mul-le-mul (c .before .before .before .before .pre .1) (c .before .before .before .before .pre .1)))
+slice-aggregate-take-apart-in-3 c = sym (length-take-le _ _ (square-most (c .before .before .before .before .pre .1)))
 
 take-apart-in-requires : tie.Need-take-apart-in-requires
-take-apart-in-requires c κs = let p = c .before .before .before .before .pre in let fits = length-take-le _ _ (mul-le-mul (p .1) (p .1)) in (p .0, p .1, p .2, p .3, fits, length-take-le _ _ (p .1), fits)
+take-apart-in-requires c κs = let p = c .before .before .before .before .pre in let fits = length-take-le _ _ (square-most (p .1)) in (p .0, p .1, p .2, p .3, fits, length-take-le _ _ (p .1), fits)
 
 returns : tie.Need-returns
 returns c = search needs

@@ -12,8 +12,7 @@ use Rattle.leaves.specs.Loops.{maxTo, nth}
 use Rattle.leaves.specs.Scaling.{binaryExponent, pow2Scaled}
 use Rattle.matrix.specs.Matrix.{at, trace}
 use Rattle.matrix.specs.Jacobi.{Decomposition}
-use Rattle.estimators.specs.Moments.{Moments}
-use Rattle.estimators.specs.Held.{momentsOf}
+use Rattle.estimators.specs.Moments.{Moments, momentsOf}
 use Rattle.estimators.specs.JamesStein.{unevenness, spread, jamesSteinIntensity}
 use Rattle.estimators.proofs.Exponents.{size-plus, read, plus-fits, neg-fits, neg-read}
 use Rattle.estimators.proofs.james_stein.intensity.Statement.{statement}

@@ -10,28 +10,21 @@ use Rattle.leaves.specs.Loops.{nth}
 use Rattle.matrix.specs.Matrix.{at}
 use Rattle.matrix.specs.Jacobi.{Decomposition, decompose, unturned}
 use Rattle.matrix.specs.Inner.{decomposed}
-use Rattle.estimators.specs.Moments.{Moments}
-use Rattle.estimators.specs.Held.{momentsOf}
+use Rattle.estimators.specs.Moments.{Moments, momentsOf}
 use Rattle.estimators.specs.JamesStein.{unevenness, decomposeUneven, jamesSteinIntensity}
+use Rattle.estimators.specs.Stein.{PullsEven}
 use Rattle.estimators.proofs.james_stein.pull.Statement.{statement}
 use Rattle.estimators.proofs.james_stein.pull.Tie as tie
 
--- what is said of d: the outcome, and the intensity
-abbrev Says : Bool → Float → ℕ → ℕ → ℕ → Moments → Float → Decomposition → Type 0
-Says found α sweeps rotations n m μ₀ d = (found ≡ d .found) × (α ≡ jamesSteinIntensity n m μ₀ d) × (sweeps ≡ d .sweeps) × (rotations ≡ d .rotations)
-
 module _ (limit n : ℕ) (m : Moments) (μ₀ largest : Float) (is-largest : largest ≡ unevenness n (nth (m .mean)) μ₀) where
-  abbrev Uneven : Decomposition
-  Uneven = decomposeUneven limit n (unevenness n (nth (m .mean)) μ₀) (at (m .covariance) n)
-
-  even : eq largest zero⁺ ≡ true → (d : Decomposition) → d ≡ Uneven → Says true zero⁺ 0 0 n m μ₀ d
+  even : eq largest zero⁺ ≡ true → PullsEven n limit m μ₀ true zero⁺ 0 0
   unfolding decomposeUneven jamesSteinIntensity unturned
   even h d is-d =
       let u : d ≡ unturned n true = is-d ∙ rw (decomposeUneven, ← is-largest, h) in
       (rw u, rw (jamesSteinIntensity, ← is-largest, h), rw u, rw u)
 
   uneven : eq largest zero⁺ ≡ false → (found : Bool) (values vectors : List Float) (sweeps rotations : ℕ) (α : Float) → decomposed found values vectors sweeps rotations ≡ decompose limit n (at (m .covariance) n)
-      → ((d : Decomposition) → d .values ≡ values → α ≡ jamesSteinIntensity n m μ₀ d) → (d : Decomposition) → d ≡ Uneven → Says found α sweeps rotations n m μ₀ d
+      → ((d : Decomposition) → d .values ≡ values → α ≡ jamesSteinIntensity n m μ₀ d) → PullsEven n limit m μ₀ found α sweeps rotations
   unfolding decomposeUneven
   uneven h found values vectors sweeps rotations α e is-α d is-d =
       let u : d ≡ decomposed found values vectors sweeps rotations = is-d ∙ rw (decomposeUneven, ← is-largest, h) (sym e) in

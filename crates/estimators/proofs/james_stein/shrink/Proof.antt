@@ -15,14 +15,16 @@ use Rattle.matrix.specs.Limits.{maxSide}
 use Rattle.matrix.specs.Matrix.{at}
 use Rattle.matrix.specs.Jacobi.{Decomposition}
 use Rattle.estimators.specs.Refusals.{when}
+use Rattle.estimators.specs.Order.{notFound}
 use Rattle.estimators.specs.Moments.{Moments}
 use Rattle.estimators.specs.Held.{held}
 use Rattle.estimators.specs.JamesStein.{grandMean, unevenness, decomposeUneven, jamesSteinIntensity, towards}
 use Rattle.estimators.specs.Calls.{Answered, answered, settle}
-use Rattle.estimators.specs.Stein.{jamesSteinOf}
+use Rattle.estimators.specs.Stein.{PullsEven, jamesSteinOf}
 use Rattle.estimators.specs.declared.Refusal.the-variants.{Singular}
 use Rattle.estimators.specs.declared.Answer.the-variants.{Refused, Shrunk}
 use Rattle.estimators.proofs.Room.{vector-room}
+use Rattle.estimators.proofs.Opened.{settle-refused, settle-accepted}
 use Rattle.estimators.proofs.james_stein.shrink.Statement.{statement}
 use Rattle.estimators.proofs.james_stein.shrink.Tie as tie
 
@@ -35,21 +37,20 @@ module _ (n limit : ℕ) (m : Moments) (e : ℤ) (slice : List Float) where
 
   -- the answer, with the target as it stands in the code
   abbrev from : Float → Answered
-  from μ₀ = let d = taken-apart μ₀ in settle (when (not (d .found)) Singular) slice (outcome (jamesSteinIntensity n m μ₀ d) μ₀ (d .sweeps) (d .rotations))
+  from μ₀ = let d = taken-apart μ₀ in settle (notFound d) slice (outcome (jamesSteinIntensity n m μ₀ d) μ₀ (d .sweeps) (d .rotations))
 
   module _ (μ₀ : Float) (is-μ₀ : μ₀ ≡ grandMean n (nth (m .mean))) (found : Bool) (α : Float) (sweeps rotations : ℕ)
-      (says : (d : Decomposition) → d ≡ taken-apart μ₀ → (found ≡ d .found) × (α ≡ jamesSteinIntensity n m μ₀ d) × (sweeps ≡ d .sweeps) × (rotations ≡ d .rotations)) where
+      (says : PullsEven n limit m μ₀ found α sweeps rotations) where
     settled : settle (when (not found) Singular) slice (outcome α μ₀ sweeps rotations) ≡ jamesSteinOf n limit m e slice
     settled = let s = says (taken-apart μ₀) refl in (λ t. settle (when (not (s .0 t)) Singular) slice (outcome (s .1 t) μ₀ (s .2 t) (s .3 t))) ∙ ap from is-μ₀
 
     refused : not found ≡ true → answered (Refused Singular) slice ≡ jamesSteinOf n limit m e slice
-    unfolding settle
-    refused h = (λ t. settle (when (sym h t) Singular) slice (outcome α μ₀ sweeps rotations)) ∙ settled
+    refused h = settle-refused slice (outcome α μ₀ sweeps rotations) (ap (λ (b : Bool). when b Singular) (sym h)) ∙ settled
 
     accepted : not found ≡ false → (target : Float) (out : List Float) → target ≡ pow2Scaled μ₀ e → out ≡ tab n (λ i. pow2Scaled (towards α μ₀ (nth (m .mean) i)) e)
         → answered (Shrunk α target sweeps rotations) out ≡ jamesSteinOf n limit m e slice
-    unfolding settle
-    accepted h target out is-target is-out = (λ t. settle (when (sym h t) Singular) slice (answered (Shrunk α (is-target t) sweeps rotations) (is-out t))) ∙ settled
+    accepted h target out is-target is-out =
+        (λ t. answered (Shrunk α (is-target t) sweeps rotations) (is-out t)) ∙ settle-accepted slice (outcome α μ₀ sweeps rotations) (ap (λ (b : Bool). when b Singular) (sym h)) ∙ settled
 
 grand-mean-requires : tie.Need-grand-mean-requires
 grand-mean-requires c κs = search needs

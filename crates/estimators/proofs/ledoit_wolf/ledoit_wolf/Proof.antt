@@ -12,7 +12,7 @@ use Rattle.leaves.specs.Scaling.{binaryExponent}
 use Rattle.leaves.proofs.Loops.{length-tab}
 use Rattle.matrix.specs.Matrix.{at, amax}
 use Rattle.estimators.specs.Sample.{mean, deviation}
-use Rattle.estimators.specs.LedoitWolf.{intensityOf, ledoitWolf, secondMoments}
+use Rattle.estimators.specs.LedoitWolf.{intensityFrom, ledoitWolf}
 use Rattle.estimators.specs.Powers.{Factored}
 use Rattle.estimators.specs.Rows.{centered}
 use Rattle.estimators.specs.declared.Target.{Target}
@@ -24,7 +24,7 @@ use Rattle.estimators.proofs.ledoit_wolf.ledoit_wolf.Statement.{stateme
 use Rattle.estimators.proofs.ledoit_wolf.ledoit_wolf.Tie as tie
 
 answer : (F : Target) (T n : ℕ) (r : List Float) {means : List Float} → means ≡ tab n (mean T (at r n)) → (e : ℤ) → (means ≡ tab n (mean T (at r n)) → e ≡ binaryExponent (amax T n (deviation T (at r n)))) → (near far : Float) → Factored near far (negℤ e)
-    → {d : Float} → d ≡ intensityOf F T n (centered (Scaled near far) n means r) (at (secondMoments T n (centered (Scaled near far) n means r)) n) → d ≡ ledoitWolf F T n (at r n)
+    → {d : Float} → d ≡ intensityFrom F T n (centered (Scaled near far) n means r) → d ≡ ledoitWolf F T n (at r n)
 answer F T n r {means} em e ee near far f ed =
     from-centered F T n (at r n) (centered (Scaled near far) n means r) e (ee em) (λ t i ht hi. scaled-formed T n (at r n) em near far (negℤ e) f t i hi) ed
 
@@ -44,7 +44,7 @@ slice-aggregate-largest-exponent : tie.Need-slice-aggregate-largest-exponent
 slice-aggregate-largest-exponent c = sym (length-take-le _ _ (c .before .before .before .before .before .before .before .before .pre .2))
 
 largest-exponent-requires : tie.Need-largest-exponent-requires
-largest-exponent-requires c κs = let p = c .before .before .before .before .before .before .before .before .pre in (p .1, p .2, p .0, ap length (c .before .before .before .before .means2 .ensures) ∙ length-tab _ _, length-take-le _ _ (p .2))
+largest-exponent-requires c κs = let p = c .before .before .before .before .before .before .before .before .pre in (p .2, p .0, ap length (c .before .before .before .before .means2 .ensures) ∙ length-tab _ _, length-take-le _ _ (p .2))
 
 sub-factors : tie.Need-sub-factors
 sub-factors c = let e = c .before .largest-exponent in neg-fits (e .result) (omega (arith, e .ensures .0))

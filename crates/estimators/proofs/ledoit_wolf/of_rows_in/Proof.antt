@@ -4,14 +4,14 @@ use mathlib.Core.List.{List}
 use Prim.Native.Nat.{ℕ}
 use lib.Ieee.{Float}
 use Rattle.matrix.specs.Matrix.{Matrix, at}
-use Rattle.estimators.specs.LedoitWolf.{intensityOf, secondMoments}
+use Rattle.estimators.specs.LedoitWolf.{intensityOf, intensityFrom, secondMoments}
 use Rattle.estimators.specs.Rows.{centered}
 use Rattle.estimators.specs.declared.Target.{Target}
 use borrow.Author.Needs.{needs}
 use Rattle.estimators.proofs.ledoit_wolf.of_rows_in.Statement.{statement}
 use Rattle.estimators.proofs.ledoit_wolf.of_rows_in.Tie as tie
 
-from-stored : (G : Target) (T n : ℕ) (z : Matrix) {F : Target} {s : List Float} {d : Float} → F ≡ G → s ≡ secondMoments T n z → d ≡ intensityOf G T n z (at s n) → d ≡ intensityOf F T n z (at (secondMoments T n z) n)
+from-stored : (G : Target) (T n : ℕ) (z : Matrix) {F : Target} {s : List Float} {d : Float} → F ≡ G → s ≡ secondMoments T n z → d ≡ intensityOf G T n z (at s n) → d ≡ intensityFrom F T n z
 from-stored G T n z eF es ed = ed ∙ (λ k. intensityOf (sym eF k) T n z (at (es k) n))
 
 put-moments-requires : tie.Need-put-moments-requires

@@ -2,17 +2,16 @@
 use mathlib.Core.Path.{_≡_, _∙_}
 use Prim.Native.Nat.{_≤_, _-_}
 use native.Mathlib.Omega.{arith}
-use Rattle.leaves.specs.Numbers.{_⊗_, _⊘_}
 use Rattle.leaves.specs.Loops.{loop, nth}
 use Rattle.leaves.proofs.Invariants.{loop-turn, loop-end, loop-start}
 use Rattle.matrix.specs.Matrix.{at, trace, sumOver, sumRow}
-use Rattle.estimators.specs.LedoitWolf.{apart}
+use Rattle.estimators.specs.LedoitWolf.{apart, crossVariation}
 use borrow.Author.Needs.{needs}
 use Rattle.estimators.proofs.ledoit_wolf.target_variation.Statement.{statement}
 use Rattle.estimators.proofs.ledoit_wolf.target_variation.Tie as tie
 
 abbrev Inv-loop : tie.InvT-loop
-Inv-loop r sd pi theta n t₀ i₀ t i = (i ≤ n) × (t ≡ loop i (sumRow n apart (λ i j. r ⊗ nth sd j ⊘ nth sd i ⊗ at theta n i j)) (trace n (at pi n)))
+Inv-loop r sd pi theta n t₀ i₀ t i = (i ≤ n) × (t ≡ loop i (sumRow n apart (crossVariation r (nth sd) (at theta n))) (trace n (at pi n)))
 
 abbrev μ-loop : tie.MeasureT-loop
 μ-loop r sd pi theta n t₀ i₀ t i = n - i

@@ -11,8 +11,8 @@ use Rattle.matrix.specs.Limits.{maxSide}
 use Rattle.matrix.specs.Matrix.{at}
 use Rattle.estimators.specs.Sample.{scaled}
 use Rattle.estimators.proofs.Exponents.{read}
-use Rattle.estimators.proofs.Gathered.{part-at}
-use Rattle.estimators.proofs.Samples.{moments-same}
+use Rattle.estimators.proofs.Room.{part-at}
+use Rattle.estimators.proofs.SameReturns.{moments-same}
 use Rattle.estimators.proofs.moments.moments_over.Statement.{statement}
 use Rattle.estimators.proofs.moments.moments_over.Tie as tie
 
@@ -20,24 +20,24 @@ array-share-prefix-exponents : tie.Need-array-share-prefix-exponents
 array-share-prefix-exponents c = search needs
 
 slice-aggregate-of-returns : tie.Need-slice-aggregate-of-returns
-slice-aggregate-of-returns c = sym (length-take-le _ _ (c .before .before .pre .2))
+slice-aggregate-of-returns c = sym (length-take-le _ _ (c .before .before .pre .1))
 
 of-returns-requires : tie.Need-of-returns-requires
 of-returns-requires c κs =
     let a = c .before .before .args in
     let p = c .before .before .pre in
-    let k = read (a .exponent) (omega (arith, p .4)) in
-    let h = length-take-le _ _ (p .2) in
-    (p .0, p .1, p .2, p .3, h, λ i l. omega (arith, p .4, ap natAbs (part-at (toZ w32 (ofZ w32 (a .exponent))) maxSide (a .n) (p .2) (pos 0) i (rw h at l) ∙ k)))
+    let k = read (a .exponent) (omega (arith, p .3)) in
+    let h = length-take-le _ _ (p .1) in
+    (p .0, p .1, p .2, h, λ i l. omega (arith, p .3, ap natAbs (part-at (toZ w32 (ofZ w32 (a .exponent))) maxSide (a .n) (p .1) (pos 0) i (rw h at l) ∙ k)))
 
 returns : tie.Need-returns
 unfolding scaled
 returns c =
     let a = c .before .before .before .args in
     let p = c .before .before .before .pre in
-    let k = read (a .exponent) (omega (arith, p .4)) in
+    let k = read (a .exponent) (omega (arith, p .3)) in
     c .of-returns .ensures
-    ∙ moments-same (a .n) (a .periods) _ _ (λ t i b j. pow2Scaled (at (a .r .now) (a .n) t i) (negℤ ((part-at (toZ w32 (ofZ w32 (a .exponent))) maxSide (a .n) (p .2) (pos 0) i b ∙ k) j)))
+    ∙ moments-same (a .n) (a .periods) _ _ (λ t i ht b j. pow2Scaled (at (a .r .now) (a .n) t i) (negℤ ((part-at (toZ w32 (ofZ w32 (a .exponent))) maxSide (a .n) (p .1) (pos 0) i b ∙ k) j)))
 
 pub moments-over-spec : {M : Type 1} → statement M
 moments-over-spec = tie.close (tie.spec array-share-prefix-exponents slice-aggregate-of-returns of-returns-requires returns)

@@ -1,8 +1,8 @@
 -- `estimators::moments::of_returns` meets its contract: `put_moments`, in arrays of the largest size.
 use mathlib.Core.Path.{sym}
-use native.Mathlib.Nat.{mul-le-mul}
 use native.Mathlib.Omega.{arith}
 use lib.Seq.{length-take-le}
+use Rattle.matrix.proofs.Counts.{square-most}
 use Rattle.estimators.proofs.Samples.{moments-held}
 use borrow.Author.Needs.{needs}
 use Rattle.estimators.proofs.moments.of_returns.Statement.{statement}
@@ -12,31 +12,31 @@ add-twice : tie.Need-add-twice
 add-twice c = search needs
 
 mul-size : tie.Need-mul-size
-mul-size c = let h = c .before .pre .2 in omega (arith, mul-le-mul h h)
+mul-size c = let h = c .before .pre .1 in omega (arith, square-most h)
 
 array-borrow-prefix-units : tie.Need-array-borrow-prefix-units
 array-borrow-prefix-units c = search needs
 
 slice-aggregate-put-moments : tie.Need-slice-aggregate-put-moments
-slice-aggregate-put-moments c = sym (length-take-le _ _ (omega (arith, c .before .before .pre .2)))
+slice-aggregate-put-moments c = sym (length-take-le _ _ (omega (arith, c .before .before .pre .1)))
 
 array-borrow-prefix-mean : tie.Need-array-borrow-prefix-mean
 array-borrow-prefix-mean c = search needs
 
 slice-aggregate-put-moments-2 : tie.Need-slice-aggregate-put-moments-2
-slice-aggregate-put-moments-2 c = sym (length-take-le _ _ (c .before .before .before .pre .2))
+slice-aggregate-put-moments-2 c = sym (length-take-le _ _ (c .before .before .before .pre .1))
 
 array-borrow-prefix-covariance : tie.Need-array-borrow-prefix-covariance
-array-borrow-prefix-covariance c = let h = c .before .before .before .pre .2 in mul-le-mul h h
+array-borrow-prefix-covariance c = let h = c .before .before .before .pre .1 in square-most h
 
 slice-aggregate-put-moments-3 : tie.Need-slice-aggregate-put-moments-3
-slice-aggregate-put-moments-3 c = let h = c .before .before .before .before .pre .2 in sym (length-take-le _ _ (mul-le-mul h h))
+slice-aggregate-put-moments-3 c = let h = c .before .before .before .before .pre .1 in sym (length-take-le _ _ (square-most h))
 
 put-moments-requires : tie.Need-put-moments-requires
 put-moments-requires c κs =
     let p = c .before .before .before .before .pre in
-    let h = p .2 in
-    (p .1, h, p .3, p .4, p .5, length-take-le _ _ (omega arith), length-take-le _ _ h, length-take-le _ _ (mul-le-mul h h))
+    let h = p .1 in
+    (p .0, h, p .2, p .3, p .4, length-take-le _ _ (omega arith), length-take-le _ _ h, length-take-le _ _ (square-most h))
 
 nearest-u64-to-f64-requires : tie.Need-nearest-u64-to-f64-requires
 nearest-u64-to-f64-requires c κs = search needs

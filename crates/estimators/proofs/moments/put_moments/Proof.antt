@@ -1,7 +1,8 @@
 -- `estimators::moments::put_moments` meets its contract: the units are the powers of two.
 use mathlib.Core.Path.{_∙_}
 use Rattle.matrix.specs.Matrix.{at}
-use Rattle.estimators.proofs.Samples.{means-same, covariance-same, unit-scaled}
+use Rattle.estimators.proofs.Samples.{unit-scaled}
+use Rattle.estimators.proofs.SameReturns.{means-same, covariance-same}
 use borrow.Author.Needs.{needs}
 use Rattle.estimators.proofs.moments.put_moments.Statement.{statement}
 use Rattle.estimators.proofs.moments.put_moments.Tie as tie
@@ -30,7 +31,7 @@ returns c =
     let u = c .before .before .before .before .before .before .before .before .before .before .before .before .before .put-units .ensures in
     let m = c .before .before .before .before .before .before .before .before .means-in .ensures in
     let same = unit-scaled (a .n) (a .exponents .now) _ (at (a .r .now) (a .n)) (u .0) (u .1) in
-    (m ∙ means-same (a .n) (a .periods) _ _ same, c .before .before .covariance-in .ensures m ∙ covariance-same (a .n) (a .periods) _ _ same)
+    (m ∙ means-same (a .n) (a .periods) _ _ (λ t i ht. same t i), c .before .before .covariance-in .ensures m ∙ covariance-same (a .n) (a .periods) _ _ (λ t i ht. same t i))
 
 pub put-moments-spec : {M : Type 1} → statement M
 put-moments-spec = tie.close (tie.spec put-units-requires means-in-requires covariance-in-requires same-length same-length-2 same-length-3 returns)

@@ -1,7 +1,7 @@
 -- `estimators::opening::needed` meets its contract, case by case.
-use native.Mathlib.Nat.{mul-le-mul}
 use mir.Facts.{fits-below}
 use borrow.Author.Needs.{needs}
+use Rattle.matrix.proofs.Counts.{square-most}
 use Rattle.estimators.proofs.opening.needed.Statement.{statement}
 use Rattle.estimators.proofs.opening.needed.Tie as tie
 
@@ -9,7 +9,7 @@ enum-told : tie.Need-enum-told
 enum-told c = search needs
 
 mul-result : tie.Need-mul-result
-mul-result c = fits-below tt (mul-le-mul (c .before .before .pre) (c .before .before .pre))
+mul-result c = fits-below tt (square-most (c .before .before .pre))
 
 enum-told-2 : tie.Need-enum-told-2
 enum-told-2 c = search needs

@@ -3,17 +3,16 @@ use mathlib.Core.Path.{_≡_}
 use Prim.Native.Nat.{_+_, _-_, _≤_}
 use native.Mathlib.Nat.{not-suc-le-zero}
 use native.Mathlib.Omega.{arith}
-use lib.IntN.{pos}
-use lib.ListN.{length, getD, length-set}
+use lib.ListN.{length, length-set}
 use borrow.Author.Needs.{needs}
-use Rattle.estimators.specs.Powers.{Units}
+use Rattle.estimators.specs.Exponents.{exponentAt}
 use Rattle.estimators.proofs.Exponents.{size-neg, neg-fits, neg-read}
-use Rattle.estimators.proofs.Factors.{units-more}
+use Rattle.estimators.proofs.Factors.{UnitsTo, units-more}
 use Rattle.estimators.proofs.powers.put_units.Statement.{statement}
 use Rattle.estimators.proofs.powers.put_units.Tie as tie
 
 abbrev Inv-loop : tie.InvT-loop
-Inv-loop exponents n out₀ i₀ out i = (i ≤ n) × (length out ≡ n + n) × Units n i exponents out
+Inv-loop exponents n out₀ i₀ out i = (i ≤ n) × (length out ≡ n + n) × UnitsTo n i exponents out
 
 abbrev μ-loop : tie.MeasureT-loop
 μ-loop exponents n out₀ i₀ out i = n - i
@@ -31,13 +30,13 @@ sub-factors : tie.Need-sub-factors Inv-loop μ-loop
 sub-factors c =
     let s = c .before .before .before .before in
     let i = c .before .before .loop .i in
-    neg-fits (getD (s .args .exponents .now) i (pos 0)) (omega (arith, s .pre .1 i (omega arith)))
+    neg-fits (exponentAt (s .args .exponents .now) i) (omega (arith, s .pre .1 i (omega arith)))
 
 factors-requires : tie.Need-factors-requires Inv-loop μ-loop
 factors-requires c κs =
     let s = c .before .before .before .before in
     let i = c .before .before .loop .i in
-    let e = getD (s .args .exponents .now) i (pos 0) in
+    let e = exponentAt (s .args .exponents .now) i in
     let h = s .pre .1 i (omega arith) in
     rw (neg-read e (omega (arith, h)), size-neg e) h
 
@@ -68,7 +67,7 @@ loop-again c =
     let l = c .before .before .before .loop in
     let s = c .before .before .before .before .before in
     let es = s .args .exponents .now in
-    let e = getD es (l .i) (pos 0) in
+    let e = exponentAt es (l .i) in
     let h = s .pre .1 (l .i) (omega arith) in (
       omega arith,
       search needs,

@@ -11,7 +11,7 @@ use Rattle.leaves.specs.Numbers.{_⊗_, 1e-10}
 use Rattle.leaves.specs.Loops.{firstTo, tab, nth}
 use Rattle.leaves.proofs.Loops.{at-end}
 use Rattle.matrix.specs.Matrix.{Matrix}
-use Rattle.matrix.proofs.First.{first-none, first-more, first-at}
+use Rattle.leaves.proofs.First.{first-none, first-more, first-at}
 use Rattle.estimators.specs.Sample.{constantAsset, volatility}
 use Rattle.estimators.proofs.Stored.{nth-stored}
 use Rattle.estimators.proofs.Constant.{constant-ext}

@@ -2,7 +2,8 @@
 use mathlib.Core.Path.{sym, _∙_}
 use lib.Seq.{length-take-le}
 use Rattle.matrix.specs.Matrix.{at}
-use Rattle.estimators.proofs.Samples.{covariance-same, unit-none}
+use Rattle.estimators.proofs.Samples.{unit-none}
+use Rattle.estimators.proofs.SameReturns.{covariance-same}
 use borrow.Author.Needs.{needs}
 use Rattle.estimators.proofs.sample.covariance.Statement.{statement}
 use Rattle.estimators.proofs.sample.covariance.Tie as tie
@@ -33,7 +34,7 @@ same-length c = search needs
 returns : tie.Need-returns
 returns c =
     let a = c .before .before .before .before .before .before .before .before .before .before .before .before .before .before .before .args in
-    c .before .before .before .covariance-in .ensures (c .before .before .before .before .before .before .before .before .before .means-in .ensures) ∙ covariance-same (a .n) (a .periods) _ _ (unit-none (a .n) (at (a .r .now) (a .n)))
+    c .before .before .before .covariance-in .ensures (c .before .before .before .before .before .before .before .before .before .means-in .ensures) ∙ covariance-same (a .n) (a .periods) _ _ (λ t i ht. unit-none (a .n) (at (a .r .now) (a .n)) t i)
 
 pub covariance-spec : {M : Type 1} → statement M
 covariance-spec = tie.close (tie.spec array-borrow-prefix-buffer slice-aggregate-mean slice-aggregate-means-in means-in-requires slice-aggregate-covariance-in covariance-in-requires same-length returns)

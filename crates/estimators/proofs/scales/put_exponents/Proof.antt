@@ -13,8 +13,7 @@ use Rattle.leaves.specs.Scaling.{binaryExponent}
 use Rattle.leaves.proofs.Whole.{le-or-lt}
 use Rattle.leaves.proofs.Ints.{back-i32}
 use Rattle.leaves.proofs.Loops.{length-tab}
-use Rattle.estimators.specs.Held.{maxExponent}
-use Rattle.estimators.specs.Gather.{Exponents}
+use Rattle.estimators.specs.Exponents.{maxExponent, Exponents}
 use Rattle.estimators.proofs.Stored.{getD-stored}
 use Rattle.estimators.proofs.scales.put_exponents.Statement.{statement}
 use Rattle.estimators.proofs.scales.put_exponents.Tie as tie

@@ -2,19 +2,19 @@
 use mathlib.Core.Path.{refl, _∙_}
 use Prim.Native.Nat.{_-_}
 use native.Mathlib.Omega.{arith}
-use lib.IntN.{pos}
-use lib.ListN.{length, getD}
+use lib.ListN.{length}
 use lib.Ieee.{nan}
 use borrow.Author.Needs.{needs}
 use Rattle.leaves.specs.Loops.{nth}
 use Rattle.leaves.proofs.Invariants.{Filled, filled-here, filled-more, filled-whole, filled-none}
 use Rattle.leaves.specs.Scaling.{pow2Scaled}
+use Rattle.estimators.specs.Exponents.{exponentAt}
 use Rattle.estimators.proofs.Exponents.{read}
 use Rattle.estimators.proofs.scales.scale.Statement.{statement}
 use Rattle.estimators.proofs.scales.scale.Tie as tie
 
 abbrev Inv-loop : tie.InvT-loop
-Inv-loop exponents out₀ k₀ out k = Filled (λ k. pow2Scaled (nth out₀ k) (getD exponents k (pos 0))) k (length out₀) out₀ out
+Inv-loop exponents out₀ k₀ out k = Filled (λ k. pow2Scaled (nth out₀ k) (exponentAt exponents k)) k (length out₀) out₀ out
 
 abbrev μ-loop : tie.MeasureT-loop
 μ-loop exponents out₀ k₀ out k = length out₀ - k
@@ -53,7 +53,7 @@ loop-again : tie.Need-loop-again Inv-loop μ-loop
 loop-again c =
     let s = c .before .before .before .before .before .before in
     let l = c .before .before .before .before .loop in
-    filled-more (l .inv) (omega arith) (omega arith) (c .pow2-scaled .ensures ∙ (λ t. pow2Scaled (filled-here nan (l .inv) (omega arith) (omega arith) t) (read (getD (s .args .exponents .now) (l .k) (pos 0)) (omega (arith, s .pre .1 (l .k) (omega arith))) t)))
+    filled-more (l .inv) (omega arith) (omega arith) (c .pow2-scaled .ensures ∙ (λ t. pow2Scaled (filled-here nan (l .inv) (omega arith) (omega arith) t) (read (exponentAt (s .args .exponents .now) (l .k)) (omega (arith, s .pre .1 (l .k) (omega arith))) t)))
 
 same-length : tie.Need-same-length Inv-loop μ-loop
 same-length c = search needs

@@ -5,7 +5,8 @@ use native.Mathlib.Omega.{arith}
 use borrow.Author.Needs.{needs}
 use lib.ListN.{length}
 use Rattle.estimators.proofs.Stored.{passed, passed-none, passed-all}
-use Rattle.estimators.proofs.Mirror.{mirrored, mirrored-more}
+use Rattle.estimators.specs.Rows.{mirrored}
+use Rattle.estimators.proofs.Mirror.{mirrored-more}
 use Rattle.estimators.proofs.tables.mirror.Statement.{statement}
 use Rattle.estimators.proofs.tables.mirror.Tie as tie
 

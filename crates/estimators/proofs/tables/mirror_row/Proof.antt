@@ -6,7 +6,8 @@ use borrow.Author.Needs.{needs}
 use lib.ListN.{length, length-set}
 use Rattle.leaves.proofs.Loops.{row, at-end}
 use Rattle.matrix.specs.Matrix.{rows}
-use Rattle.estimators.proofs.Mirror.{mirroredTo, mirror-none, mirror-more}
+use Rattle.estimators.specs.Rows.{mirroredTo}
+use Rattle.estimators.proofs.Mirror.{mirror-none, mirror-more}
 use Rattle.estimators.proofs.tables.mirror_row.Statement.{statement}
 use Rattle.estimators.proofs.tables.mirror_row.Tie as tie
 

@@ -7,29 +7,29 @@ use Rattle.estimators.proofs.tables.start.Tie as tie
 enum-told : tie.Need-enum-told
 enum-told c = search needs
 
-sub-result : tie.Need-sub-result
-sub-result c = search needs
+aligned-requires : tie.Need-aligned-requires
+aligned-requires c κs = search needs
 
 enum-told-2 : tie.Need-enum-told-2
 enum-told-2 c = search needs
 
-sub-result-2 : tie.Need-sub-result-2
-sub-result-2 c = search needs
+aligned-requires-2 : tie.Need-aligned-requires-2
+aligned-requires-2 c κs = search needs
 
 enum-told-3 : tie.Need-enum-told-3
 enum-told-3 c = search needs
 
 returns : tie.Need-returns
 unfolding Rows.start
-returns c = rw (c .enum-told .given .1)
+returns c = rw (c .before .enum-told .given .1) (c .aligned .ensures)
 
 returns-2 : tie.Need-returns-2
 unfolding Rows.start
-returns-2 c = rw (c .enum-told2 .given .1)
+returns-2 c = rw (c .before .enum-told2 .given .1) (c .aligned2 .ensures)
 
 returns-3 : tie.Need-returns-3
 unfolding Rows.start
 returns-3 c = rw (c .enum-told3 .given .1)
 
 pub start-spec : {M : Type 1} → statement M
-start-spec = tie.close (tie.spec enum-told sub-result enum-told-2 sub-result-2 enum-told-3 returns returns-2 returns-3)
+start-spec = tie.close (tie.spec enum-told aligned-requires enum-told-2 aligned-requires-2 enum-told-3 returns returns-2 returns-3)

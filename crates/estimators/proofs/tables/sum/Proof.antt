@@ -8,10 +8,10 @@ use lib.ListN.{length}
 use lib.Ieee.{Float, ofBits}
 use Rattle.leaves.proofs.Loops.{at-end}
 use Rattle.matrix.specs.Matrix.{at}
-use Rattle.estimators.specs.Rows.{rowsOf, plus}
+use Rattle.estimators.specs.Rows.{rowsOf, plus, summed}
 use Rattle.estimators.specs.declared.rows.Row.{Row}
 use Rattle.estimators.specs.declared.tables.Term.{Term}
-use Rattle.estimators.proofs.Sums.{summed, summed-none, summed-more, summed-two}
+use Rattle.estimators.proofs.Sums.{summed-none, summed-more, summed-two}
 use Rattle.estimators.proofs.tables.sum.Statement.{statement}
 use Rattle.estimators.proofs.tables.sum.Tie as tie
 

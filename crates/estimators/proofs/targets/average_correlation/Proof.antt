@@ -11,30 +11,24 @@ use Rattle.leaves.proofs.Invariants.{loop-turn, loop-end, loop-start}
 use Rattle.leaves.proofs.Loops.{length-tab}
 use Rattle.matrix.specs.Limits.{maxSide}
 use Rattle.matrix.specs.Matrix.{Matrix, at, sumOver, sumRow}
-use Rattle.estimators.specs.Sample.{volatility}
+use Rattle.estimators.specs.Sample.{volatility, correlationBy, correlation}
 use Rattle.estimators.specs.LedoitWolf.{apart, averageCorrelation}
-use Rattle.estimators.proofs.Stored.{nth-stored}
-use Rattle.estimators.proofs.Entries.{sum-over-ext}
+use Rattle.estimators.proofs.Entries.{sum-over-ext, correlation-stored}
 use lib.ListN.{length}
 use borrow.Author.Needs.{needs}
 use Rattle.estimators.proofs.targets.average_correlation.Statement.{statement}
 use Rattle.estimators.proofs.targets.average_correlation.Tie as tie
 
--- by the volatilities v
-abbrev correlation : Matrix → (ℕ → Float) → Matrix
-correlation s v i j = s i j ⊘ v i ⊘ v j
-
-average : (n : ℕ) (s : Matrix) {sd : List Float} {t k : Float} → sd ≡ tab n (volatility s) → t ≡ loop n (sumRow n apart (correlation s (nth sd))) zero⁺ → k ≡ count (n * (n - 1)) → t ⊘ k ≡ averageCorrelation n s
+average : (n : ℕ) (s : Matrix) {sd : List Float} {t k : Float} → sd ≡ tab n (volatility s) → t ≡ loop n (sumRow n apart (correlationBy (nth sd) s)) zero⁺ → k ≡ count (n * (n - 1)) → t ⊘ k ≡ averageCorrelation n s
 unfolding averageCorrelation sumOver
 average n s {sd} ed et ek = λ u.
-    (et ∙ sum-over-ext n apart (correlation s (nth sd)) (correlation s (volatility s)) zero⁺
-    (λ i j hi hj v. s i j ⊘ nth-stored n (volatility s) ed i hi v ⊘ nth-stored n (volatility s) ed j hj v)) u ⊘ ek u
+    (et ∙ sum-over-ext n apart (correlationBy (nth sd) s) (correlation s) zero⁺ (correlation-stored n s ed)) u ⊘ ek u
 
 room : (n : ℕ) → n ≤ maxSide → n * (n - 1) ≤ maxSide * maxSide
 room n h = let less : n - 1 ≤ maxSide = omega arith in mul-le-mul h less
 
 abbrev Inv-loop : tie.InvT-loop
-Inv-loop s sd n t₀ i₀ t i = (i ≤ n) × (t ≡ loop i (sumRow n apart (correlation (at s n) (nth sd))) zero⁺)
+Inv-loop s sd n t₀ i₀ t i = (i ≤ n) × (t ≡ loop i (sumRow n apart (correlationBy (nth sd) (at s n))) zero⁺)
 
 abbrev μ-loop : tie.MeasureT-loop
 μ-loop s sd n t₀ i₀ t i = n - i

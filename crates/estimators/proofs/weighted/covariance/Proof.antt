@@ -9,22 +9,22 @@ array-borrow-prefix-weights : tie.Need-array-borrow-prefix-weights
 array-borrow-prefix-weights c = search needs
 
 slice-aggregate-covariance-in : tie.Need-slice-aggregate-covariance-in
-slice-aggregate-covariance-in c = sym (length-take-le _ _ (c .before .before .before .pre .4))
+slice-aggregate-covariance-in c = sym (length-take-le _ _ (c .before .before .before .pre .3))
 
 array-borrow-prefix-roots : tie.Need-array-borrow-prefix-roots
 array-borrow-prefix-roots c = search needs
 
 slice-aggregate-covariance-in-2 : tie.Need-slice-aggregate-covariance-in-2
-slice-aggregate-covariance-in-2 c = sym (length-take-le _ _ (c .before .before .before .before .pre .4))
+slice-aggregate-covariance-in-2 c = sym (length-take-le _ _ (c .before .before .before .before .pre .3))
 
 array-borrow-prefix-centers : tie.Need-array-borrow-prefix-centers
 array-borrow-prefix-centers c = search needs
 
 slice-aggregate-covariance-in-3 : tie.Need-slice-aggregate-covariance-in-3
-slice-aggregate-covariance-in-3 c = sym (length-take-le _ _ (c .before .before .before .before .before .pre .2))
+slice-aggregate-covariance-in-3 c = sym (length-take-le _ _ (c .before .before .before .before .before .pre .1))
 
 covariance-in-requires : tie.Need-covariance-in-requires
-covariance-in-requires c κs = let h = c .before .before .before .before .before .before .pre in (h .0, h .1, h .2, h .3, length-take-le _ _ (h .4), length-take-le _ _ (h .4), length-take-le _ _ (h .2), h .5)
+covariance-in-requires c κs = let h = c .before .before .before .before .before .before .pre in (h .0, h .1, h .2, length-take-le _ _ (h .3), length-take-le _ _ (h .3), length-take-le _ _ (h .1), h .4)
 
 same-length : tie.Need-same-length
 same-length c = search needs

@@ -12,19 +12,19 @@ put-weights-requires : tie.Need-put-weights-requires
 put-weights-requires c κs = search needs
 
 means-requires : tie.Need-means-requires
-means-requires c κs = let h = c .before .before .before .before .before .before .before .before .before .before .before .pre in (h .0, h .1, h .2, c .before .before .before .before .put-weights .kept .1 .0 ∙ h .4, h .6)
+means-requires c κs = let h = c .before .before .before .before .before .before .before .before .before .before .before .pre in (h .0, h .1, c .before .before .before .before .put-weights .kept .1 .0 ∙ h .3, h .5)
 
 denominator-requires : tie.Need-denominator-requires
-denominator-requires c κs = c .before .before .before .before .before .before .before .before .before .before .before .before .before .before .before .pre .3
+denominator-requires c κs = c .before .before .before .before .before .before .before .before .before .before .before .before .before .before .before .pre .2
 
 put-roots-requires : tie.Need-put-roots-requires
-put-roots-requires c κs = let h = c .before .before .before .before .before .before .before .before .before .before .before .before .before .before .before .before .before .pre in c .before .before .before .before .before .before .before .before .before .before .put-weights .kept .1 .0 ∙ h .4 ∙ sym (h .5)
+put-roots-requires c κs = let h = c .before .before .before .before .before .before .before .before .before .before .before .before .before .before .before .before .before .pre in c .before .before .before .before .before .before .before .before .before .before .put-weights .kept .1 .0 ∙ h .3 ∙ sym (h .4)
 
 slice-aggregate-gram : tie.Need-slice-aggregate-gram
 slice-aggregate-gram c = search needs
 
 gram-requires : tie.Need-gram-requires
-gram-requires c κs = let h = c .before .before .before .before .before .before .before .before .before .before .before .before .before .before .before .before .before .before .before .before .before .before .before .before .pre in (h .0, h .2, c .before .before .before .before .before .before .before .before .before .before .before .before .means .kept .1 .1 .1 .1 .0 ∙ h .6, h .7)
+gram-requires c κs = let h = c .before .before .before .before .before .before .before .before .before .before .before .before .before .before .before .before .before .before .before .before .before .before .before .before .pre in (h .0, h .1, c .before .before .before .before .before .before .before .before .before .before .before .before .means .kept .1 .1 .1 .1 .0 ∙ h .5, h .6)
 
 same-length : tie.Need-same-length
 same-length c = search needs
@@ -47,8 +47,8 @@ returns c =
     let s = w .before .before .before .before .before .before .before in
     let a = s .args in
     let h = s .pre in
-    weighted-alike (a .periods) (a .n) _ (a .l) (at (a .r .now) (a .n)) (h .5)
-    (w .put-weights .ensures ∙ ap (λ (m : ℕ). weights m (a .l)) (h .4)) (d .denominator .ensures) (m .means .ensures) (root .put-roots .ensures) (c .before .before .gram .ensures)
+    weighted-alike (a .periods) (a .n) _ (a .l) (at (a .r .now) (a .n)) (h .4)
+    (w .put-weights .ensures ∙ ap (λ (m : ℕ). weights m (a .l)) (h .3)) (d .denominator .ensures) (m .means .ensures) (root .put-roots .ensures) (c .before .before .gram .ensures)
 
 pub covariance-in-spec : {M : Type 1} → statement M
 covariance-in-spec = tie.close (tie.spec put-weights-requires means-requires denominator-requires put-roots-requires slice-aggregate-gram gram-requires same-length same-length-2 same-length-3 same-length-4 returns)

@@ -15,13 +15,13 @@ array-borrow-prefix-buffer : tie.Need-array-borrow-prefix-buffer
 array-borrow-prefix-buffer c = search needs
 
 slice-aggregate-weights : tie.Need-slice-aggregate-weights
-slice-aggregate-weights c = sym (length-take-le _ _ (c .before .before .before .pre .4))
+slice-aggregate-weights c = sym (length-take-le _ _ (c .before .before .before .pre .2))
 
 put-weights-requires : tie.Need-put-weights-requires
 put-weights-requires c κs = search needs
 
 means-requires : tie.Need-means-requires
-means-requires c κs = let h = c .before .before .before .before .before .before .before .before .before .pre in (h .0, h .1, h .2, c .before .before .before .before .put-weights .kept .1 .0 ∙ length-take-le _ _ (h .4), h .5)
+means-requires c κs = let h = c .before .before .before .before .before .before .before .before .before .pre in (h .0, h .1, c .before .before .before .before .put-weights .kept .1 .0 ∙ length-take-le _ _ (h .2), h .3)
 
 same-length : tie.Need-same-length
 same-length c = search needs
@@ -30,7 +30,7 @@ returns : tie.Need-returns
 returns c =
     let a = c .before .before .before .before .before .before .before .before .before .before .before .before .before .args in
     c .before .before .before .means .ensures
-    ∙ ap (λ (w : List Float). tab (a .n) (weightedMean (a .periods) w (at (a .r .now) (a .n)))) (c .before .before .before .before .before .before .before .before .put-weights .ensures ∙ ap (λ (m : ℕ). weights m (a .l)) (length-take-le _ _ (c .before .before .before .before .before .before .before .before .before .before .before .before .before .pre .4)))
+    ∙ ap (λ (w : List Float). tab (a .n) (weightedMean (a .periods) w (at (a .r .now) (a .n)))) (c .before .before .before .before .before .before .before .before .put-weights .ensures ∙ ap (λ (m : ℕ). weights m (a .l)) (length-take-le _ _ (c .before .before .before .before .before .before .before .before .before .before .before .before .before .pre .2)))
 
 pub mean-of-spec : {M : Type 1} → statement M
 mean-of-spec = tie.close (tie.spec array-borrow-prefix-buffer slice-aggregate-weights put-weights-requires means-requires same-length returns)

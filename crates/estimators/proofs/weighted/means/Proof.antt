@@ -11,25 +11,25 @@ array-borrow-prefix-buffer : tie.Need-array-borrow-prefix-buffer
 array-borrow-prefix-buffer c = search needs
 
 slice-aggregate-powers : tie.Need-slice-aggregate-powers
-slice-aggregate-powers c = sym (length-take-le _ _ (c .before .before .before .before .pre .2))
+slice-aggregate-powers c = sym (length-take-le _ _ (c .before .before .before .before .pre .1))
 
 largest-requires : tie.Need-largest-requires
-largest-requires c κs = let h = c .before .before .before .before .before .pre in (h .0, h .2, h .4)
+largest-requires c κs = let h = c .before .before .before .before .before .pre in (h .0, h .1, h .3)
 
 put-exponents-requires : tie.Need-put-exponents-requires
-put-exponents-requires c κs = let h = c .before .before .before .before .before .before .before .before .before .before .pre in c .before .before .before .before .largest .kept .1 .1 .1 .0 ∙ h .4 ∙ sym (length-take-le _ _ (h .2))
+put-exponents-requires c κs = let h = c .before .before .before .before .before .before .before .before .before .before .pre in c .before .before .before .before .largest .kept .1 .1 .1 .0 ∙ h .3 ∙ sym (length-take-le _ _ (h .1))
 
 put-means-requires : tie.Need-put-means-requires
 put-means-requires c κs =
     let h = c .before .before .before .before .before .before .before .before .before .before .before .before .before .before .pre in
     let p = c .before .before .before .put-exponents in
-    (h .0, h .2, p .kept .1 .0 ∙ length-take-le _ _ (h .2), p .ensures .1, h .3, c .before .before .before .before .before .before .before .before .largest .kept .1 .1 .1 .0 ∙ h .4)
+    (h .0, h .1, p .kept .1 .0 ∙ length-take-le _ _ (h .1), p .ensures .1, h .2, c .before .before .before .before .before .before .before .before .largest .kept .1 .1 .1 .0 ∙ h .3)
 
 scale-requires : tie.Need-scale-requires
 scale-requires c κs =
     let h = c .before .before .before .before .before .before .before .before .before .before .before .before .before .before .before .before .before .before .before .pre in
     let p = c .before .before .before .before .before .before .before .before .put-exponents in
-    (p .kept .1 .0 ∙ length-take-le _ _ (h .2) ∙ sym (c .before .before .before .before .put-means .kept .1 .1 .1 .1 .1 .0 ∙ c .before .before .before .before .before .before .before .before .before .before .before .before .before .largest .kept .1 .1 .1 .0 ∙ h .4), p .ensures .1)
+    (p .kept .1 .0 ∙ length-take-le _ _ (h .1) ∙ sym (c .before .before .before .before .put-means .kept .1 .1 .1 .1 .1 .0 ∙ c .before .before .before .before .before .before .before .before .before .before .before .before .before .largest .kept .1 .1 .1 .0 ∙ h .3), p .ensures .1)
 
 same-length : tie.Need-same-length
 same-length c = search needs
@@ -42,7 +42,7 @@ returns c =
     let m = c .before .before .before .before .before .before .before .before .put-means in
     let l = c .before .before .before .before .before .before .before .before .before .before .before .before .before .before .before .before .before .largest in
     c .before .before .before .scale .ensures
-    ∙ mean-back (a .periods) (a .n) (at (a .r .now) (a .n)) _ (a .weights .now) _ _ (length-take-le _ _ (h .2)) (m .kept .1 .1 .1 .1 .1 .0 ∙ l .kept .1 .1 .1 .0 ∙ h .4) (l .ensures) (p .ensures .0) (m .ensures)
+    ∙ mean-back (a .periods) (a .n) (at (a .r .now) (a .n)) _ (a .weights .now) _ _ (length-take-le _ _ (h .1)) (m .kept .1 .1 .1 .1 .1 .0 ∙ l .kept .1 .1 .1 .0 ∙ h .3) (l .ensures) (p .ensures .0) (m .ensures)
 
 pub means-spec : {M : Type 1} → statement M
 means-spec = tie.close (tie.spec array-borrow-prefix-buffer slice-aggregate-powers largest-requires put-exponents-requires put-means-requires scale-requires same-length returns)

@@ -2,26 +2,26 @@
 use mathlib.Core.Path.{_≡_}
 use Prim.Native.Nat.{_^_, _<_}
 use mathlib.Core.Bool.{true, false}
-use lib.IntN.{ℤ, pos}
+use lib.IntN.{ℤ}
 use lib.Signed.{mag}
-use lib.Ieee.{Float, nan, fin, lt, le, neg, div, ofBits}
+use lib.Ieee.{Float, nan, lt, le, neg, div, ofBits}
 use mir.Syntax.{w32}
 use mir.Val.{toZ, ofZ}
 use borrow.Author.Needs.{needs}
 use Rattle.leaves.specs.Numbers.{zero⁺, one}
 use Rattle.leaves.specs.Scaling.{pow2Scaled}
-use Rattle.leaves.specs.Exp.{horner, nearestPower, reduced, exp}
+use Rattle.leaves.specs.Exp.{minArgument, horner, nearestPower, reduced, exp}
 use Rattle.leaves.proofs.Ints.{back-i32}
 use Rattle.leaves.proofs.Sizes.{small-steps}
 use Rattle.leaves.proofs.exponential.exp.Statement.{statement}
 use Rattle.leaves.proofs.exponential.exp.Tie as tie
 
 found : (y : Float) (k : ℤ) → mag k < 2 ^ 31 → k ≡ nearestPower y → (p : Float) → p ≡ horner (reduced y (toZ w32 (ofZ w32 k))) 0 13 one → (r : Float) → r ≡ pow2Scaled p (toZ w32 (ofZ w32 k))
-    → lt y (fin true 373 (pos 1)) ≡ false → le y zero⁺ ≡ true → r ≡ exp y
+    → lt y minArgument ≡ false → le y zero⁺ ≡ true → r ≡ exp y
 unfolding exp
 found y k fk is-k p is-p r is-r a b = rw (a, b, is-r, is-p, back-i32 k fk, is-k)
 
-above : (y : Float) → lt y (fin true 373 (pos 1)) ≡ false → le y zero⁺ ≡ false → nan ≡ exp y
+above : (y : Float) → lt y minArgument ≡ false → le y zero⁺ ≡ false → nan ≡ exp y
 unfolding exp
 above y a b = rw (a, b)
 

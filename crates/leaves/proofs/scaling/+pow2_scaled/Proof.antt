@@ -6,7 +6,7 @@ use native.Mathlib.Omega.{arith}
 use lib.IntN.{ℤ, pos, negsuc, _-ℤ_}
 use lib.Dec.{T}
 use lib.Signed.{leZ, mag}
-use lib.Ieee.{Float, nan, binary64, mul}
+use lib.Ieee.{Float, binary64, mul}
 use mir.Syntax.{w32}
 use mir.Val.{SFits, toZ, ofZ}
 use mir.Facts.{toZ-ofZ}
@@ -42,7 +42,7 @@ nearer : (k : ℤ) → (cut k ≡ k → ⊥) → over (k -ℤ cut k) + under (k 
 nearer k h = lt-of-not-le (λ (g : over k + under k ≤ over (k -ℤ cut k) + under (k -ℤ cut k)). h (same (cut k) k (omega (arith, minus k (cut k), cut-range k, one-side k, one-side (k -ℤ cut k)))))
 
 -- What the code holds at each place: s is what `cut` gave, and y what `pow2` gave. The machine reads a number back from its bits.
-module _ (x y : Float) (k s : ℤ) (fk : SFits w32 k) (fs : mag s < 2 ^ 31) (is-cut : s ≡ cut (toZ w32 (ofZ w32 k))) where
+module _ (k s : ℤ) (fk : SFits w32 k) (fs : mag s < 2 ^ 31) (is-cut : s ≡ cut (toZ w32 (ofZ w32 k))) where
   in-range : T (leZ (negsuc 1021) (toZ w32 (ofZ w32 s))) × T (leZ (toZ w32 (ofZ w32 s)) (pos 1023))
   unfolding over under
   in-range = rw (step-read k s fk fs is-cut) (yes-le (negsuc 1021) (cut k) (omega (arith, cut-range k)), yes-le (cut k) (pos 1023) (omega (arith, cut-range k)))
@@ -54,7 +54,7 @@ module _ (x y : Float) (k s : ℤ) (fk : SFits w32 k) (fs : mag s < 2 ^ 31) (is-
       → over (toZ w32 (ofZ w32 (toZ w32 (ofZ w32 k) -ℤ toZ w32 (ofZ w32 s)))) + under (toZ w32 (ofZ w32 (toZ w32 (ofZ w32 k) -ℤ toZ w32 (ofZ w32 s)))) < t
   less t e ne = rw (left-read k s fk fs is-cut, ← e) (nearer k (differ ne))
 
-  module _ (is-pow : y ≡ pow2 (toZ w32 (ofZ w32 s))) where
+  module _ (x y : Float) (is-pow : y ≡ pow2 (toZ w32 (ofZ w32 s))) where
     y-is : y ≡ pow2 (cut k)
     y-is = is-pow ∙ ap pow2 (step-read k s fk fs is-cut)
 
@@ -70,7 +70,7 @@ pow2-scaled-cut-requires : (t : ℕ) → pow2-scaled-lts.Need-cut-requires (cut-
 pow2-scaled-cut-requires t c κs = tt
 
 pow2-scaled-pow2-requires : (t : ℕ) → pow2-scaled-lts.Need-pow2-requires (cut-reads.Asked, cut-reads.Learnt, pow2-reads.Asked, pow2-reads.Learnt, pow2-scaled-below t, pow2-scaled.Post) (pow2-scaled-at t) pow2-scaled.Post
-pow2-scaled-pow2-requires t c κs = in-range nan nan (c .before .args .k) (c .cut .result) (c .before .fits .k) (c .cut .ok) (c .cut .ensures)
+pow2-scaled-pow2-requires t c κs = in-range (c .before .args .k) (c .cut .result) (c .before .fits .k) (c .cut .ok) (c .cut .ensures)
 
 pow2-scaled-sub-pow2-scaled : (t : ℕ) → pow2-scaled-lts.Need-sub-pow2-scaled (cut-reads.Asked, cut-reads.Learnt, pow2-reads.Asked, pow2-reads.Learnt, pow2-scaled-below t, pow2-scaled.Post) (pow2-scaled-at t) pow2-scaled.Post
 pow2-scaled-sub-pow2-scaled t c =
@@ -82,20 +82,20 @@ pow2-scaled-pow2-scaled-requires : (t : ℕ) → pow2-scaled-lts.Need-pow2-scale
 pow2-scaled-pow2-scaled-requires t c κs =
     let a = c .before .before .cut in
     let b = c .before .before .before in
-    (less nan nan (b .args .k) (a .result) (b .fits .k) (a .ok) (a .ensures) t (b .pre .0) (c .if1 .left), tt)
+    (less (b .args .k) (a .result) (b .fits .k) (a .ok) (a .ensures) t (b .pre .0) (c .if1 .left), tt)
 
 pow2-scaled-returns : (t : ℕ) → pow2-scaled-lts.Need-returns (cut-reads.Asked, cut-reads.Learnt, pow2-reads.Asked, pow2-reads.Learnt, pow2-scaled-below t, pow2-scaled.Post) (pow2-scaled-at t) pow2-scaled.Post
 pow2-scaled-returns t c =
     let a = c .before .before .cut in
     let b = c .before .before .before in
-    last (b .args .x) (c .before .pow2 .result) (b .args .k) (a .result) (b .fits .k) (a .ok) (a .ensures) (c .before .pow2 .ensures) (c .if1 .taken)
+    last (b .args .k) (a .result) (b .fits .k) (a .ok) (a .ensures) (b .args .x) (c .before .pow2 .result) (c .before .pow2 .ensures) (c .if1 .taken)
 
 pow2-scaled-returns-2 : (t : ℕ) → pow2-scaled-lts.Need-returns-2 (cut-reads.Asked, cut-reads.Learnt, pow2-reads.Asked, pow2-reads.Learnt, pow2-scaled-below t, pow2-scaled.Post) (pow2-scaled-at t) pow2-scaled.Post
 pow2-scaled-returns-2 t c =
     let p = c .before .before .pow2 in
     let a = c .before .before .before .cut in
     let b = c .before .before .before .before in
-    next (b .args .x) (p .result) (b .args .k) (a .result) (b .fits .k) (a .ok) (a .ensures) (p .ensures) (c .pow2-scaled .result) (c .before .if1 .left) (c .pow2-scaled .ensures)
+    next (b .args .k) (a .result) (b .fits .k) (a .ok) (a .ensures) (b .args .x) (p .result) (p .ensures) (c .pow2-scaled .result) (c .before .if1 .left) (c .pow2-scaled .ensures)
 
 pub +pow2-scaled-spec : {M : Type 1} → statement M
 +pow2-scaled-spec = close μ-pow2-scaled λ t. pow2-scaled-lts.spec (cut-reads.Asked, cut-reads.Learnt, pow2-reads.Asked, pow2-reads.Learnt, pow2-scaled-below t, pow2-scaled.Post) (pow2-scaled-at t) pow2-scaled.Post

@@ -1,27 +1,22 @@
 -- `matrix::jacobi::decompose` meets its contract: `decompose_in`, in an array of the largest size.
 use mathlib.Core.Path.{sym}
-use Prim.Native.Nat.{ℕ, _≤_, _*_}
-use native.Mathlib.Nat.{mul-le-mul}
 use borrow.Author.Needs.{needs}
 use lib.Seq.{length-take-le}
-use Rattle.matrix.specs.Limits.{maxSide}
+use Rattle.matrix.proofs.Counts.{square-most}
 use Rattle.matrix.proofs.jacobi.decompose.Statement.{statement}
 use Rattle.matrix.proofs.jacobi.decompose.Tie as tie
-
-square : (n : ℕ) → n ≤ maxSide → n * n ≤ maxSide * maxSide
-square n h = mul-le-mul h h
 
 mul-size : tie.Need-mul-size
 mul-size c = search needs
 
 array-borrow-prefix-work : tie.Need-array-borrow-prefix-work
-array-borrow-prefix-work c = square _ (c .before .before .before .pre .0)
+array-borrow-prefix-work c = square-most (c .before .before .before .pre .0)
 
 slice-aggregate-decompose-in : tie.Need-slice-aggregate-decompose-in
-slice-aggregate-decompose-in c = sym (length-take-le _ _ (square _ (c .before .before .before .before .pre .0)))
+slice-aggregate-decompose-in c = sym (length-take-le _ _ (square-most (c .before .before .before .before .pre .0)))
 
 decompose-in-requires : tie.Need-decompose-in-requires
-decompose-in-requires c κs = let p = c .before .before .before .before .before .before .pre in (p .0, p .1, p .2, length-take-le _ _ (square _ (p .0)), p .3, p .4)
+decompose-in-requires c κs = let p = c .before .before .before .before .before .before .pre in (p .0, p .1, p .2, length-take-le _ _ (square-most (p .0)), p .3, p .4)
 
 same-length : tie.Need-same-length
 same-length c = search needs

@@ -1,7 +1,7 @@
 -- `matrix::jacobi::sweep` meets its contract. The invariant: the rows swept so far, whatever was counted before.
 use mathlib.Core.Path.{_≡_, refl, sym, ap, _∙_}
 use Prim.Native.Nat.{ℕ, suc, _≤_, _<_, _-_, _+_, _*_}
-use native.Mathlib.Nat.{add-zero, add-assoc, le-refl, mul-le-mul}
+use native.Mathlib.Nat.{add-zero, add-assoc, le-refl}
 use native.Mathlib.Omega.{arith}
 use borrow.Author.Needs.{needs}
 use lib.ListN.{length}
@@ -9,20 +9,19 @@ use Rattle.leaves.specs.Loops.{loop}
 use Rattle.leaves.proofs.Invariants.{loop-turn, loop-end, loop-start}
 use Rattle.leaves.proofs.Loops.{row}
 use Rattle.matrix.specs.Limits.{maxSide}
-use Rattle.matrix.specs.Rotation.{rotate}
-use Rattle.matrix.specs.Jacobi.{sweep}
+use Rattle.matrix.specs.Jacobi.{sweepRow, sweep}
 use Rattle.matrix.specs.Inner.{state, byColumns}
-use Rattle.matrix.proofs.Counts.{places, places-most, row-count, rows-count}
+use Rattle.matrix.proofs.Counts.{places, places-most, square-most, row-count, rows-count}
 use Rattle.matrix.proofs.Symmetry.{rows-symmetric}
 use Rattle.matrix.proofs.jacobi.sweep.Statement.{statement}
 use Rattle.matrix.proofs.jacobi.sweep.Tie as tie
 
 -- the count stays below the square of the side
 room : (n p r r′ : ℕ) → p < n → n ≤ maxSide → r ≤ 0 + places n p → r′ ≤ 0 + (n - suc p) → r + r′ ≤ maxSide * maxSide
-room n p r r′ h l e e′ = omega (arith, places-most n p, row p n n h, mul-le-mul l l)
+room n p r r′ h l e e′ = omega (arith, places-most n p, row p n n h, square-most l)
 
 abbrev Inv-loop : tie.InvT-loop
-Inv-loop a₀ v₀ n rotations₀ p₀ a v rotations p = (p ≤ n) × (length a ≡ length a₀) × (length v ≡ length v₀) × ((k : ℕ) → state a (byColumns n v) (k + rotations) ≡ loop p (λ p. loop (n - suc p) (λ k. rotate n p (suc p + k))) (state a₀ (byColumns n v₀) k))
+Inv-loop a₀ v₀ n rotations₀ p₀ a v rotations p = (p ≤ n) × (length a ≡ length a₀) × (length v ≡ length v₀) × ((k : ℕ) → state a (byColumns n v) (k + rotations) ≡ loop p (sweepRow n) (state a₀ (byColumns n v₀) k))
 
 abbrev μ-loop : tie.MeasureT-loop
 μ-loop a₀ v₀ n rotations₀ p₀ a v rotations p = n - p

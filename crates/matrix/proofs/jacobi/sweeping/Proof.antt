@@ -16,11 +16,11 @@ use Rattle.leaves.proofs.IsNan.{nan-yes, nan-no}
 use Rattle.matrix.specs.Limits.{maxSide, maxSweeps}
 use Rattle.matrix.specs.Matrix.{at}
 use Rattle.matrix.specs.Rotation.{State}
-use Rattle.matrix.specs.Jacobi.{offDiagonal, sweep, afterSweeps, Test, fails, converged, goesOn, test, stops, isConverged, sweeping}
+use Rattle.matrix.specs.Jacobi.{offDiagonal, sweep, afterSweeps, Test, fails, converged, goesOn, test, stops, isConverged, stopping, sweptBy, sweeping}
 use Rattle.matrix.specs.Inner.{state, sweptTo, byColumns}
-use Rattle.matrix.proofs.First.{first-none, first-more, first-at}
+use Rattle.leaves.proofs.First.{first-none, first-more, first-at}
 use Rattle.matrix.proofs.Counts.{pairs, pairs-most, sweep-count, sweeps-count}
-use Rattle.matrix.proofs.Sweeps.{stopping, sweptBy, sweeping-is}
+use Rattle.matrix.proofs.Sweeps.{sweeping-is}
 use Rattle.matrix.proofs.Symmetry.{sweeps-symmetric}
 use Rattle.matrix.proofs.jacobi.sweeping.Statement.{statement}
 use Rattle.matrix.proofs.jacobi.sweeping.Tie as tie

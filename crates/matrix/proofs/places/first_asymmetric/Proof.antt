@@ -11,7 +11,8 @@ use Rattle.leaves.specs.Numbers.{_⊖_, abs}
 use Rattle.leaves.specs.Loops.{firstTo}
 use Rattle.leaves.proofs.Loops.{side, row-below, col-below}
 use Rattle.matrix.specs.Matrix.{at}
-use Rattle.matrix.proofs.First.{first-none, first-more, entry-at-cell, entry-nowhere}
+use Rattle.matrix.proofs.First.{entry-at-cell, entry-nowhere}
+use Rattle.leaves.proofs.First.{first-none, first-more}
 use Rattle.matrix.proofs.places.first_asymmetric.Statement.{statement}
 use Rattle.matrix.proofs.places.first_asymmetric.Tie as tie
 
@@ -38,10 +39,10 @@ rem-j : tie.Need-rem-j Inv-loop μ-loop
 rem-j c = side (c .before .loop .k) _ (omega arith)
 
 get-requires : tie.Need-get-requires Inv-loop μ-loop
-get-requires c κs = (row-below _ _ (omega arith), col-below _ _ (omega arith), c .before .before .before .pre)
+get-requires c κs = (row-below _ _ _ (omega arith), col-below _ (c .before .before .before .args .n) _ (omega arith), c .before .before .before .pre)
 
 get-requires-2 : tie.Need-get-requires-2 Inv-loop μ-loop
-get-requires-2 c κs = (col-below _ _ (omega arith), row-below _ _ (omega arith), c .before .before .before .before .pre)
+get-requires-2 c κs = (col-below _ (c .before .before .before .before .args .n) _ (omega arith), row-below _ _ _ (omega arith), c .before .before .before .before .pre)
 
 abs-requires : tie.Need-abs-requires Inv-loop μ-loop
 abs-requires c κs = search needs

@@ -5,16 +5,16 @@ use native.Mathlib.Omega.{arith}
 use borrow.Author.Needs.{needs}
 use lib.Dec.{ltb}
 use lib.Ieee.{ofBits}
-use Rattle.leaves.specs.Numbers.{_⊗_, zero⁺}
+use Rattle.leaves.specs.Numbers.{zero⁺}
 use Rattle.leaves.specs.Loops.{loop}
 use Rattle.leaves.proofs.Invariants.{loop-turn, loop-end, loop-start}
-use Rattle.matrix.specs.Matrix.{at, sumOver, sumRow}
+use Rattle.matrix.specs.Matrix.{at, squared, sumOver, sumRow}
 use Rattle.matrix.specs.Jacobi.{offDiagonal}
 use Rattle.matrix.proofs.sums.off_diagonal.Statement.{statement}
 use Rattle.matrix.proofs.sums.off_diagonal.Tie as tie
 
 abbrev Inv-loop : tie.InvT-loop
-Inv-loop a n s₀ p₀ s p = (p ≤ n) × (s ≡ loop p (sumRow n ltb (λ i j. at a n i j ⊗ at a n i j)) zero⁺)
+Inv-loop a n s₀ p₀ s p = (p ≤ n) × (s ≡ loop p (sumRow n ltb (squared (at a n))) zero⁺)
 
 abbrev μ-loop : tie.MeasureT-loop
 μ-loop a n s₀ p₀ s p = n - p

@@ -8,13 +8,13 @@ use Rattle.leaves.specs.Numbers.{_⊕_, _⊗_}
 use Rattle.leaves.specs.Loops.{loop}
 use Rattle.leaves.proofs.Invariants.{loop-turn}
 use Rattle.leaves.proofs.Loops.{at-end}
-use Rattle.matrix.specs.Matrix.{Matrix, at, addKept, sumRow}
+use Rattle.matrix.specs.Matrix.{Matrix, at, squared, addKept, sumRow}
 use Rattle.matrix.proofs.Steps.{above-none, above-more}
 use Rattle.matrix.proofs.sums.off_row.Statement.{statement}
 use Rattle.matrix.proofs.sums.off_row.Tie as tie
 
 abbrev Inv-loop : tie.InvT-loop
-Inv-loop a n p sum s₀ q₀ s q = (p < q) × (q ≤ n) × (s ≡ sumRow q ltb (λ i j. at a n i j ⊗ at a n i j) p sum)
+Inv-loop a n p sum s₀ q₀ s q = (p < q) × (q ≤ n) × (s ≡ sumRow q ltb (squared (at a n)) p sum)
 
 abbrev μ-loop : tie.MeasureT-loop
 μ-loop a n p sum s₀ q₀ s q = n - q
@@ -23,7 +23,7 @@ add-q : tie.Need-add-q Inv-loop μ-loop
 add-q c = search needs
 
 loop-holds : tie.Need-loop-holds Inv-loop μ-loop
-loop-holds c = let a = c .before .args in (omega arith, omega arith, above-none (λ i j. at (a .a .now) (a .n) i j ⊗ at (a .a .now) (a .n) i j) _ _)
+loop-holds c = let a = c .before .args in (omega arith, omega arith, above-none (squared (at (a .a .now) (a .n))) _ _)
 
 get-requires : tie.Need-get-requires Inv-loop μ-loop
 get-requires c κs = search needs
@@ -35,10 +35,10 @@ loop-less : tie.Need-loop-less Inv-loop μ-loop
 loop-less c = search needs
 
 loop-again : tie.Need-loop-again Inv-loop μ-loop
-loop-again c = let a = c .before .before .before .before .args in let f : Matrix = λ i j. at (a .a .now) (a .n) i j ⊗ at (a .a .now) (a .n) i j in (omega arith, omega arith, loop-turn (addKept ltb f (a .p)) _ _ _ _ (c .before .before .loop .inv .2) ((λ t. c .before .before .loop .s ⊕ c .get .ensures t ⊗ c .get .ensures t) ∙ above-more f (a .p) _ _ (c .before .before .loop .inv .0)))
+loop-again c = let a = c .before .before .before .before .args in let f : Matrix = squared (at (a .a .now) (a .n)) in (omega arith, omega arith, loop-turn (addKept ltb f (a .p)) _ _ _ _ (c .before .before .loop .inv .2) ((λ t. c .before .before .loop .s ⊕ c .get .ensures t ⊗ c .get .ensures t) ∙ above-more f (a .p) _ _ (c .before .before .loop .inv .0)))
 
 returns : tie.Need-returns Inv-loop μ-loop
-returns c = let a = c .before .before .before .args in at-end (λ k. sumRow k ltb (λ i j. at (a .a .now) (a .n) i j ⊗ at (a .a .now) (a .n) i j) (a .p) (a .sum)) _ _ _ (c .before .loop .inv .2) (c .before .loop .inv .1) (c .loop-test .left)
+returns c = let a = c .before .before .before .args in at-end (λ k. sumRow k ltb (squared (at (a .a .now) (a .n))) (a .p) (a .sum)) _ _ _ (c .before .loop .inv .2) (c .before .loop .inv .1) (c .loop-test .left)
 
 pub off-row-spec : {M : Type 1} → statement M
 off-row-spec = tie.close (tie.spec Inv-loop μ-loop add-q loop-holds get-requires add-q-2 loop-less loop-again returns)

@@ -17,7 +17,7 @@ module _ (c s : Float) (n p q : ℕ) (a : List Float) (pq : p < q) (qn : q < n) 
   block = e₂ ∙ ap (turnedBlock n p q c s) e₁
 
   meet : at a₂ n p q ≡ at a₂ n q p
-  meet = subst (λ (l : List Float). at l n p q ≡ at l n q p) (sym block) (blocked-meet c s n p q pq qn a len same)
+  meet = subst (λ (l : List Float). at l n p q ≡ at l n q p) (sym block) (blocked-meet c s n p q pq qn a len)
 
   composed : {a₃ : List Float} → a₃ ≡ rows n n (mirrored n p q a₂) → a₃ ≡ turnedBoth n p q c s a
   composed e₃ = e₃ ∙ ap (λ (l : List Float). rows n n (mirrored n p q l)) block ∙ mirrored-both c s n p q pq qn a len same

@@ -30,10 +30,10 @@ rem-j : tie.Need-rem-j Inv-loop μ-loop
 rem-j c = side _ _ (c .loop-test .taken)
 
 get-requires : tie.Need-get-requires Inv-loop μ-loop
-get-requires c κs = (row-below _ _ (c .loop-test .taken), col-below _ _ (c .loop-test .taken), c .before .before .before .before .pre .0)
+get-requires c κs = (row-below _ _ _ (c .loop-test .taken), col-below _ _ _ (c .loop-test .taken), c .before .before .before .before .pre .0)
 
 get-requires-2 : tie.Need-get-requires-2 Inv-loop μ-loop
-get-requires-2 c κs = (col-below _ _ (c .before .loop-test .taken), row-below _ _ (c .before .loop-test .taken), c .before .before .before .before .before .pre .0)
+get-requires-2 c κs = (col-below _ _ _ (c .before .loop-test .taken), row-below _ _ _ (c .before .loop-test .taken), c .before .before .before .before .before .pre .0)
 
 mul-out : tie.Need-mul-out Inv-loop μ-loop
 mul-out c = search needs

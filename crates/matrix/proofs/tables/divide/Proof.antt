@@ -5,14 +5,14 @@ use native.Mathlib.Omega.{arith}
 use borrow.Author.Needs.{needs}
 use Rattle.leaves.specs.Numbers.{_⊘_}
 use Rattle.leaves.proofs.Invariants.{Filled, filled-more, filled-none}
-use Rattle.matrix.specs.Matrix.{at}
+use Rattle.matrix.specs.Matrix.{at, divided}
 use Rattle.matrix.proofs.Stored.{entry-at}
 use Rattle.matrix.proofs.FilledRows.{filled-rows}
 use Rattle.matrix.proofs.tables.divide.Statement.{statement}
 use Rattle.matrix.proofs.tables.divide.Tie as tie
 
 abbrev Inv-loop : tie.InvT-loop
-Inv-loop a n scale out₀ size k₀ out k = Filled (λ k. at a n (k / n) (k % n) ⊘ scale) k (n * n) out₀ out
+Inv-loop a n scale out₀ size k₀ out k = Filled (λ k. divided (at a n) scale (k / n) (k % n)) k (n * n) out₀ out
 
 abbrev μ-loop : tie.MeasureT-loop
 μ-loop a n scale out₀ size k₀ out k = n * n - k
@@ -48,7 +48,7 @@ same-length : tie.Need-same-length Inv-loop μ-loop
 same-length c = c .before .loop .inv .len
 
 returns : tie.Need-returns Inv-loop μ-loop
-returns c = let a = c .before .before .args in filled-rows (λ i j. at (a .a .now) (a .n) i j ⊘ a .scale) (a .n) (c .before .loop .inv) (c .loop-test .left) (c .before .before .pre .1)
+returns c = let a = c .before .before .args in filled-rows (divided (at (a .a .now) (a .n)) (a .scale)) (a .n) (c .before .loop .inv) (c .loop-test .left) (c .before .before .pre .1)
 
 pub divide-spec : {M : Type 1} → statement M
 divide-spec = tie.close (tie.spec Inv-loop μ-loop mul-size loop-holds mul-out shared-slice-read-out mul-out-2 slice-write-out add-k loop-less loop-again same-length returns)

@@ -28,7 +28,7 @@ div-get : tie.Need-div-get Inv-loop μ-loop
 div-get c = side _ _ (c .loop-test .taken)
 
 get-requires : tie.Need-get-requires Inv-loop μ-loop
-get-requires c κs = (col-below _ _ (c .loop-test .taken), row-below _ _ (c .loop-test .taken), c .before .before .before .before .pre .0)
+get-requires c κs = (col-below _ _ _ (c .loop-test .taken), row-below _ _ _ (c .loop-test .taken), c .before .before .before .before .pre .0)
 
 mul-out : tie.Need-mul-out Inv-loop μ-loop
 mul-out c = search needs

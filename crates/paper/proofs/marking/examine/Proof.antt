@@ -53,7 +53,6 @@ returns : tie.Need-returns
 returns c =
     let g = c .before .before .before .before .before .before .before in
     let r = g .before .before .before in
-    let o = r .before .before .before .before .before .args .o in
     c .before .before .answer .ensures ∙ ap (write _) (ap outcomeText (rw (r .floats .ensures .front, g .floats2 .ensures .front)))
 
 pub examine-spec : {M : Type 1} → statement M

@@ -3,12 +3,12 @@ use mathlib.Core.Path.{_≡_}
 use mathlib.Core.Bool.{false, cond}
 use mathlib.Core.List.{List, [], _∷_}
 use Prim.Native.Nat.{ℕ, _≤_, _*_}
-use native.Mathlib.Nat.{mul-le-mul}
 use native.Mathlib.Omega.{arith}
 use borrow.Author.Needs.{needs}
 use borrow.Author.Tests.{lt-ltb, le-ltb, eq-eqb, ne-eqb}
 use lib.ListN.{length}
 use lib.Ieee.{Float}
+use Rattle.matrix.proofs.Counts.{square-most}
 use Rattle.matrix.specs.Limits.{maxSide, maxSweeps}
 use Rattle.matrix.specs.Matrix.{at}
 use Rattle.matrix.specs.Jacobi.{Decomposition, decompose}
@@ -34,7 +34,7 @@ unfolding fits
 returns-2 c = unfit _ _ _ _ _ _ (rw (le-ltb _ _ (c .before .if1 .left), lt-ltb _ _ (c .if2 .taken)))
 
 mul-if3 : tie.Need-mul-if3
-mul-if3 c = omega (arith, mul-le-mul (c .before .if1 .left) (c .before .if1 .left))
+mul-if3 c = omega (arith, square-most (c .before .if1 .left))
 
 returns-3 : tie.Need-returns-3
 unfolding fits
