@@ -15,13 +15,16 @@ use reference::covariance::{Estimate, Settings, Target};
 use reference::eigen::SymmetricEigen;
 use reference::input::{Call, Input};
 use reference::matrix::Matrix;
-use reference::MAX_SWEEPS;
+use reference::{MAX_PERIODS, MAX_SIDE, MAX_SWEEPS};
 use std::hint::black_box;
 use stopwatch::{median, micros};
 
 /// Assets, periods, how many inputs, how many turns.
-const SHAPES: [(usize, usize, usize, usize); 3] =
-    [(8, 128, 100, 41), (32, 512, 4, 31), (32, 4096, 1, 21)];
+const SHAPES: [(usize, usize, usize, usize); 3] = [
+    (8, 128, 100, 41),
+    (MAX_SIDE, 512, 4, 31),
+    (MAX_SIDE, MAX_PERIODS, 1, 21),
+];
 
 fn main() {
     println!(
@@ -40,7 +43,7 @@ fn main() {
         }
         peers::note(&returns[0], assets, periods);
     }
-    for (side, count) in [(8, 200), (16, 40), (32, 8)] {
+    for (side, count) in [(8, 200), (16, 40), (MAX_SIDE, 8)] {
         decomposition(&random, side, count);
     }
     peers::print();

@@ -13,37 +13,33 @@ use generator::{draw, Shapes};
 use reference::covariance::{Estimate, Settings};
 use reference::flat::{Flat, FlatSettings};
 use reference::input::Input;
-use reference::leaves::bits;
+use reference::leaves::all_bits;
+use reference::{MAX_PERIODS, MAX_SIDE, MIN_PERIODS};
 use std::ops::RangeInclusive;
 use tally::{Tally, ACCEPTED, OWN};
 
 const DIFFERENT: usize = OWN;
 
-/// The name of a range, its assets and periods, and how many inputs are drawn of it.
-type Range = (
-    &'static str,
-    RangeInclusive<usize>,
-    RangeInclusive<usize>,
-    usize,
-);
+/// The assets and periods of a range, and how many inputs are drawn of it.
+type Range = (RangeInclusive<usize>, RangeInclusive<usize>, usize);
 
 const RANGES: [Range; 3] = [
-    ("up to 8 × 128", 1..=8, 2..=128, 50_000),
-    ("up to 32 × 512", 1..=32, 2..=512, 2_000),
-    ("32 × 4,096", 32..=32, 4096..=4096, 100),
+    (1..=8, MIN_PERIODS..=128, 50_000),
+    (1..=MAX_SIDE, MIN_PERIODS..=512, 2_000),
+    (MAX_SIDE..=MAX_SIDE, MAX_PERIODS..=MAX_PERIODS, 100),
 ];
 
 fn main() {
     let random = Random::new(5);
     let mut wrong = 0;
     let mut refusals = [0; OWN];
-    for (at, (name, assets, periods, otherwise)) in RANGES.into_iter().enumerate() {
+    for (at, (assets, periods, otherwise)) in RANGES.into_iter().enumerate() {
+        println!("{assets:?} assets, {periods:?} periods");
         let shapes = Shapes { assets, periods };
         let mut tally = Tally::new(&["differences"]);
         for _ in 0..argument::whole(at + 1, otherwise) {
             compare(&draw(&random, &shapes), &mut tally);
         }
-        println!("{name}");
         tally.print();
         println!();
         wrong += tally.total(DIFFERENT);
@@ -65,20 +61,17 @@ fn compare(input: &Input, tally: &mut Tally) {
     let number = ours.0.number as usize;
     tally.add(&input.call, number);
     let filled = input.filled(number);
-    if ours.0 != theirs.0 || all_bits(&ours.1, filled) != all_bits(&theirs.1, filled) {
+    let same = ours.0 == theirs.0
+        && all_bits(&ours.1[..filled]) == all_bits(&theirs.1[..filled])
+        && input.kept(number, &ours.1)
+        && input.kept(number, &theirs.1);
+    if !same {
         tally.add(&input.call, DIFFERENT);
         if tally.total(DIFFERENT) <= 3 {
             let words = format!("{input:?}: copy {ours:?}, engine {theirs:?}");
             println!("    {}", words.chars().take(2000).collect::<String>());
         }
     }
-}
-
-/// The bits of all numbers, with one pattern for every NaN among the first ones.
-fn all_bits(numbers: &[f64], first: usize) -> Vec<u64> {
-    let (filled, kept) = numbers.split_at(first);
-    let filled = filled.iter().map(|&x| bits(x));
-    filled.chain(kept.iter().map(|x| x.to_bits())).collect()
 }
 
 /// Numbers that stand for no kind: the engine says 100, whatever else is wrong, and writes no answer.

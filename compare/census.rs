@@ -7,12 +7,13 @@ mod tally;
 use argument::whole;
 use generator::random::Random;
 use generator::{draw, Shapes};
+use reference::MIN_PERIODS;
 use tally::{Tally, ACCEPTED};
 
 fn main() {
     let shapes = Shapes {
         assets: 1..=whole(2, 8),
-        periods: 2..=whole(3, 128),
+        periods: MIN_PERIODS..=whole(3, 128),
     };
     let random = Random::new(1);
     let mut tally = Tally::new(&[]);
@@ -20,10 +21,7 @@ fn main() {
         let input = draw(&random, &shapes);
         let (report, answer) = input.answered();
         let number = report.map_or_else(|refusal| refusal.number(), |_| ACCEPTED);
-        // What is not filled keeps its bits: all of the slice where the call refuses.
-        let filled = input.filled(number);
-        let kept = input.answer[filled..].iter().map(|x| x.to_bits());
-        assert!(kept.eq(answer[filled..].iter().map(|x| x.to_bits())));
+        assert!(input.kept(number, &answer));
         tally.add(&input.call, number);
     }
     tally.print();

@@ -5,7 +5,7 @@ mod covariances;
 mod means;
 mod refusals;
 
-use reference::input::Input;
+use reference::input::{Input, UNTOUCHED};
 
 type Example = (&'static str, Input);
 
@@ -40,7 +40,7 @@ const MODERATE: [f64; 12] = [
 
 /// The same input with other counts, and an answer slice of one number.
 fn counted(n: usize, t: usize, input: Input) -> Input {
-    let answer = vec![7.5];
+    let answer = vec![UNTOUCHED];
     Input {
         n,
         t,

@@ -9,9 +9,10 @@ use engine::jacobi::decompose;
 use generator::matrices::KINDS;
 use generator::random::Random;
 use reference::eigen::SymmetricEigen;
-use reference::leaves::bits;
+use reference::input::UNTOUCHED;
+use reference::leaves::all_bits;
 use reference::matrix::Matrix;
-use reference::{MAX_SWEEPS, MOST_ASSETS};
+use reference::{MAX_SIDE, MAX_SWEEPS};
 
 fn main() {
     let matrices = argument::whole(1, 26_000);
@@ -76,7 +77,7 @@ impl Row {
 
 /// The engine's answer.
 fn told(a: &[f64], side: usize, limit: usize) -> Option<Told> {
-    let (mut values, mut vectors) = (vec![7.5; side], vec![7.5; side * side]);
+    let (mut values, mut vectors) = (vec![UNTOUCHED; side], vec![UNTOUCHED; side * side]);
     let mut counts = [usize::MAX; 2];
     match decompose(a, side, limit, &mut values, &mut vectors, &mut counts) {
         0 => Some((all_bits(&values), all_bits(&vectors), counts[0], counts[1])),
@@ -85,15 +86,11 @@ fn told(a: &[f64], side: usize, limit: usize) -> Option<Told> {
     }
 }
 
-fn all_bits(xs: &[f64]) -> Vec<u64> {
-    xs.iter().map(|&x| bits(x)).collect()
-}
-
 /// Mostly small, the largest often.
 fn draw_side(random: &Random) -> usize {
     match random.below(50) {
-        0 => MOST_ASSETS,
-        1..=5 => 1 + random.below(MOST_ASSETS),
+        0 => MAX_SIDE,
+        1..=5 => 1 + random.below(MAX_SIDE),
         _ => 1 + random.below(random.pick(&[2, 4, 8])),
     }
 }
@@ -110,16 +107,16 @@ fn draw_limit(random: &Random) -> usize {
 /// Arguments of which one does not fit the others: the engine says 2 and writes nothing.
 fn misfits(random: &Random) -> usize {
     let (mut calls, mut wrong) = (0, 0);
-    for side in 0..=MOST_ASSETS {
+    for side in 0..=MAX_SIDE {
         for what in 0..12 {
             let (mut n, mut limit) = (side, random.below(MAX_SWEEPS + 1));
             let mut lengths = [side * side, side, side * side];
             match what {
                 0 => n += 1,
                 1 => n = n.wrapping_sub(1),
-                2 => n = random.pick(&[MOST_ASSETS + 1, 1 << 32, usize::MAX]),
+                2 => n = random.pick(&[MAX_SIDE + 1, 1 << 32, usize::MAX]),
                 3 => {
-                    n = MOST_ASSETS + 1;
+                    n = MAX_SIDE + 1;
                     lengths = [n * n, n, n * n];
                 }
                 4 => limit = MAX_SWEEPS + 1,

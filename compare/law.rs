@@ -74,7 +74,8 @@ fn holds(pair: &Pair, (one, first): &Answer, (other, second): &Answer) -> bool {
     if one.number != other.number {
         return false;
     }
-    let filled = input.filled(one.number as usize);
+    let number = one.number as usize;
+    let filled = input.filled(number);
     let power = match input.call {
         Call::AdjustedCovariance { .. } => 2 * k,
         _ => *k,
@@ -84,8 +85,8 @@ fn holds(pair: &Pair, (one, first): &Answer, (other, second): &Answer) -> bool {
         && (one.number == INDEFINITE || times(one.numbers[0], other.numbers[0], 0))
         && times(one.numbers[1], other.numbers[1], *k)
         && entries.into_iter().all(|(&x, &y)| times(x, y, power))
-        && kept(&input.answer[filled..], &first[filled..])
-        && kept(&scaled.answer[filled..], &second[filled..])
+        && input.kept(number, first)
+        && scaled.kept(number, second)
 }
 
 /// `y` is exactly `2^k` times `x`; an infinity answers to one of its sign, NaN to NaN.
@@ -114,11 +115,6 @@ fn parts(x: f64) -> Option<(i64, i32)> {
     let odd = whole >> zeros;
     let signed = if x.is_sign_negative() { -odd } else { odd };
     Some((signed, power + zeros as i32))
-}
-
-fn kept(before: &[f64], after: &[f64]) -> bool {
-    let bits = |numbers: &[f64]| numbers.iter().map(|x| x.to_bits()).collect::<Vec<_>>();
-    bits(before) == bits(after)
 }
 
 // ---- what document 01 grants

@@ -113,7 +113,7 @@ impl Table {
     }
 }
 
-/// A number of the next larger or smaller bits.
+/// The number whose bits are `ulps` further on.
 fn moved(x: f64, ulps: i64) -> f64 {
     f64::from_bits(x.to_bits().wrapping_add_signed(ulps))
 }

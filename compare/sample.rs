@@ -10,9 +10,10 @@
 use generator::random::Random;
 use generator::{draw, Shapes};
 use reference::flat::{flat_target, Flat, FlatSettings};
-use reference::input::{Call, Input};
-use reference::leaves::bits;
+use reference::input::{Call, Input, UNTOUCHED};
+use reference::leaves::{all_bits, bits};
 use reference::refusal::REFUSALS;
+use reference::MIN_PERIODS;
 use std::fs;
 
 const ANSWERS: usize = 3_000;
@@ -28,20 +29,20 @@ fn main() {
     let random = Random::new(7);
     let shapes = Shapes {
         assets: 1..=8,
-        periods: 2..=32,
+        periods: MIN_PERIODS..=32,
     };
     let mut words = vec![ANSWERS as u64];
     let mut counts = [0; COUNTS];
     for _ in 0..ANSWERS {
         let mut input = drawn(&random, &shapes);
-        input.answer.fill(7.5);
+        input.answer.fill(UNTOUCHED);
         let (report, slice) = input.answered();
         let flat = Flat::of(&report);
         ask(&mut words, &input);
         words.push(u64::from(flat.number));
         words.extend(flat.numbers.map(bits));
         words.extend(flat.wholes.map(|whole| whole as u64));
-        words.extend(slice.iter().map(|&x| bits(x)));
+        words.extend(all_bits(&slice));
         counts[flat.number as usize] += 1;
     }
     assert!(counts[..=REFUSALS].iter().all(|&count| count > 0));
@@ -67,7 +68,7 @@ fn drawn(random: &Random, shapes: &Shapes) -> Input {
 
 fn ask(words: &mut Vec<u64>, input: &Input) {
     words.push(input.returns.len() as u64);
-    words.extend(input.returns.iter().map(|&x| bits(x)));
+    words.extend(all_bits(&input.returns));
     words.extend([input.n, input.t, input.answer.len()].map(|count| count as u64));
     match &input.call {
         Call::AdjustedCovariance {
@@ -81,7 +82,7 @@ fn ask(words: &mut Vec<u64>, input: &Input) {
                 words.extend([u64::from(kind), bits(value)]);
             }
             words.extend([flat.limit as u64, *side as u64]);
-            words.extend(given.iter().map(|&x| bits(x)));
+            words.extend(all_bits(given));
         }
         Call::LedoitWolf(target) => words.extend([1, u64::from(flat_target(*target))]),
         Call::ExponentiallyWeightedMean { half_life } => words.extend([2, bits(*half_life)]),

@@ -1,7 +1,7 @@
 // The five calls, over the inputs of the copy and with reports of the same form.
 
 use reference::flat::{flat_target, Flat, FlatSettings};
-use reference::input::{Call, Input};
+use reference::input::{Call, Input, UNTOUCHED};
 
 unsafe extern "C" {
     fn engine_adjusted_covariance(
@@ -150,9 +150,9 @@ pub fn ledoit_wolf(returns: &[f64], (assets, periods): (usize, usize), target: u
     })
 }
 
-/// The report of a call. What is lent for it holds something else before.
+/// The report of a call.
 fn reported(call: impl FnOnce(*mut [f64; 2], *mut [usize; 2]) -> u32) -> Flat {
-    let (mut numbers, mut wholes) = ([7.5; 2], [usize::MAX; 2]);
+    let (mut numbers, mut wholes) = ([UNTOUCHED; 2], [usize::MAX; 2]);
     let number = call(&mut numbers, &mut wholes);
     Flat {
         number,

@@ -1,8 +1,8 @@
-// Adjusted covariances that are refused, by every number from 1 to 14, and in its order.
+// Adjusted covariances that are refused: each number from 1 to 14, and which of two comes first.
 
 use super::{counted, Example, CONSTANT, TWO, WHOLE};
 use reference::covariance::{Estimate, Settings, Target};
-use reference::input::Input;
+use reference::input::{Input, UNTOUCHED};
 
 pub fn all() -> Vec<Example> {
     let mut examples = shapes();
@@ -26,7 +26,7 @@ fn shapes() -> Vec<Example> {
         (
             "the answer slice too short, before an entry that is not finite",
             Input {
-                answer: vec![7.5; 3],
+                answer: vec![UNTOUCHED; 3],
                 ..damaged.clone()
             },
         ),

@@ -1,4 +1,4 @@
-// Damages, each of which leads to a refusal of document 01's table unless an earlier one applies.
+// Damages, each towards a refusal of document 01's table; an earlier one may apply instead, or none.
 
 use crate::given::draw_given;
 use crate::random::Random;
@@ -6,7 +6,7 @@ use crate::returns::set_column;
 use crate::settings::draw_target;
 use reference::covariance::{Estimate, Settings, Shrinkage};
 use reference::input::{Call, Input};
-use reference::{MAX_SWEEPS, MOST_ASSETS, MOST_PERIODS};
+use reference::{MAX_PERIODS, MAX_SIDE, MAX_SWEEPS, MIN_PERIODS};
 
 const NOT_FINITE: [f64; 3] = [f64::NAN, f64::INFINITY, f64::NEG_INFINITY];
 const BAD_LIMITS: [usize; 4] = [MAX_SWEEPS + 1, 200, 1 << 32, usize::MAX];
@@ -34,15 +34,15 @@ pub fn damage(random: &Random, input: &mut Input) {
 fn damage_returns(random: &Random, input: &mut Input) {
     match random.below(9) {
         0 => input.n = 0,
-        1 => input.n = random.pick(&[MOST_ASSETS + 1, 1000, usize::MAX]),
-        2 => input.t = random.pick(&[MOST_PERIODS + 1, 1 << 40, usize::MAX]),
-        3 => input.t = random.below(2),
+        1 => input.n = random.pick(&[MAX_SIDE + 1, 1000, usize::MAX]),
+        2 => input.t = random.pick(&[MAX_PERIODS + 1, 1 << 40, usize::MAX]),
+        3 => input.t = random.below(MIN_PERIODS),
         4 => wrong_length(random, &mut input.returns),
         5 => input.answer.truncate(input.answer.len() / 2),
         6 => put(random, &mut input.returns, random.pick(&NOT_FINITE)),
         7 => put(random, &mut input.returns, random.pick(&[1e200, f64::MAX])),
         _ => {
-            let width = input.n.clamp(1, MOST_ASSETS);
+            let width = input.n.clamp(1, MAX_SIDE);
             let columns = if random.chance(50) { width } else { 1 };
             for j in 0..columns {
                 set_column(&mut input.returns, width, j, |_| 0.5);
@@ -53,7 +53,7 @@ fn damage_returns(random: &Random, input: &mut Input) {
 
 /// Towards what only this call refuses.
 fn damage_call(random: &Random, input: &mut Input) {
-    let n = input.n.clamp(1, MOST_ASSETS);
+    let n = input.n.clamp(1, MAX_SIDE);
     match &mut input.call {
         Call::AdjustedCovariance {
             settings,
@@ -113,11 +113,11 @@ fn damage_given(
     *given = draw_given(random, n);
     match random.below(11) {
         0 => *side = 0,
-        1 => *side = random.pick(&[MOST_ASSETS + 1, 1 << 32, usize::MAX]),
+        1 => *side = random.pick(&[MAX_SIDE + 1, 1 << 32, usize::MAX]),
         2 => wrong_length(random, given),
         3 => {
             // Square, but of another side than the returns.
-            *side = 1 + n % MOST_ASSETS;
+            *side = 1 + n % MAX_SIDE;
             *given = draw_given(random, *side);
         }
         4 => put(random, given, random.pick(&NOT_FINITE)),

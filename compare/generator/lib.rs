@@ -39,7 +39,7 @@ pub fn draw(random: &Random, shapes: &Shapes) -> Input {
 
 /// An input that breaks no rule of lengths, counts and settings. It may still be refused for its
 /// numbers: a constant column, too few sweeps, a singular matrix.
-pub fn draw_good(random: &Random, shapes: &Shapes) -> Input {
+fn draw_good(random: &Random, shapes: &Shapes) -> Input {
     let n = draw_count(random, &shapes.assets);
     let t = draw_count(random, &shapes.periods);
     let returns = draw_returns(random, n, t);
@@ -94,7 +94,7 @@ fn draw_covariance(random: &Random, n: usize) -> Call {
 }
 
 /// The ends often, and few as likely as many.
-pub fn draw_count(random: &Random, counts: &RangeInclusive<usize>) -> usize {
+fn draw_count(random: &Random, counts: &RangeInclusive<usize>) -> usize {
     let (least, most) = (*counts.start(), *counts.end());
     let any = random.below(most - least + 1);
     match random.below(10) {

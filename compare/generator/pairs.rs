@@ -7,12 +7,12 @@ use crate::returns::set_column;
 use crate::settings::{draw_limit, draw_target};
 use crate::{draw_call, draw_count};
 use reference::covariance::{Estimate, Settings, Shrinkage};
-use reference::input::{Call, Input};
+use reference::input::{Call, Input, UNTOUCHED};
 use reference::leaves::{abs, pow2_scaled};
-use reference::{MAX_SWEEPS, MOST_ASSETS, MOST_PERIODS};
+use reference::{MAX_PERIODS, MAX_SIDE, MAX_SWEEPS, MIN_PERIODS};
 
 /// A power `k` is from `-MAX_POWER` to `MAX_POWER`.
-pub const MAX_POWER: i32 = 80;
+const MAX_POWER: i32 = 80;
 /// A return and a threshold are 0 or of size `2^-RETURN_RANGE` to `2^RETURN_RANGE`.
 pub const RETURN_RANGE: i32 = 40;
 /// A given entry and a regularization likewise.
@@ -103,17 +103,17 @@ impl Sizes {
 
 fn draw_input(random: &Random, k: i32) -> Input {
     let (assets, periods) = match random.below(20) {
-        0 => (MOST_ASSETS, 64),
+        0 => (MAX_SIDE, 64),
         1 => (4, 1000),
         _ => (8, 128),
     };
     let n = draw_count(random, &(1..=assets));
-    let t = draw_count(random, &(2..=periods));
+    let t = draw_count(random, &(MIN_PERIODS..=periods));
     let sizes = Sizes::within(RETURN_RANGE, k);
     let returns = draw_returns(random, n, t, &sizes);
     let covariance = || draw_covariance(random, n, t, k);
     let call = draw_call(random, covariance, || draw_half_life(random, t));
-    let answer = vec![7.5; call.fills(n) + random.below(3)];
+    let answer = vec![UNTOUCHED; call.fills(n) + random.below(3)];
     Input {
         returns,
         n,
@@ -270,9 +270,9 @@ fn draw_given(random: &Random, side: usize, sizes: &Sizes) -> Vec<f64> {
 fn damage(random: &Random, input: &mut Input) {
     match random.below(8) {
         0 => input.n = 0,
-        1 => input.n = MOST_ASSETS + 1,
-        2 => input.t = random.below(2),
-        3 => input.t = MOST_PERIODS + 1,
+        1 => input.n = MAX_SIDE + 1,
+        2 => input.t = random.below(MIN_PERIODS),
+        3 => input.t = MAX_PERIODS + 1,
         4 => input.returns.truncate(1),
         5 => input.answer.truncate(input.answer.len() / 2),
         _ => match &mut input.call {

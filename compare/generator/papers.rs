@@ -7,17 +7,17 @@ use reference::covariance::{Estimate, Settings, Shrinkage};
 use reference::exam::{FILE_ASSETS, FILE_PERIODS};
 use reference::flat::flat_target;
 use reference::input::{Call, Input};
-use reference::MAX_SWEEPS;
+use reference::{MAX_SWEEPS, MIN_PERIODS};
 
 const SHAPES: Shapes = Shapes {
     assets: 1..=FILE_ASSETS,
-    periods: 2..=FILE_PERIODS,
+    periods: MIN_PERIODS..=FILE_PERIODS,
 };
 
 /// Few periods, so that damage often strikes a setting or a count.
 const SHORT: Shapes = Shapes {
     assets: 1..=3,
-    periods: 2..=4,
+    periods: MIN_PERIODS..=4,
 };
 
 /// A file whose numbers or counts may be damaged, and then its bytes.
@@ -28,7 +28,7 @@ pub fn draw_paper(random: &Random) -> Vec<u8> {
         // Still as many returns as the counts say.
         match random.below(2) {
             0 => input.n = 0,
-            _ => input.t = random.below(2),
+            _ => input.t = random.below(MIN_PERIODS),
         }
         input.returns.truncate(input.n * input.t);
     }
@@ -134,10 +134,8 @@ fn damage(random: &Random, file: &mut Vec<u8>) {
         8 => {
             // A setting more, or one where its question takes none.
             let record = random.pick(&RECORDS);
-            file.splice(
-                len.saturating_sub(2)..len.saturating_sub(2),
-                record.iter().copied(),
-            );
+            let question = len.saturating_sub(2);
+            file.splice(question..question, record.iter().copied());
         }
         _ => file[len - 1] = random.pick(&[0, 1, 2, 3, 4, 255]),
     }

@@ -1,7 +1,7 @@
 // Settings that are within their ranges, the ends of each included.
 
 use crate::random::Random;
-use reference::covariance::{Estimate, Settings, Shrinkage, Target};
+use reference::covariance::{Estimate, Settings, Shrinkage, Target, MIN_LOG};
 use reference::leaves::LN_2;
 use reference::MAX_SWEEPS;
 
@@ -42,7 +42,7 @@ pub fn draw_target(random: &Random) -> Target {
 /// `exp_m1` changes its way.
 pub fn draw_half_life(random: &Random) -> f64 {
     match random.below(4) {
-        0 => random.pick(&[LN_2 / 708.0, 1.0, 2.0, 4.0 * LN_2, 11.2, 1e6, f64::MAX]),
+        0 => random.pick(&[LN_2 / -MIN_LOG, 1.0, 2.0, 4.0 * LN_2, 11.2, 1e6, f64::MAX]),
         1 => 0.001 + 0.2 * random.unit(),
         _ => 0.5 + 100.0 * random.unit(),
     }

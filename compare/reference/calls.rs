@@ -6,7 +6,7 @@ use crate::expected_returns::Shrunk;
 use crate::matrix::Matrix;
 use crate::refusal::{Field, Refusal};
 use crate::returns::Returns;
-use crate::{MAX_SWEEPS, MOST_ASSETS, MOST_PERIODS};
+use crate::{MAX_PERIODS, MAX_SIDE, MAX_SWEEPS, MIN_PERIODS};
 
 /// What a covariance reports: the intensity and the given matrix's counts, each 0 if none.
 #[derive(Debug, Clone, Copy)]
@@ -28,8 +28,7 @@ pub fn adjusted_covariance(
     answer: &mut [f64],
 ) -> Result<Covariance, Refusal> {
     check_shape(n, t)?;
-    check_lengths(returns, n, t, answer, n * n)?;
-    let data = Returns::new(Matrix::from_row_slice(t, n, returns))?;
+    let data = checked(returns, n, t, answer, n * n)?;
     let given = match settings.estimate {
         Estimate::Given => given_matrix(given, side, settings.limit)?,
         _ => Given::none(),
@@ -46,8 +45,7 @@ pub fn adjusted_covariance(
 /// The intensity only.
 pub fn ledoit_wolf(returns: &[f64], n: usize, t: usize, target: Target) -> Result<f64, Refusal> {
     check_shape(n, t)?;
-    check_lengths(returns, n, t, &[], 0)?;
-    Returns::new(Matrix::from_row_slice(t, n, returns))?.ledoit_wolf(target)
+    checked(returns, n, t, &[], 0)?.ledoit_wolf(target)
 }
 
 /// Fills the first `n` numbers of `answer`.
@@ -59,8 +57,7 @@ pub fn exponentially_weighted_mean(
     answer: &mut [f64],
 ) -> Result<(), Refusal> {
     check_shape(n, t)?;
-    check_lengths(returns, n, t, answer, n)?;
-    let data = Returns::new(Matrix::from_row_slice(t, n, returns))?;
+    let data = checked(returns, n, t, answer, n)?;
     let mean = data.exponentially_weighted_mean(half_life)?;
     answer[..n].copy_from_slice(&mean);
     Ok(())
@@ -100,8 +97,7 @@ fn shrunk_mean(
     answer: &mut [f64],
 ) -> Result<Shrunk, Refusal> {
     check_shape(n, t)?;
-    check_lengths(returns, n, t, answer, n)?;
-    let data = Returns::new(Matrix::from_row_slice(t, n, returns))?;
+    let data = checked(returns, n, t, answer, n)?;
     check_limit(limit)?;
     let (mean, report) = mean(&data, limit)?;
     answer[..n].copy_from_slice(&mean);
@@ -113,27 +109,27 @@ fn check_shape(n: usize, t: usize) -> Result<(), Refusal> {
     if n == 0 {
         return Err(Refusal::NoAssets);
     }
-    if n > MOST_ASSETS || t > MOST_PERIODS {
+    if n > MAX_SIDE || t > MAX_PERIODS {
         return Err(Refusal::TooLarge);
     }
-    if t < 2 {
+    if t < MIN_PERIODS {
         return Err(Refusal::TooFewPeriods(t));
     }
     Ok(())
 }
 
-/// 4, where `needed` numbers of `answer` are to be filled.
-fn check_lengths(
+/// 4, where `needed` numbers of `answer` are to be filled, then 5 and the sample covariance's 6.
+fn checked(
     returns: &[f64],
     n: usize,
     t: usize,
     answer: &[f64],
     needed: usize,
-) -> Result<(), Refusal> {
+) -> Result<Returns, Refusal> {
     if returns.len() != t * n || answer.len() < needed {
         return Err(Refusal::WrongLength);
     }
-    Ok(())
+    Returns::new(Matrix::from_row_slice(t, n, returns))
 }
 
 /// 7, field 5.
@@ -150,7 +146,7 @@ fn given_matrix(given: &[f64], side: usize, limit: usize) -> Result<Given, Refus
     if side == 0 {
         return Err(Refusal::NoAssets);
     }
-    if side > MOST_ASSETS {
+    if side > MAX_SIDE {
         return Err(Refusal::TooLarge);
     }
     if given.len() != side * side {

@@ -49,10 +49,13 @@ pub struct Settings {
     pub limit: usize,
 }
 
+/// The source's `Decay::MIN_LOG`.
+pub const MIN_LOG: f64 = -708.0;
+
 /// The source's `Decay::log` for a half-life: `−ln 2 / h`, after checking it's in `[−708, 0)`.
 pub fn log_decay(half_life: f64) -> Result<f64, Refusal> {
     let log = -LN_2 / half_life;
-    if (-708.0..0.0).contains(&log) {
+    if (MIN_LOG..0.0).contains(&log) {
         Ok(log)
     } else {
         Err(Refusal::BadSetting(Field::HalfLife))

@@ -19,8 +19,9 @@ pub struct SymmetricEigen {
 impl SymmetricEigen {
     /// Decomposes the symmetric matrix `a` by cyclic Jacobi rotations.
     ///
-    /// Returns `None` if `a` has NaN or infinite entries, or the sweeps run out. Every sweep is
-    /// preceded by the test for the end, and none follows the last.
+    /// Returns `None` if `a` has NaN or infinite entries, the sum of squares off the diagonal is
+    /// NaN, or the sweeps run out. A test for the end stands before every sweep; no test follows the
+    /// last.
     pub fn new(a: &Matrix, limit: usize) -> Option<Self> {
         let n = a.nrows();
         if a.entries().iter().any(|&x| !is_finite(x)) {

@@ -9,6 +9,10 @@ use crate::covariance::{Settings, Target};
 use crate::expected_returns::Shrunk;
 use crate::refusal::{Place, Refusal};
 
+/// What a lent slice holds before a call, where nothing else is asked for. The program `replay`
+/// begins with the same number.
+pub const UNTOUCHED: f64 = 7.5;
+
 #[derive(Debug, Clone)]
 pub struct Input {
     pub returns: Vec<f64>,
@@ -58,13 +62,13 @@ impl Call {
 }
 
 impl Input {
-    /// Whole rows of `n` returns, and an answer slice one number longer than needed, all of it 7.5.
+    /// Whole rows of `n` returns, and an untouched answer slice one number longer than needed.
     pub fn new(returns: &[f64], n: usize, call: Call) -> Self {
         Input {
             returns: returns.to_vec(),
             n,
             t: returns.len() / n,
-            answer: vec![7.5; call.fills(n) + 1],
+            answer: vec![UNTOUCHED; call.fills(n) + 1],
             call,
         }
     }
@@ -97,6 +101,14 @@ impl Input {
             0 => self.call.fills(self.n),
             _ => 0,
         }
+    }
+
+    /// Whether the answer slice after a call that answers `number` has the very bits of the one before
+    /// where it is not filled: everywhere after a refusal.
+    pub fn kept(&self, number: usize, after: &[f64]) -> bool {
+        let filled = self.filled(number);
+        let before = self.answer[filled..].iter().map(|x| x.to_bits());
+        before.eq(after[filled..].iter().map(|x| x.to_bits()))
     }
 
     /// What the call reports, and the whole answer slice after it.

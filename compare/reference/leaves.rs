@@ -181,3 +181,7 @@ pub fn bits(x: f64) -> u64 {
         x.to_bits()
     }
 }
+
+pub fn all_bits(xs: &[f64]) -> Vec<u64> {
+    xs.iter().map(|&x| bits(x)).collect()
+}

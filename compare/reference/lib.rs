@@ -16,9 +16,10 @@ pub mod refusal;
 pub mod returns;
 pub mod screen;
 
-/// The most assets, or the largest side of a given matrix.
-pub const MOST_ASSETS: usize = 32;
-/// The most periods.
-pub const MOST_PERIODS: usize = 4096;
+/// The largest side of a matrix: the most assets, and the largest given side.
+pub const MAX_SIDE: usize = 32;
+/// The fewest and the most periods.
+pub const MIN_PERIODS: usize = 2;
+pub const MAX_PERIODS: usize = 4096;
 /// The largest sweep limit, which is the source's own.
 pub const MAX_SWEEPS: usize = 100;

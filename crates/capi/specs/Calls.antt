@@ -11,6 +11,7 @@ use Rattle.capi.specs.Settings.{known, settingsOf}
 use Rattle.capi.specs.Report.{reported, reportOf}
 use Rattle.capi.specs.declared.report.Report.{Report}
 
+-- what a call leaves behind
 pub record Left : Type 0 where
   pub report : Report
   pub slice : List Float

@@ -3,7 +3,7 @@ ghost use mathlib.Core.Path.{_≡_};
 ghost use Rattle.paper.specs.Text.{out as into, write};
 ghost use Rattle.paper.specs.Marking.{marking};
 
-// Writes what is printed of the file to the front of `out`, and answers how many bytes that is; 8,192 bytes are always enough.
+// Writes what is printed of the file to the front of `out`, and answers how many bytes that is; `paper::TEXT` bytes are always enough.
 #[no_mangle]
 pub extern "C" fn exam_mark(paper: &[u8], out: &mut [u8]) -> usize
     ensures { λ r. ⌜ into (now (out .exit)) r ≡ write (into (now (out .entry)) 0) (marking (now (paper .entry))) ⌝ }

@@ -7,7 +7,7 @@ use estimators::Field;
 use estimators::Refusal;
 use estimators::refusals::number;
 
-pub struct Report {
+pub(crate) struct Report {
     pub number: u32,
     pub numbers: [f64; 2],
     pub wholes: [usize; 2],

@@ -16,11 +16,12 @@ use Rattle.matrix.proofs.Stored.{rows-at, rows-ext}
 use Rattle.estimators.specs.Sample.{mean, deviation, gram, scaled, volatility}
 use Rattle.estimators.specs.LedoitWolf.{apart, averageCorrelation, variation, covariation, targetVariation, error, distance, intensityBy, intensityOf, ledoitWolf, secondMoments, intensityFrom, crossVariation, distance²}
 use Rattle.estimators.specs.Rows.{inUnit, formed, rowsOf}
+use Rattle.estimators.specs.Powers.{Factored}
 use Rattle.estimators.specs.declared.Target.{Target}
 use Rattle.estimators.specs.declared.Target.the-variants.{ConstantVariance, ConstantCorrelation}
 use Rattle.estimators.specs.declared.rows.Row.the-variants.{Deviation, Scaled}
 use Rattle.estimators.proofs.Stored.{nth-stored, at-stored}
-use Rattle.estimators.proofs.Entries.{sum-over-ext}
+use Rattle.matrix.proofs.SumOver.{sum-over-ext}
 use Rattle.estimators.proofs.GramSymmetric.{gram-symmetric}
 use Rattle.estimators.proofs.Samples.{row-bare}
 use Rattle.estimators.proofs.SameReturns.{gram-ext}
@@ -81,11 +82,11 @@ moments-symmetric T n z e i j hi hj =
 
 module _ (T n : ℕ) (x : Matrix) {centers : List Float} (ec : centers ≡ tab n (mean T x)) where
   -- a return less its column's mean
-  pub deviation-formed : (t i : ℕ) → i < n → rowsOf Deviation n [] centers [] x t i ≡ deviation T x t i
+  deviation-formed : (t i : ℕ) → i < n → rowsOf Deviation n [] centers [] x t i ≡ deviation T x t i
   unfolding formed deviation
   deviation-formed t i h = row-bare Deviation n centers [] x t i h ∙ ap (λ (c : Float). x t i ⊖ c) (nth-stored n (mean T x) ec i h)
 
-  pub scaled-formed : (near far : Float) (k : ℤ) → ((y : Float) → y ⊗ near ⊗ far ≡ pow2Scaled y k) → (t i : ℕ) → i < n → rowsOf (Scaled near far) n [] centers [] x t i ≡ pow2Scaled (deviation T x t i) k
+  pub scaled-formed : (near far : Float) (k : ℤ) → Factored near far k → (t i : ℕ) → i < n → rowsOf (Scaled near far) n [] centers [] x t i ≡ pow2Scaled (deviation T x t i) k
   unfolding rowsOf formed
   scaled-formed near far k f t i h = f (inUnit n [] i (x t i) ⊖ nth centers i) ∙ ap (λ (y : Float). pow2Scaled y k) (deviation-formed t i h)
 

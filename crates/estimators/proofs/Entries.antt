@@ -1,4 +1,5 @@
--- Laws of stored matrices: their numbers, and a matrix made of another's entries. Assumes nothing.
+-- Laws of stored matrices: their numbers, one made of another's entries, sums over one, one that is stored row by row, and correlations by stored
+-- volatilities. Assumes nothing.
 use mathlib.Core.Path.{_≡_, refl, sym, ap, _∙_}
 use mathlib.Core.Bool.{Bool, true, false, cond}
 use mathlib.Core.List.{List}
@@ -10,14 +11,15 @@ use lib.Dec.{ltb, eqb}
 use lib.ListN.{length, take, drop, set, length-set, length-drop, List·getD-eq-default}
 use lib.Seq.{length-take-le, getD-set-same, getD-set-other}
 use lib.Ieee.{Float, nan}
-use Rattle.leaves.specs.Numbers.{_⊕_, _⊗_, _⊘_, zero⁺}
+use Rattle.leaves.specs.Numbers.{_⊗_, _⊘_, zero⁺}
 use Rattle.leaves.specs.Loops.{tab, nth}
-use Rattle.leaves.proofs.Loops.{row, loop-ext, length-tab, nth-tab, tab-ext, tab-is}
-use Rattle.matrix.specs.Matrix.{Matrix, at, rows, trace, amax, sumOver, every, total, squares}
+use Rattle.leaves.proofs.Loops.{row, length-tab, nth-tab, tab-ext, tab-is}
+use Rattle.matrix.specs.Matrix.{Matrix, at, rows, trace, amax, every, total, squares}
 use Rattle.matrix.proofs.Stored.{entry-at, length-rows, rows-nth, rows-at}
+use Rattle.matrix.proofs.SumOver.{sum-over-ext}
+use Rattle.matrix.proofs.Alike.{amax-alike, trace-alike}
 use Rattle.estimators.specs.Sample.{volatility, correlationBy, correlation}
 use Rattle.estimators.proofs.Stored.{replaced, row-replaced, passed, passed-more, nth-stored, at-stored}
-use Rattle.matrix.proofs.Alike.{amax-alike, trace-alike}
 
 pub amax-rows : (f : Matrix) (n : ℕ) → amax n n (at (rows n n f) n) ≡ amax n n f
 amax-rows f n = amax-alike n n (at (rows n n f) n) f (rows-at f n n)
@@ -53,11 +55,6 @@ entrywise n f g xs {l} e e′ =
     (λ k h t. g (sym (entry-at xs n k) t) ((ap (λ (m : List Float). nth m k) e ∙ rows-nth f n n k h) t))
 
 -- ---- sums over a stored matrix
-
--- terms that are alike
-pub sum-over-ext : (n : ℕ) (keep : ℕ → ℕ → Bool) (f g : Matrix) (s : Float) → ((i j : ℕ) → i < n → j < n → f i j ≡ g i j) → sumOver n keep f s ≡ sumOver n keep g s
-unfolding sumOver
-sum-over-ext n keep f g s h = loop-ext n _ _ s (λ i hi x. loop-ext n _ _ x (λ j hj y t. elim (keep i j) [ true ↦ y ⊕ h i j hi hj t | false ↦ y ]))
 
 module _ (n : ℕ) (f : Matrix) {l : List Float} (e : l ≡ rows n n f) where
   pub total-stored : total n (at l n) ≡ total n f

@@ -16,7 +16,8 @@ use Rattle.matrix.proofs.Stored.{length-rows}
 use Rattle.estimators.specs.Refusals.{Check, passes, refuses, first}
 use Rattle.estimators.specs.Given.{averagedOf}
 use Rattle.estimators.specs.Adjusted.{isGiven, base, intensity, isAdjusted, baseOf, adjustedOf}
-use Rattle.estimators.specs.Order.{opening, ofGiven, ofSettings, adjustedOrder, noVariance, byReturns, bySettings, byAnswer, byEstimate, Shaped}
+use Rattle.estimators.specs.Order.{opening, ofSettings, adjustedOrder, noVariance, byReturns, bySettings, byAnswer, byEstimate}
+use Rattle.estimators.specs.Shapes.{Shaped}
 use Rattle.estimators.specs.Calls.{answered, settle, adjustedCovariance}
 use Rattle.estimators.specs.Estimated.{finished, estimated, decompositionBy, ofGivenBy}
 use Rattle.estimators.specs.declared.Estimate.{Estimate}
@@ -25,7 +26,8 @@ use Rattle.estimators.specs.declared.Settings.{Settings}
 use Rattle.estimators.specs.declared.Refusal.{Refusal}
 use Rattle.estimators.specs.declared.Answer.{Answer}
 use Rattle.estimators.specs.declared.Answer.the-variants.{Refused, Covariance}
-use Rattle.estimators.proofs.Firsts.{first-then, first-rest, first-passes, first-join}
+use Rattle.estimators.proofs.Firsts.{first-then, first-join}
+use Rattle.estimators.proofs.Passed.{first-rest, first-passes}
 use Rattle.estimators.proofs.Opened.{settle-refused, settle-accepted, shaped}
 
 -- ---- from the estimate b on
@@ -71,7 +73,10 @@ module _ (s : Settings) (T n side : ℕ) (x : Matrix) (sweeps rotations : ℕ) (
 
   pub estimated-refused : {c : Refusal} → (g : Matrix) → refuses c ≡ first (bySettings s T n side x) → answered (Refused c) slice ≡ estimated s T n side x sweeps rotations g slice
   unfolding first ofSettings
-  estimated-refused g e = let δ = intensity (s .shrinkage) T n x in let b = baseOf s T n x g in settle-refused slice _ (first-then (bySettings s T n side x) (byEstimate s δ T n x (at b n) (at (adjustedOf s δ n b) n)) e)
+  estimated-refused g e =
+      let δ = intensity (s .shrinkage) T n x in
+      let b = baseOf s T n x g in
+      settle-refused slice _ (first-then (bySettings s T n side x) (byEstimate s δ T n x (at b n) (at (adjustedOf s δ n b) n)) e)
 
   pub estimated-accepted : {δ : Float} {b out : List Float} {k : Answer} → (g′ : List Float) (g : Matrix) → passes ≡ first (bySettings s T n side x)
       → (isGiven (s .estimate) ≡ true → side ≡ n → at g′ n ≡ g) → δ ≡ intensity (s .shrinkage) T n x → b ≡ baseOf s T n x (at g′ n)
@@ -108,7 +113,7 @@ module _ (r : List Float) (n T : ℕ) (s : Settings) (given : List Float) (side 
 
   -- the answer, by the first check that refuses
   whole : {k : Check} → k ≡ first (byReturns T n x ++ ofGivenBy s given side ++ later) → settle k slice (answered (Covariance δ (d .sweeps) (d .rotations)) a) ≡ adjustedCovariance r n T s given side slice
-  unfolding adjustedCovariance adjustedOrder opening ofSettings ofGiven
+  unfolding adjustedCovariance adjustedOrder opening
   whole {k} e =
       ap (λ (l : List Float). settle k slice (answered (Covariance δ (d .sweeps) (d .rotations)) l)) (tab-is nan a (n * n) (nth a) (length-rows _ n n) (λ k h. refl))
       ∙ shaped r n T (n * n) slice (ofGivenBy s given side ++ later) (Covariance δ (d .sweeps) (d .rotations)) (nth a) shape long e
@@ -128,7 +133,7 @@ module _ (r : List Float) (n T : ℕ) (s : Settings) (given : List Float) (side 
 
   pub given-passes : {k : Answer} {out : List Float} {m j : ℕ} → passes ≡ first (byReturns T n x) → (passes ≡ first (ofGivenBy s given side)) × (m ≡ d .sweeps) × (j ≡ d .rotations)
       → answered k out ≡ estimated s T n side x m j (at (averagedOf given side) side) slice → answered k out ≡ adjustedCovariance r n T s given side slice
-  unfolding first ofSettings
+  unfolding first
   given-passes {j = j} pass (e, em, ej) h =
       let g = at (averagedOf given side) side in
       h ∙ ap (λ (m : ℕ). estimated s T n side x m j g slice) em ∙ ap (λ (j : ℕ). estimated s T n side x (d .sweeps) j g slice) ej

@@ -1,4 +1,4 @@
--- Sizes of the exponents that the two Stein means add and negate: b(x) of an f64 is at most `maxExponent` in size, and what is made of a few such numbers
+-- Sizes of the exponents that the code adds and negates: b(x) of an f64 is at most `maxExponent` in size, and what is made of a few such numbers
 -- is an i32. Assumes nothing.
 use mathlib.Core.Path.{_≡_, sym, _∙_, subst}
 use Prim.Native.Nat.{zero, suc, _+_, _-_, _^_, _≤_, _<_}
@@ -13,7 +13,7 @@ use mir.Facts.{toZ-ofZ}
 use Rattle.leaves.specs.Scaling.{binaryExponent}
 use Rattle.leaves.proofs.Whole.{over, under, one-side, plus, over-neg, under-neg}
 use Rattle.leaves.proofs.Ints.{fits-i32}
-use Rattle.leaves.proofs.Laws.{fits→room, size-pos}
+use Rattle.leaves.proofs.Laws.{fits→room}
 use Rattle.estimators.specs.Exponents.{maxExponent}
 
 -- the size, by the two parts of a whole number
@@ -31,7 +31,7 @@ size-plus y z = omega (arith, size-is y, size-is z, size-is (y +ℤ z), plus y z
 pub size-minus : (y z : ℤ) → natAbs (y -ℤ z) ≤ natAbs y + natAbs z
 size-minus y z = omega (arith, size-plus y (negℤ z), size-neg z)
 
-pub size-fits : (z : ℤ) → natAbs z < 2 ^ 31 → SFits w32 z
+size-fits : (z : ℤ) → natAbs z < 2 ^ 31 → SFits w32 z
 size-fits z h = fits-i32 z (omega (arith, size-is z)) (omega (arith, size-is z))
 
 -- b(x)
@@ -43,7 +43,7 @@ exponent-size (fin s zero e) t = omega arith
 exponent-size (fin s (suc m) e) t =
     let r = fits→room s m e (subst T (sym t) tt) in
     let b = pos (size (suc m) - 1) in
-    omega (arith, size-is (b +ℤ e), plus b e, one-side (b +ℤ e), one-side e, size-pos m, r .digits, r .low, r .high)
+    omega (arith, size-is (b +ℤ e), plus b e, one-side (b +ℤ e))
 
 -- what the machine reads back of z, and of -z
 module _ (z : ℤ) (h : natAbs z < 2 ^ 31) where

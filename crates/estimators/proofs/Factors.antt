@@ -1,11 +1,11 @@
 -- A power of two as two factors: multiplied by both, every number, NaN too, is scaled as by `pow2Scaled`. Assumes nothing.
-use mathlib.Core.Path.{_≡_, ap, _∙_, subst}
+use mathlib.Core.Path.{_≡_, sym, ap, _∙_, subst}
 use mathlib.Core.Logic.{⊎-elim}
 use mathlib.Core.List.{List}
 use Prim.Native.Nat.{ℕ, _+_, _≤_, _<_}
 use native.Mathlib.Omega.{arith}
 use mathlib.Core.Bool.{false}
-use lib.IntN.{ℤ, pos, negℤ, natAbs, _-ℤ_, +ℤ-idl, +ℤ-invr, _+ℤ_}
+use lib.IntN.{ℤ, pos, negℤ, natAbs, _-ℤ_, +ℤ-idl, +ℤ-invr}
 use lib.ListN.{length, set, length-set}
 use lib.Seq.{getD-set-same, getD-set-other}
 use lib.Ieee.{Float, nan, fin, binary64}
@@ -15,16 +15,13 @@ use Rattle.leaves.specs.Loops.{nth}
 use Rattle.leaves.specs.Shift.{shift}
 use Rattle.leaves.specs.Scaling.{pow2, pow2Scaled, cut}
 use Rattle.leaves.proofs.Whole.{over, under, one-side, minus, same, le-or-lt}
-use Rattle.leaves.proofs.Scale.{cut-range, pow2-fits, scale-last, scaled-exact, times-one}
-use Rattle.leaves.proofs.ScaleSteps.{scale-step}
+use Rattle.leaves.proofs.Scale.{pow2-fits, scaled-once, scaled-exact, times-one}
+use Rattle.leaves.proofs.ScaleSteps.{cut-range, scale-last, scale-step}
 use Rattle.estimators.specs.Powers.{Factored}
 use Rattle.estimators.specs.Exponents.{exponentAt, maxExponent}
 use Rattle.estimators.proofs.Exponents.{size-is}
 
 -- ---- 2 ^ k, made of 1
-
-cut-none : (k : ℤ) → over k ≤ 1023 → under k ≤ 1022 → cut k ≡ k
-cut-none k h l = same (cut k) k (omega (arith, cut-range k .top, cut-range k .bottom))
 
 shift-one : (k : ℤ) → shift k one ≡ pow2 k
 unfolding shift
@@ -44,10 +41,10 @@ factored k size near far e e′ x =
     let b = cut-range k .bottom in
     let hj : over j ≤ 1023 = omega arith in
     let lj : under j ≤ 1022 = omega arith in
-    let hk : over (k -ℤ j) ≤ 1023 = omega (arith, minus k j, one-side (k -ℤ j), one-side k, one-side j, size-is k) in
-    let lk : under (k -ℤ j) ≤ 1022 = omega (arith, minus k j, one-side (k -ℤ j), one-side k, one-side j, size-is k) in
+    let hk : over (k -ℤ j) ≤ 1023 = omega (arith, minus k j, one-side (k -ℤ j), size-is k) in
+    let lk : under (k -ℤ j) ≤ 1022 = omega (arith, minus k j, one-side (k -ℤ j), size-is k) in
     (λ i. x ⊗ (e ∙ power j hj lj) i ⊗ (e′ ∙ power (k -ℤ j) hk lk) i)
-    ∙ ⊎-elim (λ l. whole (same j k (omega arith))) (λ l. scale-last (x ⊗ pow2 j) (k -ℤ j) (cut-none (k -ℤ j) hk lk) ∙ scale-step x k (λ h. absurd (omega (arith, ap over h, ap under h)))) (le-or-lt (over k + under k) (over j + under j))
+    ∙ ⊎-elim (λ l. whole (same j k (omega arith))) (λ l. sym (scaled-once (x ⊗ pow2 j) (k -ℤ j) hk lk) ∙ scale-step x k (λ h. absurd (omega (arith, ap over h, ap under h)))) (le-or-lt (over k + under k) (over j + under j))
   where
     whole : cut k ≡ k → x ⊗ pow2 (cut k) ⊗ pow2 (k -ℤ cut k) ≡ pow2Scaled x k
     whole h = ap (λ (j : ℤ). x ⊗ pow2 j ⊗ pow2 (k -ℤ j)) h ∙ ap (λ (z : ℤ). x ⊗ pow2 k ⊗ pow2 z) (+ℤ-invr k) ∙ times-one (x ⊗ pow2 k) (mul-fits binary64 x (pow2 k)) ∙ scale-last x k h

@@ -24,4 +24,4 @@ gathered-as {n} {m} {m′} {k} {k′} {e} hm hk g = record {
 
 -- the power, as the machine reads it back
 pub gathered-read : {n : ℕ} {m : ℕ → Float} {k : ℕ → ℤ} {e : ℤ} {l : List Float} → Gathered n m k e l → Gathered n m k (toZ w32 (ofZ w32 e)) l
-gathered-read {n} {m} {k} {e} {l} g = subst (λ (z : ℤ). Gathered n m k z l) (sym (read e (omega (arith, g .size)))) g
+gathered-read {n} {m} {k} {e} {l} g = subst (λ (z : ℤ). Gathered n m k z l) (sym (read e (omega arith))) g

@@ -29,11 +29,8 @@ module _ (T n : ℕ) (x : Matrix) (es : List ℤ) (w : List Float) where
       tab-then out n (λ i. sumTo T (λ t. rowsOf Row.Times n units centers w x t i)) (λ k v. v ⊘ s) em e
       ∙ tab-ext _ (λ i. scaledMean T w x i (exponentAt es i)) n (λ i hi k. sums i hi k ⊘ (es′ ∙ ap (λ (p : ℕ). sumTo p (nth w)) ep) k)
     where
-      times : (i t : ℕ) → i < n → rowsOf Row.Times n units centers w x t i ≡ nth w t ⊗ pow2Scaled (x t i) (negℤ (exponentAt es i))
-      times i t hi = ap (λ (v : Float). nth w t ⊗ v) (unit-scaled n es units x lu u t i hi)
-
       sums : (i : ℕ) → i < n → sumTo T (λ t. rowsOf Row.Times n units centers w x t i) ≡ sumTo T (λ t. nth w t ⊗ pow2Scaled (x t i) (negℤ (exponentAt es i)))
-      sums i hi = sum-ext T _ _ (λ t ht. times i t hi)
+      sums i hi = sum-ext T _ _ (λ t ht k. nth w t ⊗ unit-scaled n es units x lu u t i hi k)
 
   -- each put back, where es holds the powers near the largest returns
   pub mean-back : (m p : ℕ) {tops out : List Float} → m ≡ n → p ≡ n → tops ≡ tab n (largest T x) → es ≡ tab m (λ k. binaryExponent (nth tops k)) → out ≡ tab n (λ i. scaledMean T w x i (exponentAt es i))

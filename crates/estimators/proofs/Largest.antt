@@ -28,7 +28,7 @@ height-abs : (x : Float) → height (abs x) ≡ height x
 unfolding height abs
 height-abs nan = refl
 height-abs (inf s) = refl
-height-abs (fin s m e) = unfold abs in mag-abs (fin s m e)
+height-abs (fin s m e) = mag-abs (fin s m e)
 
 fits-abs : (x : Float) → T (fits binary64 x) → T (fits binary64 (abs x))
 unfolding abs fits

@@ -1,18 +1,18 @@
 -- The intensity of Ledoit and Wolf, put together from the numbers that the code has. Assumes nothing.
-use mathlib.Core.Path.{_≡_, _∙_}
+use mathlib.Core.Path.{_≡_, ap, _∙_}
 use mathlib.Core.List.{List}
 use Prim.Native.Nat.{ℕ}
-use lib.Ieee.{Float, nan}
+use lib.Ieee.{Float}
 use Rattle.leaves.specs.Numbers.{_⊖_, _⊗_, _⊘_}
 use Rattle.leaves.specs.Loops.{tab, nth}
-use Rattle.leaves.proofs.Loops.{nth-tab}
 use Rattle.matrix.specs.Matrix.{Matrix, at, rows, trace, total, sumOver}
 use Rattle.estimators.specs.Sample.{volatility}
 use Rattle.estimators.specs.LedoitWolf.{apart, averageCorrelation, variation, covariation, targetVariation, error, distance, intensityBy, intensityOf, crossVariation}
 use Rattle.estimators.specs.declared.Target.{Target}
 use Rattle.estimators.specs.declared.Target.the-variants.{ConstantVariance, ConstantCorrelation}
-use Rattle.estimators.proofs.Stored.{at-stored}
-use Rattle.estimators.proofs.Entries.{sum-over-ext, total-stored, trace-stored}
+use Rattle.estimators.proofs.Stored.{nth-stored, at-stored}
+use Rattle.matrix.proofs.SumOver.{sum-over-ext}
+use Rattle.estimators.proofs.Entries.{total-stored, trace-stored}
 
 -- δ, from the error and γ
 pub intensity-is : (F : Target) (T n : ℕ) (z s : Matrix) {γ e r : Float} → γ ≡ distance F n s → e ≡ error F T n z s → r ≡ intensityBy e T γ → r ≡ intensityOf F T n z s
@@ -27,12 +27,10 @@ module _ (T n : ℕ) (z s : Matrix) {π : List Float} (eπ : π ≡ rows n n (va
   pub correlation-error : {sd θ : List Float} {r ρ : Float} → sd ≡ tab n (volatility s) → r ≡ averageCorrelation n s → θ ≡ rows n n (covariation T z s)
       → ρ ≡ sumOver n apart (crossVariation r (nth sd) (at θ n)) (trace n (at π n)) → all ⊖ ρ ≡ error ConstantCorrelation T n z s
   unfolding error targetVariation
-  correlation-error {sd} {θ} {r} ed er eθ eρ = λ u. variance-error u ⊖ (eρ ∙ (λ t. sumOver n apart (crossVariation (er t) (nth (ed t)) (at θ n)) (trace-stored n (variation T z s) eπ t)) ∙ summed) u
+  correlation-error {sd} {θ} {r} ed er eθ eρ = λ u. variance-error u ⊖ (eρ ∙ summed) u
     where
-      v : ℕ → Float
-      v = nth (tab n (volatility s))
-
-      summed : sumOver n apart (crossVariation (averageCorrelation n s) v (at θ n)) (trace n (variation T z s)) ≡ targetVariation T n z s
+      summed : sumOver n apart (crossVariation r (nth sd) (at θ n)) (trace n (at π n)) ≡ targetVariation T n z s
       summed =
-          sum-over-ext n apart (crossVariation (averageCorrelation n s) v (at θ n)) (crossVariation (averageCorrelation n s) (volatility s) (covariation T z s)) (trace n (variation T z s))
-          (λ i j hi hj t. averageCorrelation n s ⊗ nth-tab n (volatility s) j nan hj t ⊘ nth-tab n (volatility s) i nan hi t ⊗ at-stored n (covariation T z s) eθ i j hi hj t)
+          ap (sumOver n apart (crossVariation r (nth sd) (at θ n))) (trace-stored n (variation T z s) eπ)
+          ∙ sum-over-ext n apart _ _ _
+          (λ i j hi hj t. er t ⊗ nth-stored n (volatility s) ed j hj t ⊘ nth-stored n (volatility s) ed i hi t ⊗ at-stored n (covariation T z s) eθ i j hi hj t)

@@ -10,7 +10,8 @@ use Rattle.leaves.specs.Loops.{fill, tab}
 use Rattle.matrix.specs.Matrix.{at}
 use Rattle.estimators.specs.Refusals.{Check, passes, refuses, first}
 use Rattle.estimators.specs.LedoitWolf.{ledoitWolf}
-use Rattle.estimators.specs.Order.{noCorrelation, ledoitWolfOrder, byShape, byReturns, Shaped}
+use Rattle.estimators.specs.Order.{noCorrelation, ledoitWolfOrder, byShape, byReturns}
+use Rattle.estimators.specs.Shapes.{Shaped}
 use Rattle.estimators.specs.Calls.{Answered, settle, ledoitWolfIntensity}
 use Rattle.estimators.specs.declared.Target.{Target}
 use Rattle.estimators.specs.declared.Shrinkage.the-variants.{LedoitWolf}

@@ -5,6 +5,7 @@ pub mod Sums
 pub mod Passes
 pub mod Mirror
 pub mod Halves
+pub mod Passed
 pub mod Firsts
 pub mod Shapes
 pub mod Opened
@@ -24,5 +25,5 @@ pub mod Constant
 pub mod Grams
 pub mod GramSymmetric
 pub mod InUnits
-pub mod Room
+pub mod Lent
 pub mod MeanCalls

@@ -1,30 +1,30 @@
 -- The three means where shapes and lengths pass and the answer slice has n numbers: by the checks of the returns and of the half-life or the sweep
 -- limit, and then by the means or the moments. Assumes nothing.
-use mathlib.Core.Path.{_≡_, refl, sym, ap, _∙_}
+use mathlib.Core.Path.{_≡_, sym, ap, _∙_}
 use mathlib.Core.Bool.{not}
 use mathlib.Core.List.{List, [], _∷_}
 use mathlib.Core.Option.{Option}
 use Prim.Native.Nat.{ℕ, _≤_, _<_}
 use borrow.Author.Tests.{ltb-false}
 use lib.Dec.{ltb}
-use lib.IntN.{ℤ, pos, negℤ, _-ℤ_, +ℤ-idr}
+use lib.IntN.{ℤ, pos, negℤ, +ℤ-idr}
 use lib.ListN.{length}
 use lib.Ieee.{Float}
 use Rattle.leaves.specs.Loops.{tab, nth}
 use Rattle.leaves.specs.Scaling.{binaryExponent, pow2Scaled}
-use Rattle.leaves.proofs.Whole.{over}
 use Rattle.leaves.proofs.Loops.{tab-ext}
 use Rattle.matrix.specs.Limits.{maxSweeps}
 use Rattle.matrix.specs.Matrix.{Matrix, at, amax, allFinite}
 use Rattle.estimators.specs.Exponents.{exponentAt}
 use Rattle.estimators.specs.Refusals.{Check, passes, refuses, when, whenSome, first}
-use Rattle.estimators.specs.Sample.{volatility, largest, scaled, constantAsset}
+use Rattle.estimators.specs.Sample.{largest, scaled}
 use Rattle.estimators.specs.Weighted.{logDecay, weights, weightedMean}
 use Rattle.estimators.specs.Moments.{Moments, moments}
 use Rattle.estimators.specs.Shrinking.{Shrinking, shrunkBy}
 use Rattle.estimators.specs.JamesStein.{jamesStein}
 use Rattle.estimators.specs.BayesStein.{gathered, exponentsOf, largestIn, correlations, bayesStein}
-use Rattle.estimators.specs.Order.{sweepLimit, badHalfLife, weightedOrder, jamesSteinOrder, bayesSteinOrder, byReturns, byDecomposition, notFound, ofCorrelations, Shaped}
+use Rattle.estimators.specs.Order.{sweepLimit, badHalfLife, weightedOrder, jamesSteinOrder, bayesSteinOrder, byReturns, byDecomposition, notFound, ofCorrelations}
+use Rattle.estimators.specs.Shapes.{Shaped}
 use Rattle.estimators.specs.Calls.{answered, settle, exponentiallyWeightedMean, jamesSteinMean, bayesSteinMean}
 use Rattle.estimators.specs.Stein.{jamesSteinOf, bayesSteinOf, bayesSteinFrom}
 use Rattle.estimators.specs.declared.Refusal.{Refusal}
@@ -32,8 +32,9 @@ use Rattle.estimators.specs.declared.Refusal.the-variants.{ZeroVariance,
 use Rattle.estimators.specs.declared.Field.the-variants.{SweepLimitField}
 use Rattle.estimators.specs.declared.Answer.the-variants.{Refused, Mean}
 use Rattle.estimators.proofs.Stored.{nth-stored}
-use Rattle.estimators.proofs.Firsts.{first-alone, first-rest, first-passes}
-use Rattle.estimators.proofs.Constant.{constant-ext}
+use Rattle.estimators.proofs.Firsts.{first-alone}
+use Rattle.estimators.proofs.Passed.{first-rest, first-passes}
+use Rattle.estimators.proofs.Constant.{constant-sizes}
 use Rattle.estimators.proofs.Opened.{setting-refused, setting-accepted}
 
 -- a limit that passes is within document 01's
@@ -107,16 +108,14 @@ module _ (r : List Float) (n T : ℕ) (slice : List Float) (shape : Shaped (leng
 
 -- ---- the sizes and exponents of Bayes-Stein, as lists
 
--- the sizes count below n alone
-size-ext : (n limit : ℕ) (m : Moments) (e : ℕ → ℤ) (s s′ : ℕ → Float) (slice : List Float) → ((i : ℕ) → i < n → s i ≡ s′ i) → bayesSteinOf n limit m e s slice ≡ bayesSteinOf n limit m e s′ slice
-unfolding constantAsset
-size-ext n limit m e s s′ slice h =
-    let Σ = at (m .covariance) n in
+-- the sizes that are stored
+sizes-stored : (n limit : ℕ) (m : Moments) (e : ℕ → ℤ) (f : ℕ → Float) (sizes slice : List Float) → sizes ≡ tab n f → bayesSteinOf n limit m e (nth sizes) slice ≡ bayesSteinOf n limit m e f slice
+sizes-stored n limit m e f sizes slice is-sizes =
     let w = bayesStein n limit m e in
     ap
     (λ (o : Option ℕ). settle (first (whenSome o ZeroVariance ∷ when (not (allFinite n n (correlations n m))) Singular ∷ byDecomposition n (w .decomposition))) slice
     (answered (shrunkBy w) (tab n (w .mean))))
-    (constant-ext n (volatility Σ) (volatility Σ) s s′ (λ i b. refl) h)
+    (constant-sizes n (at (m .covariance) n) f sizes is-sizes)
 
 -- from the largest returns, their exponents, the moments over those and the largest returns over them
 module _ (n T limit : ℕ) (x : Matrix) (slice sizes over : List Float) (es : List ℤ) (is-sizes : sizes ≡ tab n (largest T x)) (is-es : es ≡ tab n (λ i. binaryExponent (nth sizes i))) where
@@ -129,14 +128,12 @@ module _ (n T limit : ℕ) (x : Matrix) (slice sizes over : List Float) (es : Li
   exponents : es ≡ tab n (λ i. binaryExponent (largest T x i))
   exponents = is-es ∙ tab-ext (λ i. binaryExponent (nth sizes i)) (λ i. binaryExponent (largest T x i)) n (λ i b. ap binaryExponent (at-size i b))
 
-  at-over : over ≡ gathered n (nth sizes) (λ i. negℤ (unit i)) (pos 0) → (i : ℕ) → i < n → nth over i ≡ largestIn unit T x i
+  largest-over : over ≡ gathered n (nth sizes) (λ i. negℤ (unit i)) (pos 0) → over ≡ tab n (largestIn unit T x)
   unfolding gathered
-  at-over is-over i b =
-      nth-stored n (λ i. pow2Scaled (nth sizes i) (negℤ (unit i) -ℤ pos 0)) is-over i b
-      ∙ (λ t. pow2Scaled (at-size i b t) (+ℤ-idr (negℤ (unit i)) t))
+  largest-over is-over = is-over ∙ tab-ext _ (largestIn unit T x) n (λ i b t. pow2Scaled (at-size i b t) (+ℤ-idr (negℤ (unit i)) t))
 
   pub bayes-stein-lists : (m : Moments) → m ≡ moments T n (scaled unit x) → over ≡ gathered n (nth sizes) (λ i. negℤ (unit i)) (pos 0) → bayesSteinOf n limit m unit (nth over) slice ≡ bayesSteinFrom n T limit x slice
   bayes-stein-lists m is-m is-over =
       ap (λ (m : Moments). bayesSteinOf n limit m unit (nth over) slice) is-m
-      ∙ size-ext n limit (moments T n (scaled unit x)) unit (nth over) (largestIn unit T x) slice (at-over is-over)
+      ∙ sizes-stored n limit (moments T n (scaled unit x)) unit (largestIn unit T x) over slice (largest-over is-over)
       ∙ ap (λ (l : List ℤ). let e : ℕ → ℤ = exponentAt l in bayesSteinOf n limit (moments T n (scaled e x)) e (largestIn e T x) slice) exponents

@@ -11,7 +11,8 @@ use Rattle.leaves.specs.Loops.{tab, fill}
 use Rattle.leaves.proofs.Loops.{fill-whole}
 use Rattle.matrix.specs.Matrix.{at}
 use Rattle.estimators.specs.Refusals.{Check, passes, refuses, first}
-use Rattle.estimators.specs.Order.{opening, byShape, byReturns, Shaped}
+use Rattle.estimators.specs.Order.{opening, byShape, byReturns}
+use Rattle.estimators.specs.Shapes.{Shaped}
 use Rattle.estimators.specs.Calls.{Answered, answered, settle}
 use Rattle.estimators.specs.declared.Refusal.{Refusal}
 use Rattle.estimators.specs.declared.Answer.{Answer}
@@ -38,7 +39,7 @@ unfolding settle fill
 settle-part passes a b m f slice p fits e =
     let long = length-take-le m slice fits in
     ap (λ (x : Answered). answered (x .answer) (x .slice ++ drop m slice)) e
-    ∙ ap (λ (l : List Float). answered a (l ++ drop m slice)) (fill-whole f m (take m slice) (omega (arith, long)))
+    ∙ ap (λ (l : List Float). answered a (l ++ drop m slice)) (fill-whole f m (take m slice) (omega arith))
 settle-part (refuses c) a b m f slice p fits e =
     ap (λ (x : Answered). answered (x .answer) (x .slice ++ drop m slice)) e ∙ ap (answered (Refused c)) (take-append-drop m slice)
 
@@ -55,15 +56,15 @@ module _ (r : List Float) (n T m : ℕ) (slice : List Float) (rest : List Check)
   shape-fits {b} {p} shape fits e =
       let long = length-take-le m slice fits in
       let k = first (byReturns T n (at r n) ++ rest) in
-      let here = opened r n T m (take m slice) rest shape (omega (arith, long)) in
+      let here = opened r n T m (take m slice) rest shape (omega arith) in
       let whole = opened r n T m slice rest shape fits in
       settle-part k a b m f slice p fits (e ∙ ap (λ (k : Check). settle k (take m slice) (answered a (fill m f (take m slice)))) here)
       ∙ ap (λ (k : Check). settle k slice (answered a (fill m f slice))) (sym whole)
 
   pub shaped : {k : Check} → Shaped (length r) n T → length slice ≡ m → k ≡ first (byReturns T n (at r n) ++ rest) → settle k slice (answered a (tab m f)) ≡ answerOf r n T m rest a f slice
   shaped {k} shape long e =
-      ap (λ (k : Check). settle k slice (answered a (tab m f))) (e ∙ sym (opened r n T m slice rest shape (omega (arith, long))))
-      ∙ ap (λ (l : List Float). settle (first (opening r n T m slice ++ rest)) slice (answered a l)) (sym (fill-whole f m slice (omega (arith, long))))
+      ap (λ (k : Check). settle k slice (answered a (tab m f))) (e ∙ sym (opened r n T m slice rest shape (omega arith)))
+      ∙ ap (λ (l : List Float). settle (first (opening r n T m slice ++ rest)) slice (answered a l)) (sym (fill-whole f m slice (omega arith)))
 
 -- ---- after the shape: the checks of the returns and of one setting, as the code joins them, then `rest`
 

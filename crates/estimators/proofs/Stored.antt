@@ -42,19 +42,19 @@ module _ (a m : ℕ) (l ys : List Float) (fits : a + m ≤ length l) (long : len
   first : length (take a l) ≡ a
   first = length-take-le a l (omega arith)
 
-  pub length-replaced : length (replaced a m l ys) ≡ length l
+  length-replaced : length (replaced a m l ys) ≡ length l
   length-replaced = omega (arith, first, length-append (take a l) (ys ++ drop m (drop a l)), length-append ys (drop m (drop a l)), length-drop m (drop a l), length-drop a l)
 
-  pub replaced-before : (k : ℕ) → k < a → nth (replaced a m l ys) k ≡ nth l k
+  replaced-before : (k : ℕ) → k < a → nth (replaced a m l ys) k ≡ nth l k
   replaced-before k h = List·getD-append (take a l) (ys ++ drop m (drop a l)) nan k (omega (arith, first)) ∙ getD-take a l k nan h
 
   past : (k : ℕ) → nth (replaced a m l ys) (a + k) ≡ nth (ys ++ drop m (drop a l)) k
   past k = subst (λ (b : ℕ). nth (replaced a m l ys) (b + k) ≡ nth (ys ++ drop m (drop a l)) k) first (getD-append-add (take a l) (ys ++ drop m (drop a l)) k nan)
 
-  pub replaced-in : (k : ℕ) → k < m → nth (replaced a m l ys) (a + k) ≡ nth ys k
+  replaced-in : (k : ℕ) → k < m → nth (replaced a m l ys) (a + k) ≡ nth ys k
   replaced-in k h = past k ∙ List·getD-append ys (drop m (drop a l)) nan k (omega arith)
 
-  pub replaced-after : (k : ℕ) → nth (replaced a m l ys) (a + (m + k)) ≡ nth l (a + (m + k))
+  replaced-after : (k : ℕ) → nth (replaced a m l ys) (a + (m + k)) ≡ nth l (a + (m + k))
   replaced-after k =
       past (m + k)
       ∙ subst (λ (b : ℕ). nth (ys ++ drop m (drop a l)) (b + k) ≡ nth (drop m (drop a l)) k) long (getD-append-add ys (drop m (drop a l)) k nan)
@@ -119,8 +119,8 @@ module _ (n : ℕ) (F : Matrix) (old : List Float) where
   pub passed-none : length old ≡ n * n → old ≡ passed n 0 F old
   passed-none len = rows-is old n (λ p q. cond (ltb p 0) (F p q) (at old n p q)) len (λ p q hp hq. rw (le-ltb p 0 (omega arith)))
 
-  pub passed-all : (i : ℕ) (out : List Float) → i ≤ n → n ≤ i → out ≡ passed n i F old → out ≡ rows n n F
-  passed-all i out h h′ e = e ∙ rows-ext n n (λ p q. cond (ltb p i) (F p q) (at old n p q)) F (λ p q hp hq. rw (lt-ltb p i (omega arith)))
+  pub passed-all : (i : ℕ) (out : List Float) → n ≤ i → out ≡ passed n i F old → out ≡ rows n n F
+  passed-all i out h e = e ∙ rows-ext n n (λ p q. cond (ltb p i) (F p q) (at old n p q)) F (λ p q hp hq. rw (lt-ltb p i (omega arith)))
 
   module _ (i : ℕ) (out : List Float) (e : out ≡ passed n i F old) where
     passed-at : (p q : ℕ) → p < n → q < n → at out n p q ≡ cond (ltb p i) (F p q) (at old n p q)

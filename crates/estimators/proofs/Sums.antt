@@ -20,7 +20,7 @@ use Rattle.estimators.proofs.Stored.{nth-stored, part-nth, replaced, ro
 
 -- ---- what of s is read
 
-pub sized-less : (term : Term) (s : List Float) (k m : ℕ) → Sized term k s → m ≤ k → Sized term m s
+sized-less : (term : Term) (s : List Float) (k m : ℕ) → Sized term k s → m ≤ k → Sized term m s
 sized-less Product s k m z h = tt
 sized-less Square s k m z h = omega arith
 sized-less Cube s k m z h = omega arith
@@ -38,11 +38,11 @@ pub row-room : (term : Term) (i n from : ℕ) → i < n → from ≡ start term 
 row-room term i n from h e = (row i n n h, subst (λ (k : ℕ). k ≤ i) (sym e) (start-low term i))
 
 module _ (term : Term) (s : Matrix) (y : ℕ → Float) (i : ℕ) (v : Float) where
-  pub plus-kept : (j : ℕ) → start term i ≤ j → plus term s y i j v ≡ v ⊕ summand term s y i j
+  plus-kept : (j : ℕ) → start term i ≤ j → plus term s y i j v ≡ v ⊕ summand term s y i j
   unfolding plus
   plus-kept j h = rw (le-leb (start term i) j h)
 
-  pub plus-left : (j : ℕ) → j < start term i → plus term s y i j v ≡ v
+  plus-left : (j : ℕ) → j < start term i → plus term s y i j v ≡ v
   unfolding plus
   plus-left j h = rw (lt-leb (start term i) j h)
 
@@ -52,11 +52,11 @@ module _ (term : Term) (n i a m from : ℕ) (l : List Float) (len : length l ≡
   low = row-room term i n from hi ef .1
 
   part-count : length (take m (drop a l)) ≡ n - from
-  part-count = simp (length-take, length-drop) (omega (arith, row i n n hi, low))
+  part-count = simp (length-take, length-drop) (omega (arith, row i n n hi))
 
   -- of a row y, and of s
   pub part-of : (y : List Float) → length y ≡ n → length (take (length y - from) (drop from y)) ≡ length (take m (drop a l))
-  part-of y h = simp (length-take, length-drop) (omega (arith, row i n n hi, low))
+  part-of y h = simp (length-take, length-drop) (omega (arith, row i n n hi))
 
   pub part-sized : (s : List Float) → Sized term (n * n) s → Sized term (a + length (take m (drop a l))) s
   part-sized s z = sized-less term s (n * n) (a + length (take m (drop a l))) z (omega (arith, part-count, row i n n hi, low))
@@ -66,8 +66,8 @@ module _ (term : Term) (n i a m from : ℕ) (l : List Float) (len : length l ≡
       → ((q : ℕ) (v : Float) → q < from → g i q v ≡ v) → ((k : ℕ) (v : Float) → from + k < n → x k v ≡ g i (from + k) v)
       → replaced a m l ys ≡ rows n n (λ p q. cond (eqb p i) (g p q (at l n p q)) (at l n p q))
   replaced-by ys g x e before new =
-      row-replaced n i from a m l ys (λ p q. cond (eqb p i) (g p q (at l n p q)) (at l n p q)) len hi (omega (arith, low)) ea (omega (arith, low))
-      (ap length e ∙ length-tab (λ k. x k (nth (take m (drop a l)) k)) (length (take m (drop a l))) ∙ part-count ∙ omega (arith, low))
+      row-replaced n i from a m l ys (λ p q. cond (eqb p i) (g p q (at l n p q)) (at l n p q)) len hi (omega (arith, low)) ea (omega arith)
+      (ap length e ∙ length-tab (λ k. x k (nth (take m (drop a l)) k)) (length (take m (drop a l))) ∙ part-count ∙ omega arith)
       (λ p q hp hq ne. rw (ne-eqb p i ne))
       (λ q h. rw (eq-eqb i i refl) (sym (before q (at l n i q) h)))
       (λ q h hq. rw (eq-eqb i i refl) (here q h hq))
@@ -78,28 +78,29 @@ module _ (term : Term) (n i a m from : ℕ) (l : List Float) (len : length l ≡
           let q′ : from + (q - from) ≡ q = omega arith in
           nth-stored (length (take m (drop a l))) (λ k. x k (nth (take m (drop a l)) k)) e (q - from) (omega (arith, part-count))
           ∙ new (q - from) (nth (take m (drop a l)) (q - from)) (omega arith)
-          ∙ ap (g i (from + (q - from))) (part-nth a m l (q - from) (omega (arith, low)))
+          ∙ ap (g i (from + (q - from))) (part-nth a m l (q - from) (omega arith))
           ∙ (λ k. g i (q′ k) (nth l (p k)))
 
-  module _ (s d : List Float) (x : Float) (ld : length d ≡ n) (ex : x ≡ factor term (at s n) (nth d) i) where
+  module _ (s d : List Float) (x : Float) where
     -- what the code adds to number k of the part
     added : ℕ → Float → Float
     added k v = v ⊕ joined term x (nth (take (length d - from) (drop from d)) k) (nth s (a + k))
 
-    added-plus : (k : ℕ) (v : Float) → from + k < n → added k v ≡ plus term (at s n) (nth d) i (from + k) v
-    unfolding added
-    added-plus k v h =
-        let e : a + k ≡ i * n + (from + k) = omega arith in
-        (λ t. v ⊕ joined term (ex t) (part-nth from (length d - from) d k (omega arith) t) (nth s (e t)))
-        ∙ sym (plus-kept term (at s n) (nth d) i v (from + k) (subst (λ (b : ℕ). b ≤ from + k) ef (omega arith)))
-
     left : (q : ℕ) (v : Float) → q < from → plus term (at s n) (nth d) i q v ≡ v
     left q v h = plus-left term (at s n) (nth d) i v q (subst (λ (b : ℕ). q < b) ef h)
 
-    pub row-added : (ys : List Float) → ys ≡ tab (length (take m (drop a l))) (λ k. nth (take m (drop a l)) k ⊕ joined term x (nth (take (length d - from) (drop from d)) k) (nth s (a + k)))
-        → replaced a m l ys ≡ rows n n (λ p q. cond (eqb p i) (plus term (at s n) (nth d) p q (at l n p q)) (at l n p q))
-    unfolding added
-    row-added ys e = replaced-by ys (plus term (at s n) (nth d)) added e left added-plus
+    module _ (ld : length d ≡ n) (ex : x ≡ factor term (at s n) (nth d) i) where
+      added-plus : (k : ℕ) (v : Float) → from + k < n → added k v ≡ plus term (at s n) (nth d) i (from + k) v
+      unfolding added
+      added-plus k v h =
+          let e : a + k ≡ i * n + (from + k) = omega arith in
+          (λ t. v ⊕ joined term (ex t) (part-nth from (length d - from) d k (omega arith) t) (nth s (e t)))
+          ∙ sym (plus-kept term (at s n) (nth d) i v (from + k) (subst (λ (b : ℕ). b ≤ from + k) ef (omega arith)))
+
+      pub row-added : (ys : List Float) → ys ≡ tab (length (take m (drop a l))) (λ k. nth (take m (drop a l)) k ⊕ joined term x (nth (take (length d - from) (drop from d)) k) (nth s (a + k)))
+          → replaced a m l ys ≡ rows n n (λ p q. cond (eqb p i) (plus term (at s n) (nth d) p q (at l n p q)) (at l n p q))
+      unfolding added
+      row-added ys e = replaced-by ys (plus term (at s n) (nth d)) added e left added-plus
 
   -- two rows
   pub row-added-two : (s d d′ : List Float) (x x′ : Float) → length d ≡ n → length d′ ≡ n → x ≡ factor term (at s n) (nth d) i → x′ ≡ factor term (at s n) (nth d′) i
@@ -108,9 +109,9 @@ module _ (term : Term) (n i a m from : ℕ) (l : List Float) (len : length l ≡
       → replaced a m l ys ≡ rows n n (λ p q. cond (eqb p i) (plus term (at s n) (nth d′) p q (plus term (at s n) (nth d) p q (at l n p q))) (at l n p q))
   unfolding added
   row-added-two s d d′ x x′ ld ld′ ex ex′ ys e =
-      replaced-by ys (λ p q v. plus term (at s n) (nth d′) p q (plus term (at s n) (nth d) p q v)) (λ k v. added s d′ x′ ld′ ex′ k (added s d x ld ex k v)) e
-      (λ q v h. ap (plus term (at s n) (nth d′) i q) (left s d x ld ex q v h) ∙ left s d′ x′ ld′ ex′ q v h)
-      (λ k v h. added-plus s d′ x′ ld′ ex′ k (added s d x ld ex k v) h ∙ ap (plus term (at s n) (nth d′) i (from + k)) (added-plus s d x ld ex k v h))
+      replaced-by ys (λ p q v. plus term (at s n) (nth d′) p q (plus term (at s n) (nth d) p q v)) (λ k v. added s d′ x′ k (added s d x k v)) e
+      (λ q v h. ap (plus term (at s n) (nth d′) i q) (left s d x q v h) ∙ left s d′ x′ q v h)
+      (λ k v h. added-plus s d′ x′ ld′ ex′ k (added s d x k v) h ∙ ap (plus term (at s n) (nth d′) i (from + k)) (added-plus s d x ld ex k v h))
 
 -- ---- a row that is stored
 
@@ -124,7 +125,7 @@ module _ (term : Term) (s : Matrix) (n : ℕ) (d : List Float) (y : ℕ → Floa
   factor-stored Square i h = number i h
   factor-stored Cube i h = ap (λ (x : Float). (x ⊗ x ⊖ s i i) ⊗ x) (number i h)
 
-  pub plus-stored : (i j : ℕ) (v : Float) → i < n → j < n → plus term s (nth d) i j v ≡ plus term s y i j v
+  plus-stored : (i j : ℕ) (v : Float) → i < n → j < n → plus term s (nth d) i j v ≡ plus term s y i j v
   unfolding plus
   plus-stored i j v hi hj t = cond (leb (start term i) j) (v ⊕ joined term (factor-stored term i hi t) (number j hj t) (s i j)) v
 
@@ -143,18 +144,17 @@ module _ (n : ℕ) (F : ℕ → ℕ → ℕ → Float → Float) where
   unfolding rows loop
   summed-none m out em e = e ∙ ap (λ (m : ℕ). tab m (λ k. zero⁺)) em
 
-  module _ (t : ℕ) (out next : List Float) (e : out ≡ summed n F t) where
-    pub summed-more : next ≡ rows n n (λ p q. F t p q (at out n p q)) → next ≡ summed n F (t + 1)
-    summed-more e′ =
-        e′ ∙ rows-then out n (λ p q. loop t (λ t. F t p q) zero⁺) (F t) e
-        ∙ rows-ext n n _ (λ p q. loop (t + 1) (λ t. F t p q) zero⁺) (λ p q hp hq. sym (loop-more (λ t. F t p q) t zero⁺))
+  pub summed-more : (t : ℕ) (out next : List Float) → out ≡ summed n F t → next ≡ rows n n (λ p q. F t p q (at out n p q)) → next ≡ summed n F (t + 1)
+  summed-more t out next e e′ =
+      e′ ∙ rows-then out n (λ p q. loop t (λ t. F t p q) zero⁺) (F t) e
+      ∙ rows-ext n n _ (λ p q. loop (t + 1) (λ t. F t p q) zero⁺) (λ p q hp hq. sym (loop-more (λ t. F t p q) t zero⁺))
 
-    pub summed-two : next ≡ rows n n (λ p q. F (t + 1) p q (F t p q (at out n p q))) → next ≡ summed n F (t + 2)
-    summed-two e′ =
-        e′ ∙ rows-then out n (λ p q. loop t (λ t. F t p q) zero⁺) (λ p q v. F (t + 1) p q (F t p q v)) e
-        ∙ rows-ext n n _ (λ p q. loop (t + 2) (λ t. F t p q) zero⁺)
-        (λ p q hp hq. ap (F (t + 1) p q) (sym (loop-more (λ t. F t p q) t zero⁺)) ∙ sym (loop-more (λ t. F t p q) (t + 1) zero⁺)
-        ∙ (let k : t + 1 + 1 ≡ t + 2 = omega arith in ap (λ (m : ℕ). loop m (λ t. F t p q) zero⁺) k))
+  -- two periods, with the table between them
+  pub summed-two : (t : ℕ) (out next : List Float) → out ≡ summed n F t → next ≡ rows n n (λ p q. F (t + 1) p q (F t p q (at out n p q))) → next ≡ summed n F (t + 2)
+  summed-two t out next e e′ =
+      let middle = rows n n (λ p q. F t p q (at out n p q)) in
+      let k : t + 1 + 1 ≡ t + 2 = omega arith in
+      summed-more (t + 1) middle next (summed-more t out middle e refl) (e′ ∙ sym (rows-then middle n (λ p q. F t p q (at out n p q)) (F (t + 1)) refl)) ∙ ap (summed n F) k
 
 -- a column that is summed up has its whole sum
 pub whole-sum : (term : Term) (s : Matrix) (z : Matrix) (T i j : ℕ) → start term i ≤ j → loop T (λ t. plus term s (z t) i j) zero⁺ ≡ sumTo T (λ t. summand term s (z t) i j)

@@ -14,6 +14,7 @@ abbrev pub largestOf : Largest → Option ℤ
 largestOf Nothing = none
 largestOf (Exponent k) = some k
 
+-- it is at most a sum of two exponents in size
 abbrev pub Summed : Option ℤ → Type 0
 Summed found = natAbs (orZero found) ≤ twoExponents
 

@@ -1,4 +1,4 @@
--- Document 01, "Estimators": the targets and the intensity of Ledoit and Wolf. Definitions only.
+-- Document 01, "Estimators": the targets and the intensity of Ledoit and Wolf (covariance.rs, `ledoit_wolf`). Definitions only.
 -- [a] "A well-conditioned estimator for large-dimensional covariance matrices" (2004): the target is the average variance times the identity.
 -- [b] "Honey, I shrunk the sample covariance matrix" (2004): the target has the sample's variances and their average correlation.
 use Prim.Native.Nat.{ℕ, _*_, _-_}
@@ -10,7 +10,7 @@ use Rattle.leaves.specs.Numbers.{_⊖_, _⊗_, _⊘_, count, zero⁺, clamp01}
 use Rattle.leaves.specs.Loops.{meanTo}
 use Rattle.leaves.specs.Scaling.{binaryExponent}
 use Rattle.matrix.specs.Matrix.{Matrix, at, rows, identity, trace, amax, sumOver, total, squares}
-use Rattle.estimators.specs.Sample.{deviation, volatility, correlation, gram, scaled}
+use Rattle.estimators.specs.Sample.{deviation, volatility, correlation, secondMoment, scaled}
 use Rattle.estimators.specs.declared.Target.{Target}
 use Rattle.estimators.specs.declared.Target.the-variants.{ConstantVariance, ConstantCorrelation}
 
@@ -40,11 +40,11 @@ target ConstantCorrelation n s i j = constantCorrelation n s i j
 abbrev pub distance² : Float → Float → Float
 distance² x y = (x ⊖ y) ⊗ (x ⊖ y)
 
--- π ᵢⱼ, the variance of √T sᵢⱼ
+-- πᵢⱼ, the variance of √T sᵢⱼ
 unfoldable pub variation : ℕ → Matrix → Matrix → Matrix
 variation T z s i j = meanTo T (λ t. distance² (z t i ⊗ z t j) (s i j))
 
--- θ ᵢⱼ, the covariance of √T sᵢᵢ and √T sᵢⱼ
+-- θᵢⱼ, the covariance of √T sᵢᵢ and √T sᵢⱼ
 unfoldable pub covariation : ℕ → Matrix → Matrix → Matrix
 covariation T z s i j = meanTo T (λ t. (z t i ⊗ z t i ⊖ s i i) ⊗ z t i ⊗ z t j)
 
@@ -75,7 +75,7 @@ intensityOf F T n z s = intensityBy (error F T n z s) T (distance F n s)
 
 -- s, stored by rows; and δ from z alone
 abbrev pub secondMoments : ℕ → ℕ → Matrix → List Float
-secondMoments T n z = rows n n (λ i j. gram T z i j ⊘ count T)
+secondMoments T n z = rows n n (secondMoment T T z)
 
 abbrev pub intensityFrom : Target → ℕ → ℕ → Matrix → Float
 intensityFrom F T n z = let s = secondMoments T n z in intensityOf F T n z (at s n)

@@ -19,6 +19,7 @@ pub mod Gather
 pub mod Stein
 pub mod Order
 pub mod Checks
+pub mod Shapes
 pub mod Opening
 pub mod Calls
 pub mod Estimated

@@ -1,6 +1,5 @@
 -- Document 01, "Causes", the paragraph "Order": which refusals a call looks for, in their order. Definitions only.
-use Prim.Native.Nat.{ℕ, _*_, _<_, _≤_}
-use mathlib.Core.Path.{_≡_}
+use Prim.Native.Nat.{ℕ, _*_}
 use mathlib.Core.Bool.{Bool, true, false, not, _&&_, _||_}
 use mathlib.Core.List.{List, [], _∷_, _++_}
 use lib.Dec.{eqb, ltb}
@@ -49,10 +48,6 @@ byShape length n T needed room =
     when (not (eqb length (T * n)) || ltb room needed) WrongLength ∷
     []
 
--- what `byShape` lets pass, but for the answer's room
-abbrev pub Shaped : ℕ → ℕ → ℕ → Type 0
-Shaped length n T = (0 < n) × (n ≤ maxSide) × (minPeriods ≤ T) × (T ≤ maxPeriods) × (length ≡ T * n)
-
 -- 5, sample 6
 abbrev pub byReturns : ℕ → ℕ → Matrix → List Check
 byReturns T n x = notFinite T n x ∷ when (not (allFinite n n (covariance T x))) CovarianceNotFinite ∷ []
@@ -84,17 +79,18 @@ byNumbers n g d = byEntries n g ++ byValues n (averaged g) d
 unfoldable pub ofGiven : Settings → List Float → ℕ → Decomposition → List Check
 ofGiven s g side d = elim (isGiven (s .estimate)) [ true ↦ bySizes (s .limit) (length g) side ++ byNumbers side (at g side) d | false ↦ [] ]
 
--- finite and at least 0, as -0 is
+-- field 1: finite and at least 0, as -0 is
 unfoldable pub badRegularization : Regularization → Check
 badRegularization Unregularized = passes
 badRegularization (Ridge ridge) = when (not (isFinite ridge && le zero⁺ ridge)) (BadSetting RegularizationField)
 
--- in [0, 1]
+-- field 2: in [0, 1]
 unfoldable pub badShrinkage : Shrinkage → Check
 badShrinkage Unshrunk = passes
 badShrinkage (Fixed δ) = when (not (le zero⁺ δ && le δ one)) (BadSetting ShrinkageField)
 badShrinkage (LedoitWolf F) = passes
 
+-- field 3
 unfoldable pub badHalfLife : Float → Check
 badHalfLife halfLife = when (not (accepted (logDecay halfLife))) (BadSetting HalfLifeField)
 
@@ -106,6 +102,7 @@ badEstimate (Weighted halfLife) = badHalfLife halfLife
 badEstimate Semi = passes
 badEstimate (SemiBelow threshold) = when (not (isFinite threshold)) (BadSetting ThresholdField)
 
+-- 8
 unfoldable pub notTheSample : Shrinkage → Estimate → Check
 notTheSample Unshrunk estimate = passes
 notTheSample (Fixed δ) estimate = passes

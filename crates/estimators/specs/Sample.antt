@@ -21,8 +21,13 @@ deviation T x t i = x t i ⊖ mean T x i
 unfoldable pub gram : ℕ → Matrix → Matrix
 gram T x = product T (transpose x) x
 
+-- second moments, over the degrees of freedom d
+abbrev pub secondMoment : ℕ → ℕ → Matrix → Matrix
+secondMoment d T x i j = gram T x i j ⊘ count d
+
+-- the mean takes a degree of freedom
 unfoldable pub covariance : ℕ → Matrix → Matrix
-covariance T x i j = gram T (deviation T x) i j ⊘ count (T - 1)
+covariance T x = secondMoment (T - 1) T (deviation T x)
 
 -- the volatility of asset i under the covariance s, and the correlation of two assets, by the volatilities v (methods/mod.rs, `correlation`)
 abbrev pub volatility : Matrix → ℕ → Float

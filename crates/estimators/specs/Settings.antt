@@ -1,4 +1,4 @@
--- Document 01, "Records": the settings record by its parts. Definitions only.
+-- Document 01, "Records": the settings record by its parts, as examples and laws write it. Definitions only.
 use Prim.Native.Nat.{ℕ}
 use Rattle.estimators.specs.declared.Estimate.{Estimate}
 use Rattle.estimators.specs.declared.Shrinkage.{Shrinkage}

@@ -4,7 +4,7 @@ ghost use Prim.Native.Nat.{_≤_};
 ghost use lib.ListN.{length};
 ghost use Rattle.matrix.specs.Limits.{maxSweeps};
 ghost use Rattle.matrix.specs.Matrix.{at};
-ghost use Rattle.estimators.specs.Order.{Shaped};
+ghost use Rattle.estimators.specs.Shapes.{Shaped};
 ghost use Rattle.estimators.specs.Calls as Calls;
 ghost use Rattle.estimators.specs.Calls.{answered};
 ghost use Rattle.estimators.specs.Stein.{bayesSteinFrom};

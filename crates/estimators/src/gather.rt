@@ -1,6 +1,6 @@
 // Numbers xᵢ · 2^-eᵢ, gathered: a vector whose largest number is near 1, and one power of two (expected_returns.rs, `gather`).
 ghost use mathlib.Core.Path.{_≡_};
-ghost use Prim.Native.Nat.{ℕ, _+_, _≤_};
+ghost use Prim.Native.Nat.{ℕ, _≤_};
 ghost use lib.IntN.{pos, negℤ, natAbs};
 ghost use lib.ListN.{length};
 ghost use Rattle.leaves.specs.Numbers.{_⊘_, one};

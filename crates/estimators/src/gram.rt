@@ -1,6 +1,5 @@
-// The second moments of a matrix's rows, and the variations of Ledoit and Wolf.
+// The products of the columns of a matrix's rows, and the variations of Ledoit and Wolf (covariance.rs, `ledoit_wolf`).
 ghost use mathlib.Core.Path.{_≡_};
-ghost use mathlib.Core.List.{[]};
 ghost use Prim.Native.Nat.{_*_, _≤_};
 ghost use lib.ListN.{length};
 ghost use Rattle.matrix.specs.Limits.{maxSide};

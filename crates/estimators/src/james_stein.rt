@@ -121,19 +121,6 @@ fn pull(
     }
 }
 
-// The means moved towards the target, in units of 2^exponent.
-fn put_means(means: &[f64], intensity: f64, target: f64, exponent: i32, out: &mut [f64])
-    requires { ⌜ length (now means) ≡ length (now out) ⌝ }
-    ensures { λ _. ⌜ now (out .exit) ≡ tab (length (now (out .entry))) (λ (i : ℕ). pow2Scaled (JamesStein.towards intensity target (nth (now (means .entry)) i)) exponent) ⌝ }
-{
-    let mut i = 0;
-    while i < out.len() {
-        let m = means[i];
-        out[i] = pow2_scaled(m + intensity * (target - m), exponent);
-        i += 1;
-    }
-}
-
 // `pull` of the moments, in arrays of the largest size.
 fn pull_held(m: Moments, n: usize, target: f64, limit: usize) -> Pulled
     requires { ⌜ (0 < n) × (n ≤ maxSide) × (limit ≤ maxSweeps) ⌝ }
@@ -154,6 +141,19 @@ fn pull_held(m: Moments, n: usize, target: f64, limit: usize) -> Pulled
         &mut values[..n],
         &mut vectors[..size],
     )
+}
+
+// The means moved towards the target, in units of 2^exponent.
+fn put_means(means: &[f64], intensity: f64, target: f64, exponent: i32, out: &mut [f64])
+    requires { ⌜ length (now means) ≡ length (now out) ⌝ }
+    ensures { λ _. ⌜ now (out .exit) ≡ tab (length (now (out .entry))) (λ (i : ℕ). pow2Scaled (JamesStein.towards intensity target (nth (now (means .entry)) i)) exponent) ⌝ }
+{
+    let mut i = 0;
+    while i < out.len() {
+        let m = means[i];
+        out[i] = pow2_scaled(m + intensity * (target - m), exponent);
+        i += 1;
+    }
 }
 
 // The answer from the moments in units of 2^exponent.

@@ -1,4 +1,4 @@
-// The moments record, and the powers of two that its returns are taken over.
+// The moments record, and the powers of two that its returns are taken over (expected_returns.rs, `Moments`).
 ghost use mathlib.Core.Path.{_≡_};
 ghost use Prim.Native.Nat.{ℕ, _+_, _*_, _≤_};
 ghost use lib.IntN.{natAbs};
@@ -16,7 +16,7 @@ use crate::sample::covariance_in;
 use crate::sample::means_in;
 
 // Of n assets, the first n numbers of the mean vector and the first n * n of the covariance, row by row.
-pub struct Moments {
+pub(crate) struct Moments {
     pub mean: [f64; matrix::MAX_SIDE],
     pub covariance: [f64; matrix::MAX_SIDE * matrix::MAX_SIDE],
     pub periods: f64,

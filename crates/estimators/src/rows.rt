@@ -72,7 +72,7 @@ fn numbers(row: Row, xs: &[f64], units: &[f64], centers: &[f64], w: f64, out: &m
     }
 }
 
-// Period t's weight, where there are weights.
+// Period t's weight; NaN where there is none.
 fn weight(weights: &[f64], t: usize) -> f64
     ensures { λ r. ⌜ r ≡ nth (now (weights .entry)) t ⌝ }
 {

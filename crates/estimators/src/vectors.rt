@@ -106,6 +106,7 @@ pub(crate) fn add_squares(a: f64, xs: &[f64], s: &[f64], from: usize, out: &mut 
     }
 }
 
+// The same with two products, the first one first.
 pub(crate) fn add_squares2(
     a: f64,
     xs: &[f64],

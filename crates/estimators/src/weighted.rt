@@ -1,6 +1,6 @@
 // The exponentially weighted mean and covariance (expected_returns.rs, covariance.rs). Below the settings everything takes l = ln λ.
 ghost use mathlib.Core.Path.{_≡_};
-ghost use Prim.Native.Nat.{ℕ, _*_, _≤_, _<_};
+ghost use Prim.Native.Nat.{ℕ, _*_, _≤_};
 ghost use lib.ListN.{length};
 ghost use Rattle.leaves.specs.Numbers.{_⊘_};
 ghost use Rattle.leaves.specs.Loops.{tab, nth};

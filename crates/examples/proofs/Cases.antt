@@ -43,6 +43,7 @@ abbrev one-asset : Float → Regularization → ℕ → Answered
 one-asset g regularization limit =
     adjustedCovariance (one ∷ count 3 ∷ []) 1 2 (settings Given Unshrunk regularization limit) (g ∷ []) 1 (zero⁺ ∷ [])
 
+-- a covariance of two assets that nothing shrank and for which nothing was decomposed
 abbrev plain : Float → Float → Float → Float → Answered
 plain a b c d = answered (Covariance zero⁺ 0 0) (a ∷ b ∷ c ∷ d ∷ [])
 
@@ -58,7 +59,7 @@ pub record TwelveCases : Type 0 where
   pub case-9 : (two-assets equal Unshrunk Unregularized ≡ answered (Refused (ZeroVariance 0)) blank) × (two-assets equal Unshrunk (Ridge zero⁺) ≡ answered (Refused (ZeroVariance 0)) blank) × (two-assets equal (Fixed half) Unregularized ≡ answered (Refused Singular) blank)
   pub case-10 : (one-asset (neg one) Unregularized maxSweeps ≡ answered (Refused (Indefinite (neg one))) (zero⁺ ∷ [])) × (one-asset zero⁺ Unregularized maxSweeps ≡ answered (Refused (ZeroVariance 0)) (zero⁺ ∷ [])) × (one-asset zero⁺ (Ridge one) maxSweeps ≡ answered (Covariance zero⁺ 0 0) (one ∷ []))
   pub case-11 : (one-asset one Unregularized 0 ≡ answered (Refused NotDecomposed) (zero⁺ ∷ [])) × (one-asset one Unregularized 1 ≡ answered (Covariance zero⁺ 0 0) (one ∷ []))
-  pub case-12 : jamesSteinMean (one ∷ count 3 ∷ []) 1 2 100 (zero⁺ ∷ []) ≡ answered (Shrunk zero⁺ two 0 0) (two ∷ [])
+  pub case-12 : jamesSteinMean (one ∷ count 3 ∷ []) 1 2 maxSweeps (zero⁺ ∷ []) ≡ answered (Shrunk zero⁺ two 0 0) (two ∷ [])
 
 pub twelveCases : TwelveCases
 unfolding evaluated

@@ -2,7 +2,7 @@
 -- agree one after another, and where all pass every entry is 2 ^ (2k) times the other's. Assumes nothing.
 use mathlib.Core.Path.{_≡_, refl, sym, ap, ap₂, _∙_, subst, subst₂}
 use mathlib.Core.Logic.{_⊎_, inl, inr}
-use Prim.Native.Nat.{ℕ, _+_, _*_, _^_, _≤_, _<_}
+use Prim.Native.Nat.{ℕ, _+_, _*_, _≤_, _<_}
 use native.Mathlib.Omega.{arith}
 use mathlib.Core.Bool.{Bool, true, false, not, cond, _&&_, and-eq-true-iff}
 use mathlib.Core.Option.{none}
@@ -18,8 +18,8 @@ use Rattle.leaves.specs.Shift.{shift}
 use Rattle.leaves.proofs.Loops.{first-all}
 use Rattle.leaves.proofs.Shift.{isFinite-shift, eq-shift, shift-zero⁺}
 use Rattle.leaves.proofs.Units.{sign}
-use Rattle.leaves.proofs.Range.{range-zero}
-use Rattle.leaves.proofs.Operations.{moved-weaken}
+use Rattle.leaves.proofs.Bounds.{zero-bounded}
+use Rattle.leaves.proofs.Operations.{moved-within}
 use Rattle.leaves.proofs.Signs.{sign-not-below}
 use Rattle.leaves.proofs.SqrtNearest.{moved-sqrt}
 use Rattle.matrix.specs.Matrix.{Matrix, at, rows, trace, allFinite}
@@ -46,7 +46,7 @@ use Rattle.estimators.specs.declared.Answer.{Answer}
 use Rattle.estimators.specs.declared.Answer.the-variants.{Covariance, Intensity}
 use Rattle.law.specs.Law.{All, Sized, AtLeast, answerParts, Alike, ask, EstimateInRange, ShrinkageInRange, CopiedEstimate, maxPower, returnRange, covarianceRange, intensityRange}
 use Rattle.law.specs.Law as Law
-use Rattle.law.proofs.Bits.{intensityLeast, intensityGrain}
+use Rattle.law.proofs.Ranges.{intensityBounds, shrunkBounds}
 use Rattle.law.proofs.Numbers.{times-itself, filled-alike}
 use Rattle.law.proofs.Chain.{Chain, ends, pass-must, pass-some, chain-same, chain-test, chain-must, chain-map, chain-append, chained, parts, settled}
 use Rattle.law.proofs.Sizes.{le-not-lt}
@@ -76,14 +76,14 @@ module _ (r : List Float) (n P : ℕ) (opens : (ds : List Check) → first (open
   answers F e = ap (λ (c : Check). settle c [] (answered (Intensity (ledoitWolf F P n (at r n))) []) .answer) (opens (noCorrelation (LedoitWolf F) P n (at r n) ∷ []) ∙ ap (λ (c : Check). first (c ∷ [])) e)
 
   ledoitWolf-known : (F : Target) → AtLeast intensityRange (ledoitWolf F P n (at r n)) → (ledoitWolf F P n (at r n) ≡ nan) ⊎ Shrinking.Intensity (ledoitWolf F P n (at r n))
-  ledoitWolf-known F = ledoitWolf-cases (λ z. AtLeast intensityRange z → (z ≡ nan) ⊎ Shrinking.Intensity z) F P n (at r n) (λ a. inr (range-zero intensityGrain (2 ^ intensityLeast) (2 ^ 1074))) (clamped-range intensityRange (lit≤ tt))
+  ledoitWolf-known F = ledoitWolf-cases (λ z. AtLeast intensityRange z → (z ≡ nan) ⊎ Shrinking.Intensity z) F P n (at r n) (λ a. inr (zero-bounded intensityBounds)) (clamped-range intensityRange (lit≤ tt))
 
   no : {F : Target} → LedoitWolf F ≡ Unshrunk → ⊥
   no e = let z : true ≡ false = cc in subst lib.Dec.T z tt
 
   intensity-known : (S : Shrinkage) (E : Estimate) → ShrinkageInRange S (isSample E) r n P → badShrinkage S ≡ passes → notTheSample S E ≡ passes → noCorrelation S P n (at r n) ≡ passes → Known S (intensity S P n (at r n))
   unfolding intensity badShrinkage notTheSample
-  intensity-known Unshrunk E q a b c = inr (range-zero intensityGrain (2 ^ intensityLeast) (2 ^ 1074))
+  intensity-known Unshrunk E q a b c = inr (zero-bounded intensityBounds)
   intensity-known (Fixed δ) E q a b c = inr (fixed δ (q .0) (q .1) (and-eq-true-iff (le zero⁺ δ) (le δ one) .0 (pass-must (le zero⁺ δ && le δ one) (BadSetting ShrinkageField) a)))
     where
       fixed : (δ : Float) → lib.Dec.T (fits binary64 δ) → AtLeast intensityRange δ → (le zero⁺ δ ≡ true) × (le δ one ≡ true) → Shrinking.Intensity δ
@@ -130,13 +130,13 @@ module _ (k : ℕ) (small : k ≤ maxPower) (r : List Float) (sizes : All (Sized
         let moved : (i j : ℕ) → i < n → j < n → Sampled (k + k) (b i j) (b' i j) = λ i j l m. subst₂ (Sampled (k + k)) (sym (is i j l m)) (sym (is' i j l m)) (sample-moved k small r sizes n P s i j l m) in
         let plus : (i : ℕ) → i < n → sign (b i i) ≡ false = λ i l. ap sign (is i i l l) ∙ sign-variance P x i in
         target-moved k n small (s .0) (s .1) b b' moved plus
-        (λ i l. above-zero (b i i) (largest P x i) (moved-sqrt (moved i i l l) (sign-not-below (b i i) (plus i l)) 860 1133 (lit≤ tt) (lit≤ tt) .range)
-        (tolerance-moved (returns k small r sizes n P s) (lit≤ tt) (lit≤ tt) (omega arith) i l .range) (plus i l) (sign-largest P x i)
+        (λ i l. above-zero (b i i) (largest P x i) (moved-sqrt (moved i i l l) (sign-not-below (b i i) (plus i l)) .range)
+        (tolerance-moved (returns k small r sizes n P s) (lit≤ tt) (omega arith) i l .range) (plus i l) (sign-largest P x i)
         (ap (λ (v : Float). le (sqrt v) (1e-10 ⊗ largest P x i)) (is i i l l) ∙ first-all (λ i. le (sqrt (covariance P x i i)) (1e-10 ⊗ largest P x i)) n nothing i l))
 
     shrunk-moved : (S : Shrinkage) → Shrinking.Intensity δ → notTheSample S E ≡ passes → noCorrelation S P n (at r n) ≡ passes → (i j : ℕ) → i < n → j < n → Shrunken (k + k) (shrunk S δ n b i j) (shrunk S δ n b' i j)
     unfolding shrunk notTheSample noCorrelation
-    shrunk-moved Unshrunk d e₄ e₅ i j l m = moved-weaken 5 5 1645 (lit≤ tt) (lit≤ tt) (lit≤ tt) (estimated i j l m)
+    shrunk-moved Unshrunk d e₄ e₅ i j l m = moved-within shrunkBounds tt (estimated i j l m)
     shrunk-moved (Fixed f) d e₄ e₅ i j l m = variance-mixed (k + k) double δ d n b b' i j (s .0) (s .1) estimated l m
     shrunk-moved (LedoitWolf ConstantVariance) d e₄ e₅ i j l m = variance-mixed (k + k) double δ d n b b' i j (s .0) (s .1) estimated l m
     shrunk-moved (LedoitWolf ConstantCorrelation) d e₄ e₅ i j l m = correlation-mixed (k + k) double δ d n b b' i j (correlated (pass-must (isSample E) NotTheSample e₄) (pass-some (constantAsset n (covariance P x) (largest P x)) ZeroVariance e₅) i j l m) (estimated i j l m)

@@ -24,9 +24,10 @@ use Rattle.estimators.specs.Calls.{bayesSteinMean}
 use Rattle.estimators.specs.declared.Field.the-variants.{SweepLimitField}
 use Rattle.estimators.specs.declared.Refusal.the-variants.{BadSetting, ZeroVariance, Singular}
 use borrow.Author.Tests.{ltb-false}
-use Rattle.estimators.proofs.Firsts.{pass-test}
+use Rattle.estimators.proofs.Passed.{pass-test}
 use Rattle.law.specs.Law.{All, Sized, AtLeast, Alike, ask, maxPower, returnRange, meanRange}
 use Rattle.law.specs.Law as Law
+use Rattle.law.proofs.Ranges.{returnBounds, exponentAbove}
 use Rattle.law.proofs.Chain.{Chain, ends, chain-same, chain-test, chain-must, chain-some, chained, parts, settled}
 use Rattle.law.proofs.Moments.{large, Copied, shrunk-alike, shrunkInto, Large}
 use Rattle.law.proofs.Opening.{Shape, returns, opening-chain, column}
@@ -76,7 +77,7 @@ module _ (k : ℕ) (small : k ≤ maxPower) (r : List Float) (sizes : All (Sized
           let v : Moments → Shrinking = λ m. bayesStein n limit m (exponentsOf P n (at r' n)) in
           let same = found-same small R in
           let s' : Shape r' n P = (s .0, s .1, s .2, s .3, length-map r (shift (pos k)) ∙ s .4) in
-          let tops : (i : ℕ) → i < n → over (exponentsOf P n (at r' n) i) ≤ returnRange = λ i l. rw (exponent-at P n (at r' n) i l) (column (lit≤ {m = 0} tt) (returns 0 (lit≤ tt) r' sizes' n P s') i l .small .0) in
+          let tops : (i : ℕ) → i < n → over (exponentsOf P n (at r' n) i) ≤ exponentAbove returnBounds = λ i l. rw (exponent-at P n (at r' n) i l) (column (lit≤ {m = 0} tt) (returns 0 (lit≤ tt) r' sizes' n P s') i l .small .0) in
           let c' = subst (λ (m : Moments). AtLeast meanRange (v m .target)) same c in
           record {
             intensity = ap (λ (m : Moments). v m .intensity) same ∙ intensity-same small R tops limit q;

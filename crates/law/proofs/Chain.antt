@@ -11,7 +11,7 @@ use borrow.Author.Tests.{not-false}
 use Rattle.estimators.specs.Refusals.{Place, number, place, Check, passes, refuses, when, whenSome, first}
 use Rattle.estimators.specs.Calls.{Answered, settle}
 use Rattle.estimators.specs.declared.Refusal.{Refusal}
-use Rattle.estimators.proofs.Firsts.{passes-not, pass-test}
+use Rattle.estimators.proofs.Passed.{passes-not, pass-test}
 use Rattle.law.specs.Law.{compared, AnswerParts, answerParts, Alike}
 
 -- both checks pass, and P holds; or both refuse with the same refusal at the same place

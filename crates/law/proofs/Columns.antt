@@ -1,12 +1,11 @@
 -- The Bayes-Stein mean: each column over the power of two of its largest return. The scaled columns are the same in both runs, so the moments are. A column that is not refused is not zero, so
--- its exponent grows by k; its volatility is at least 2 ^ -34 in its unit. Assumes nothing.
+-- its exponent grows by k; its volatility is not far below its unit. Assumes nothing.
 use mathlib.Core.Path.{_≡_, refl, sym, ap, _∙_, subst}
 use mathlib.Core.Logic.{inl, inr}
-use Prim.Native.Nat.{ℕ, zero, suc, _-_, _*_, _^_, _≤_, _<_, zero-le}
+use Prim.Native.Nat.{ℕ, _-_, _*_, _^_, _≤_, _<_, zero-le}
 use native.Mathlib.Nat.{le-antisymm, le-refl, le-trans, le-of-eq, le-of-lt, lt-of-lt-of-le, lt-of-le-of-lt, lt-irrefl, mul-le-mul, mul-le-mul-right, mul-le-mul-left, eq-zero-or-pos}
-use native.Mathlib.Omega.{arith}
 use mathlib.Core.Bool.{false}
-use lib.Dec.{lit≤}
+use lib.Dec.{lit≤, lit<}
 use lib.IntN.{ℤ, pos, negℤ, _+ℤ_}
 use lib.Pow.{pow-pos}
 use lib.Ieee.{Float, le, eq, ofBits}
@@ -14,17 +13,17 @@ use Rattle.leaves.specs.Numbers.{_⊗_, _⊘_, zero⁺, one, 1e-10}
 use Rattle.leaves.specs.Loops.{nth}
 use Rattle.leaves.specs.Root.{sqrt}
 use Rattle.leaves.specs.Scaling.{binaryExponent, pow2Scaled}
-use Rattle.leaves.specs.Shift.{shift}
 use Rattle.leaves.proofs.Loops.{first-ext, nth-tab}
-use Rattle.leaves.proofs.Whole.{over, under, plus}
-use Rattle.leaves.proofs.SqrtLaws.{sqrt-shift}
+use Rattle.leaves.proofs.Whole.{over, under}
 use Rattle.leaves.proofs.SqrtNearest.{moved-sqrt}
 use Rattle.leaves.proofs.Rounding.{near-least, held-pow}
-use Rattle.leaves.proofs.Units.{U, U-pos, U-is, sign, mag, mag-shift, eq-zero}
-use Rattle.leaves.proofs.Range.{Range, range-value, range-size}
+use Rattle.leaves.proofs.Units.{oneBits, U, U-pos, U-is, sign, mag, eq-zero}
+use Rattle.leaves.proofs.Range.{range-value, range-size, range-null}
+use Rattle.leaves.proofs.Bounds.{Bounded, rootOf, only-zero}
 use Rattle.leaves.proofs.Operations.{Moved, still, moved-mul, moved-over}
 use Rattle.leaves.proofs.Signs.{sign-mul, sign-sqrt, sign-not-below}
-use Rattle.leaves.proofs.PowersOfTwo.{shift-null, exponent-shift}
+use Rattle.leaves.proofs.PowersOfTwo.{zero-scaled, exponent-shift, exponent-null}
+use Rattle.leaves.proofs.Scale.{sign-scaled}
 use Rattle.matrix.specs.Matrix.{Matrix, at}
 use Rattle.matrix.specs.Jacobi.{Decomposition, decompose}
 use Rattle.matrix.proofs.Stored.{rows-at}
@@ -33,15 +32,15 @@ use Rattle.estimators.specs.Moments.{Moments, moments}
 use Rattle.estimators.specs.BayesStein.{exponentsOf, largestIn, correlations}
 use borrow.Author.Tests.{ne-eqb}
 use Rattle.estimators.proofs.SameReturns.{moments-same}
-use Rattle.law.specs.Law.{maxPower, returnRange}
-use Rattle.law.proofs.Bits.{returnGrain, returnLeast, returnMost, unitGrain}
+use Rattle.law.specs.Law.{maxPower}
+use Rattle.law.proofs.Ranges.{zeroBounds, returnBounds, tenBillionthBounds, covarianceOf, exponentAbove, exponentBelow, unitBounds, unitMeanBounds, unitVarianceBounds, unitVolatilityBounds, toleranceBounds, steadyVolatilityBounds, inverseBounds, meanShareBounds}
 use Rattle.law.proofs.Sizes.{plus-val, le-no}
-use Rattle.law.proofs.Sample.{Returns, entries-as, covariance-moved, largest-moved, largest-above, tenth-moved, tenth-above}
-use Rattle.law.proofs.Scaled.{sign-scaled, Scaling, scaling, scaled-least, exponent-within, exponent-null}
+use Rattle.law.proofs.Sample.{Returns, entries-as, covariance-moved, largest-moved, largest-above, ten-billionth-moved, ten-billionth-above}
+use Rattle.law.proofs.Scaled.{scaled-least, exponent-within}
 use Rattle.law.proofs.Correlation.{sign-variance, sign-largest, above-zero}
 use Rattle.law.proofs.Shrinkage.{one-moved}
 use Rattle.law.proofs.Moments.{means-moved}
-use Rattle.law.proofs.Opening.{column}
+use Rattle.law.proofs.Opening.{returns-scalable, column}
 use Rattle.law.proofs.Ratio.{product-is, quotient-is}
 
 -- ---- the parts of the call
@@ -61,7 +60,7 @@ pub exponent-at : (P n : ℕ) (x : Matrix) (i : ℕ) → i < n → exponentsOf P
 exponent-at P n x i l = nth-tab n (λ i. binaryExponent (largest P x i)) i (pos 0) l
 
 -- ---- each column over its power of two
-module _ {k n P : ℕ} {x y : Matrix} (small : k ≤ maxPower) (r : Returns k n P returnGrain returnLeast returnMost x y) where
+module _ {k n P : ℕ} {x y : Matrix} (small : k ≤ maxPower) (r : Returns k n P returnBounds x y) where
   entry-same : (t i : ℕ) → t < P → i < n → scaled (exponentsOf P n y) y t i ≡ scaled (exponentsOf P n x) x t i
   unfolding scaled
   entry-same t i a b =
@@ -86,124 +85,113 @@ module _ {k n P : ℕ} {x y : Matrix} (small : k ≤ maxPower) (r : Returns k n 
   entry-is t i a b = ap (λ (e : ℤ). pow2Scaled (x t i) (negℤ e)) (exponent-at P n x i b)
 
   -- below 2 in size
-  units : Returns 0 n P unitGrain unitGrain 1075 (scaled (exponentsOf P n x) x) (scaled (exponentsOf P n x) x)
-  units = entries-as r (λ t i a b. still unitGrain 1075 (subst (Range unitGrain (2 ^ unitGrain) (2 ^ 1075)) (sym (entry-is t i a b)) (column small r i b .moved (r .entries t i a b) (largest-above r t i a b) .range)))
+  units : Returns 0 n P unitBounds (scaled (exponentsOf P n x) x) (scaled (exponentsOf P n x) x)
+  units = entries-as r (λ t i a b. still unitBounds (subst (Bounded unitBounds) (sym (entry-is t i a b)) (column small r i b .moved (r .entries t i a b) (largest-above r t i a b) .range)))
 
   abbrev m : Moments
   m = found P n x
 
-  pub μ-range : (i : ℕ) → i < n → Range 878 (2 ^ 930) (2 ^ 1087) (nth (found P n x .mean) i)
+  pub μ-range : (i : ℕ) → i < n → Bounded unitMeanBounds (nth (found P n x .mean) i)
   μ-range i a = means-moved units zero-le i a .range
 
   variance-is : (i : ℕ) → i < n → Σ n (found P n x) i i ≡ covariance P (scaled (exponentsOf P n x) x) i i
   unfolding moments
   variance-is i a = rows-at (covariance P u) n n i i a a
 
-  variance-range : (i : ℕ) → i < n → Range 618 (2 ^ 670) (2 ^ 1114) (Σ n (found P n x) i i)
-  variance-range i a = rw (variance-is i a) (covariance-moved units 878 (lit≤ tt) (lit≤ tt) 682 (lit≤ tt) 618 (lit≤ tt) 1102 (lit≤ tt) (lit≤ tt) i i a a .range)
+  variance-range : (i : ℕ) → i < n → Bounded unitVarianceBounds (Σ n (found P n x) i i)
+  variance-range i a = rw (variance-is i a) (covariance-moved units (lit≤ tt, lit≤ tt, lit≤ tt, lit≤ tt) i i a a .range)
 
   variance-plus : (i : ℕ) → i < n → sign (Σ n (found P n x) i i) ≡ false
   variance-plus i a = ap sign (variance-is i a) ∙ sign-variance P u i
 
-  v-range : (i : ℕ) → i < n → Range 820 (2 ^ 872) (2 ^ 1094) (sqrt (Σ n (found P n x) i i))
-  v-range i a = moved-sqrt {k = 0} (still 670 1114 (variance-range i a)) (sign-not-below (Σ n m i i) (variance-plus i a)) 820 1094 (lit≤ tt) (lit≤ tt) .range
+  v-range : (i : ℕ) → i < n → Bounded unitVolatilityBounds (sqrt (Σ n (found P n x) i i))
+  v-range i a = moved-sqrt {k = 0} (still unitVarianceBounds (variance-range i a)) (sign-not-below (Σ n m i i) (variance-plus i a)) .range
 
   -- ---- a column that is accepted
   module _ (i : ℕ) (a : i < n) (h : le (sqrt (Σ n (found P n x) i i)) (1e-10 ⊗ sizeOf P n x i) ≡ false) where
     abbrev A : Float
     A = largest P x i
 
-    A-range : Range returnGrain (2 ^ returnLeast) (2 ^ returnMost) (largest P x i)
+    A-range : Bounded returnBounds (largest P x i)
     A-range = largest-moved r i a .range
 
-    size-range : Range unitGrain (2 ^ unitGrain) (2 ^ 1075) (sizeOf P n x i)
+    size-range : Bounded unitBounds (sizeOf P n x i)
     size-range = rw (exponent-at P n x i a) (column small r i a .moved (largest-moved r i a) (le-refl (mag A)) .range)
 
     size-plus : sign (sizeOf P n x i) ≡ false
     size-plus = sign-scaled A (negℤ (exponentsOf P n x i)) (sign-largest P x i)
 
-    tolerance-range : Range 856 (2 ^ 908) (2 ^ 1042) (1e-10 ⊗ sizeOf P n x i)
-    tolerance-range = moved-mul tenth-moved (still unitGrain 1075 size-range) 856 908 1042 (lit≤ tt) (lit≤ tt) (lit≤ tt) (lit≤ tt) .range
+    tolerance-range : Bounded toleranceBounds (1e-10 ⊗ sizeOf P n x i)
+    tolerance-range = moved-mul ten-billionth-moved (still unitBounds size-range) (lit≤ tt) (lit≤ tt) .range
 
     v-above : 0 < mag (sqrt (Σ n (found P n x) i i))
     v-above = above-zero (Σ n m i i) (sizeOf P n x i) (v-range i a) tolerance-range (variance-plus i a) size-plus h
 
-    -- the column is not zero: zeros would be their own doubles, and so would their volatility
+    -- the column is not zero: the volatility of zeros is a zero, for their bounds leave room for nothing else
     pub not-zero : 0 < mag (largest P x i)
     not-zero = elim (eq-zero-or-pos (mag A)) [ inr p ↦ p | inl z ↦ absurd (zeros z) ]
       where
-        alone : (s : ℕ) (b : ℤ) → s ≤ 1 → b ≡ b +ℤ pos (1 - s) → s ≡ 1
-        alone zero b l e = unfold over under in omega (arith, ap over e, ap under e, plus b (pos 1))
-        alone (suc zero) b l e = refl
-        alone (suc (suc s)) b l e = absurd (omega arith)
-
-        same-column : covariance P (λ t j. scaled (exponentsOf P n x) x t i) i i ≡ shift (pos 2) (covariance P (λ t j. scaled (exponentsOf P n x) x t i) i i) → covariance P (scaled (exponentsOf P n x) x) i i ≡ shift (pos 2) (covariance P (scaled (exponentsOf P n x) x) i i)
-        same-column e = unfold covariance gram deviation mean in e
-
-        vanish : (a : ℕ) → a ≡ a * 2 → a ≤ 0
-        vanish a e = omega arith
+        same-column : covariance P (λ t j. scaled (exponentsOf P n x) x t i) i i ≡ covariance P (scaled (exponentsOf P n x) x) i i
+        same-column = unfold covariance gram deviation mean in refl
 
         zeros : mag (largest P x i) ≡ 0 → ⊥
         zeros z =
-            let doubled : (d : Float) → Range returnGrain (2 ^ returnLeast) (2 ^ returnMost) d → mag d ≡ 0 → Moved 1 returnGrain returnLeast returnMost d d = λ d q w. record { range = q; copy = sym (shift-null (pos 1) d (q .fit) (q .finite) w) } in
-            let s : Scaling 1 returnGrain returnLeast returnMost (largest P x i) (largest P x i) = scaling (doubled A A-range z) (lit≤ tt) (lit≤ tt) (lit≤ tt) (lit≤ tt) (lit≤ tt) (lit≤ tt) (lit≤ tt) in
-            let one-still : s .still ≡ 1 = alone (s .still) (binaryExponent A) (s .few) (s .exponent) in
-            let null : (t : ℕ) → t < P → mag (x t i) ≡ 0 = λ t l. le-antisymm (le-trans (largest-above r t i l a) (le-of-eq z)) zero-le in
             let w : Matrix = λ t j. scaled (exponentsOf P n x) x t i in
-            let R : Returns 1 n P unitGrain unitGrain 1075 w w = entries-as r (λ t j l b. rw (entry-is t i l a) (subst (λ (c : ℕ). Moved c unitGrain unitGrain 1075 (pow2Scaled (x t i) (negℤ (binaryExponent (largest P x i)))) (pow2Scaled (x t i) (negℤ (binaryExponent (largest P x i))))) one-still
-            (s .moved (doubled (x t i) (r .entries t i l a .range) (null t l)) (largest-above r t i l a)))) in
-            let e : covariance P w i i ≡ shift (pos 2) (covariance P w i i) = covariance-moved R 878 (lit≤ tt) (lit≤ tt) 682 (lit≤ tt) 618 (lit≤ tt) 1102 (lit≤ tt) (lit≤ tt) i i a a .copy in
-            let f : covariance P u i i ≡ shift (pos 2) (covariance P u i i) = same-column e in
-            let g : sqrt (Σ n m i i) ≡ shift (pos 1) (sqrt (Σ n m i i)) = ap sqrt (variance-is i a ∙ f ∙ ap (shift (pos 2)) (sym (variance-is i a))) ∙ sqrt-shift (Σ n m i i) (pos 1) in
-            let d : mag (sqrt (Σ n m i i)) ≡ mag (sqrt (Σ n m i i)) * 2 = ap mag g ∙ mag-shift 1 (sqrt (Σ n m i i)) (v-range i a .fit) (v-range i a .finite) in
-            lt-irrefl 0 (lt-of-lt-of-le v-above (vanish (mag (sqrt (Σ n m i i))) d))
+            let zero-entry : (t : ℕ) → t < P → Bounded zeroBounds (scaled (exponentsOf P n x) x t i) = λ t l.
+            let q = r .entries t i l a .range in
+            let e = le-antisymm (le-trans (largest-above r t i l a) (le-of-eq z)) zero-le in
+            rw (entry-is t i l a, zero-scaled (x t i) (negℤ (binaryExponent (largest P x i))) (q .fit) (q .finite) e) (range-null (x t i) (q .fit) (q .finite) e (zeroBounds .grain) (2 ^ zeroBounds .least) (2 ^ zeroBounds .most)) in
+            let R : Returns 0 n P zeroBounds w w = entries-as r (λ t j l b. still zeroBounds (zero-entry t l)) in
+            let u : Moved 0 (covarianceOf zeroBounds) (Σ n m i i) (Σ n m i i) = rw (variance-is i a, ← same-column) (covariance-moved R (lit≤ tt, lit≤ tt, lit≤ tt, lit≤ tt) i i a a) in
+            let v = moved-sqrt {k = 0} u (sign-not-below (Σ n m i i) (variance-plus i a)) .range in
+            lt-irrefl 0 (subst (λ (k : ℕ). 0 < k) (only-zero (rootOf (covarianceOf zeroBounds)) (lit< tt) v) v-above)
 
     pub grows : exponentsOf P n y i ≡ exponentsOf P n x i +ℤ pos k
     grows = exponent-at P n y i a ∙ ap binaryExponent (largest-moved r i a .copy) ∙ exponent-shift (pos k) A (A-range .finite) not-zero ∙ ap (λ (e : ℤ). e +ℤ pos k) (sym (exponent-at P n x i a))
 
-    pub exponent-small : (over (exponentsOf P n x i) ≤ returnRange) × (under (exponentsOf P n x i) ≤ suc returnRange)
+    pub exponent-small : (over (exponentsOf P n x i) ≤ exponentAbove returnBounds) × (under (exponentsOf P n x i) ≤ exponentBelow returnBounds)
     exponent-small = rw (exponent-at P n x i a) (column small r i a .small)
 
-    -- at least 2 ^ -34: the tolerance of a column whose largest is at least 1
-    v-least : 2 ^ 1040 ≤ mag (sqrt (Σ n (found P n x) i i))
+    -- at least the tolerance of a column whose largest is at least 1
+    v-least : 2 ^ tenBillionthBounds .least ≤ mag (sqrt (Σ n (found P n x) i i))
     v-least =
         let t = 1e-10 ⊗ sizeOf P n x i in
-        let one : 2 ^ 1074 ≤ mag (sizeOf P n x i) = rw (exponent-at P n x i a) (scaled-least returnLeast returnMost A A-range not-zero (lit≤ tt) (lit≤ tt) (lit≤ tt)) in
-        let least : 2 ^ 1040 ≤ mag t = rw (product-is 1e-10 (sizeOf P n x i) (tenth-moved .range .fit) (size-range .fit) (tolerance-range .finite))
-        (near-least (mag 1e-10 * mag (sizeOf P n x i)) U (2 ^ 1040) U-pos (held-pow 1040) (le-trans (le-of-eq (ap (λ (z : ℕ). 2 ^ 1040 * z) U-is)) (mul-le-mul (tenth-moved .range .least tenth-above) one))) in
+        let one : 2 ^ oneBits ≤ mag (sizeOf P n x i) = rw (exponent-at P n x i a) (scaled-least returnBounds A A-range not-zero returns-scalable) in
+        let least : 2 ^ tenBillionthBounds .least ≤ mag t = rw (product-is 1e-10 (sizeOf P n x i) (ten-billionth-moved .range .fit) (size-range .fit) (tolerance-range .finite))
+        (near-least (mag 1e-10 * mag (sizeOf P n x i)) U (2 ^ tenBillionthBounds .least) U-pos (held-pow (tenBillionthBounds .least)) (le-trans (le-of-eq (ap (λ (z : ℕ). 2 ^ tenBillionthBounds .least * z) U-is)) (mul-le-mul (ten-billionth-moved .range .least ten-billionth-above) one))) in
         le-of-lt (lt-of-le-of-lt least (le-no (sqrt (Σ n m i i)) t (plus-val (sqrt (Σ n m i i)) (v-range i a .fit) (v-range i a .finite) (sign-sqrt (Σ n m i i) (variance-plus i a))) (plus-val t (tolerance-range .fit) (tolerance-range .finite) (sign-mul 1e-10 (sizeOf P n x i) (unfold sign ofBits in sym size-plus))) h))
 
-    pub v-moved : Moved 0 988 1040 1094 (sqrt (Σ n (found P n x) i i)) (sqrt (Σ n (found P n x) i i))
-    v-moved = still 1040 1094 (range-size 988 (2 ^ 1094) (sqrt (Σ n m i i)) (v-range i a .fit) (v-range i a .finite) (inr v-least) (v-range i a .most))
+    pub v-moved : Moved 0 steadyVolatilityBounds (sqrt (Σ n (found P n x) i i)) (sqrt (Σ n (found P n x) i i))
+    v-moved = still steadyVolatilityBounds (range-size (steadyVolatilityBounds .least) (2 ^ steadyVolatilityBounds .most) (sqrt (Σ n m i i)) (lit≤ tt) (v-range i a .fit) (v-range i a .finite) (inr v-least) (v-range i a .most))
 
     -- its inverse, and the mean over it
-    inverse-range : Range 1002 (2 ^ 1054) (2 ^ 1108) (one ⊘ sqrt (Σ n (found P n x) i i))
-    inverse-range = moved-over one-moved v-moved v-above 1002 1108 (lit≤ tt) (lit≤ tt) (lit≤ tt) .range
+    inverse-range : Bounded inverseBounds (one ⊘ sqrt (Σ n (found P n x) i i))
+    inverse-range = moved-over one-moved v-moved v-above (lit≤ tt) (lit≤ tt) .range
 
     inverse-above : 0 < mag (one ⊘ sqrt (Σ n (found P n x) i i))
     inverse-above = rw (quotient-is one (sqrt (Σ n m i i)) (one-moved .range .fit) (v-range i a .fit) (v-range i a .finite) v-above (inverse-range .finite))
-        (lt-of-lt-of-le (pow-pos 1054) (near-least (mag one * U) (mag (sqrt (Σ n m i i))) (2 ^ 1054) v-above (held-pow 1054)
-        (le-trans (mul-le-mul-left (2 ^ 1054) (v-range i a .most)) (le-trans powers (mul-le-mul-right U one-least)))))
+        (lt-of-lt-of-le (pow-pos (inverseBounds .least)) (near-least (mag one * U) (mag (sqrt (Σ n m i i))) (2 ^ inverseBounds .least) v-above (held-pow (inverseBounds .least))
+        (le-trans (mul-le-mul-left (2 ^ inverseBounds .least) (v-range i a .most)) (le-trans powers (mul-le-mul-right U one-least)))))
       where
-        one-least : 2 ^ 1074 ≤ mag one
+        one-least : 2 ^ oneBits ≤ mag one
         one-least = unfold mag U in lit≤ tt
 
-        powers : 2 ^ 1054 * 2 ^ 1094 ≤ 2 ^ 1074 * U
+        powers : 2 ^ inverseBounds .least * 2 ^ unitVolatilityBounds .most ≤ 2 ^ oneBits * U
         powers = unfold U in lit≤ tt
 
     pub inverse-some : eq (one ⊘ sqrt (Σ n (found P n x) i i)) zero⁺ ≡ false
     inverse-some = eq-zero (one ⊘ sqrt (Σ n m i i)) (inverse-range .fit) (inverse-range .finite) ∙ ne-eqb (mag (one ⊘ sqrt (Σ n m i i))) 0 (λ e. lt-irrefl 0 (subst (λ (n : ℕ). 0 < n) e inverse-above))
 
-    pub inverse-exponent : (over (binaryExponent (one ⊘ sqrt (Σ n (found P n x) i i))) ≤ 34) × (under (binaryExponent (one ⊘ sqrt (Σ n (found P n x) i i))) ≤ 21)
-    inverse-exponent = exponent-within 1054 1108 (one ⊘ sqrt (Σ n m i i)) inverse-range inverse-above (lit≤ tt) (lit≤ tt)
+    pub inverse-exponent : (over (binaryExponent (one ⊘ sqrt (Σ n (found P n x) i i))) ≤ exponentAbove inverseBounds) × (under (binaryExponent (one ⊘ sqrt (Σ n (found P n x) i i))) ≤ exponentBelow inverseBounds)
+    inverse-exponent = exponent-within inverseBounds (one ⊘ sqrt (Σ n m i i)) inverse-range inverse-above (lit≤ tt) (lit≤ tt)
 
-    pub share-range : Range 858 (2 ^ 910) (2 ^ 1121) (nth (found P n x .mean) i ⊘ sqrt (Σ n (found P n x) i i))
-    share-range = moved-over (still 930 1087 (μ-range i a)) v-moved v-above 858 1121 (lit≤ tt) (lit≤ tt) (lit≤ tt) .range
+    pub share-range : Bounded meanShareBounds (nth (found P n x .mean) i ⊘ sqrt (Σ n (found P n x) i i))
+    share-range = moved-over (still unitMeanBounds (μ-range i a)) v-moved v-above (lit≤ tt) (lit≤ tt) .range
 
-    pub share-exponent : (over (binaryExponent (nth (found P n x .mean) i ⊘ sqrt (Σ n (found P n x) i i))) ≤ 47) × (under (binaryExponent (nth (found P n x .mean) i ⊘ sqrt (Σ n (found P n x) i i))) ≤ 165)
+    pub share-exponent : (over (binaryExponent (nth (found P n x .mean) i ⊘ sqrt (Σ n (found P n x) i i))) ≤ exponentAbove meanShareBounds) × (under (binaryExponent (nth (found P n x .mean) i ⊘ sqrt (Σ n (found P n x) i i))) ≤ exponentBelow meanShareBounds)
     share-exponent =
         let z = nth (m .mean) i ⊘ sqrt (Σ n m i i) in
         elim (eq-zero-or-pos (mag z)) [
-          | inr p ↦ exponent-within 910 1121 z share-range p (lit≤ tt) (lit≤ tt)
+          | inr p ↦ exponent-within meanShareBounds z share-range p (lit≤ tt) (lit≤ tt)
           | inl e ↦ (rw (exponent-null z (range-value share-range) e) (unfold over under in (zero-le, zero-le)))
         ]

@@ -12,7 +12,7 @@ use Rattle.leaves.specs.Numbers.{_⊗_, _⊘_, 1e-10, count}
 use Rattle.leaves.specs.Root.{sqrt}
 use Rattle.leaves.proofs.Units.{sign, mag}
 use Rattle.leaves.proofs.Range.{Range, count-pos}
-use Rattle.leaves.proofs.Operations.{Moved, moved-weaken, moved-mul-normal, moved-div, moved-over}
+use Rattle.leaves.proofs.Operations.{Moved, moved-within, moved-mul-normal, moved-div, moved-over}
 use Rattle.leaves.proofs.Signs.{sign-mul, sign-div, sign-sum, sign-count, sign-sqrt, sign-abs, sign-not-below}
 use Rattle.leaves.proofs.SqrtNearest.{moved-sqrt}
 use Rattle.leaves.proofs.Totals.{amax-one}
@@ -22,6 +22,7 @@ use Rattle.estimators.specs.LedoitWolf.{apart, averageCorrelation, constantCorr
 use Rattle.matrix.specs.Limits.{maxSide}
 use Rattle.law.specs.Law.{maxPower}
 use Rattle.law.proofs.Bits.{cellBits, cell-bits}
+use Rattle.law.proofs.Ranges.{volatilityBounds, correlationBounds, averageCorrelationBounds, targetBounds}
 use Rattle.law.proofs.Sizes.{plus-val, le-no}
 use Rattle.law.proofs.Sample.{count-moved, Sampled}
 use Rattle.law.proofs.Matrices.{over-moved}
@@ -43,32 +44,32 @@ above-zero v a p q sv sa h = lt-of-le-of-lt zero-le (le-no (sqrt v) (1e-10 ⊗ a
 
 -- ---- the target
 abbrev pub Targeted : ℕ → Float → Float → Type 0
-Targeted k x x' = Moved k 194 246 1644 x x'
+Targeted k x x' = Moved k targetBounds x x'
 
 module _ (k n : ℕ) (small : k ≤ maxPower) (assets : 0 < n) (few : n ≤ maxSide) (s s' : Matrix) (each : (i j : ℕ) → i < n → j < n → Sampled (k + k) (s i j) (s' i j))
     (plus : (i : ℕ) → i < n → sign (s i i) ≡ false) (above : (i : ℕ) → i < n → 0 < mag (sqrt (s i i))) where
-  volatility-moved : (i : ℕ) → i < n → Moved k 860 912 1133 (sqrt (s i i)) (sqrt (s' i i))
-  volatility-moved i a = moved-sqrt (each i i a a) (sign-not-below (s i i) (plus i a)) 860 1133 (lit≤ tt) (lit≤ tt)
+  volatility-moved : (i : ℕ) → i < n → Moved k volatilityBounds (sqrt (s i i)) (sqrt (s' i i))
+  volatility-moved i a = moved-sqrt (each i i a a) (sign-not-below (s i i) (plus i a))
 
-  correlation-moved : (i j : ℕ) → i < n → j < n → Moved 0 580 632 1516 (s i j ⊘ sqrt (s i i) ⊘ sqrt (s j j)) (s' i j ⊘ sqrt (s' i i) ⊘ sqrt (s' j j))
+  correlation-moved : (i j : ℕ) → i < n → j < n → Moved 0 correlationBounds (s i j ⊘ sqrt (s i i) ⊘ sqrt (s j j)) (s' i j ⊘ sqrt (s' i i) ⊘ sqrt (s' j j))
   correlation-moved i j a b =
-      let once = moved-div {i = k} {j = k} (each i j a b) (volatility-moved i a) (above i a) 639 1354 (lit≤ tt) (lit≤ tt) (omega arith) in
-      moved-div {i = 0} {j = k} (rw (sym (zero-add k)) at once) (volatility-moved j b) (above j b) 580 1516 (lit≤ tt) (lit≤ tt) (lit≤ tt)
+      let once = moved-div {i = k} {j = k} (each i j a b) (volatility-moved i a) (above i a) (lit≤ tt) (omega arith) in
+      moved-div {i = 0} {j = k} (rw (sym (zero-add k)) at once) (volatility-moved j b) (above j b) (lit≤ tt) (lit≤ tt)
 
-  average-moved : 2 ≤ n → Moved 0 518 570 1526 (averageCorrelation n s) (averageCorrelation n s')
+  average-moved : 2 ≤ n → Moved 0 averageCorrelationBounds (averageCorrelation n s) (averageCorrelation n s')
   unfolding averageCorrelation
   average-moved two =
       let pairs : n * (n - 1) ≤ 2 ^ cellBits = cell-bits few (le-trans (sub-le n 1) few) in
       moved-over (over-moved n apart (correlation s) (correlation s') few (lit≤ tt) correlation-moved)
-      (count-moved cellBits (n * (n - 1)) (lit≤ tt) pairs) (count-pos (n * (n - 1)) (mul-pos assets (omega arith)) (le-trans pairs (lit≤ tt))) 518 1526 (lit≤ tt) (lit≤ tt) (lit≤ tt)
+      (count-moved cellBits (n * (n - 1)) (lit≤ tt) pairs) (count-pos (n * (n - 1)) (mul-pos assets (omega arith)) (le-trans pairs (lit≤ tt))) (lit≤ tt) (lit≤ tt)
 
   pub target-moved : (i j : ℕ) → i < n → j < n → Targeted (k + k) (constantCorrelation n s i j) (constantCorrelation n s' i j)
   unfolding constantCorrelation
   target-moved i j a b = go (eqb i j) refl
     where
       go : (c : Bool) → eqb i j ≡ c → Targeted (k + k) (cond c (s i i) (averageCorrelation n s ⊗ volatility s i ⊗ volatility s j)) (cond c (s' i i) (averageCorrelation n s' ⊗ volatility s' i ⊗ volatility s' j))
-      go true e = moved-weaken 194 246 1644 (lit≤ tt) (lit≤ tt) (lit≤ tt) (each i i a a)
+      go true e = moved-within targetBounds tt (each i i a a)
       go false e =
           let q = eqb-false i j e in
-          let once = rw (zero-add k) at (moved-mul-normal (average-moved (omega arith)) (volatility-moved i a) 356 1585 (lit≤ tt) (lit≤ tt) (omega arith)) in
-          moved-mul-normal once (volatility-moved j b) 194 1644 (lit≤ tt) (lit≤ tt) (omega arith)
+          let once = rw (zero-add k) at (moved-mul-normal (average-moved (omega arith)) (volatility-moved i a) (lit≤ tt) (omega arith)) in
+          moved-mul-normal once (volatility-moved j b) (lit≤ tt) (omega arith)

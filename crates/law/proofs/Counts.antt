@@ -12,7 +12,8 @@ use Rattle.matrix.specs.Matrix.{Matrix, at, divided, amax, allFinite}
 use Rattle.matrix.specs.Rotation.{State}
 use Rattle.matrix.specs.Jacobi.{Decomposition, Test, test, converged, stops, isConverged, afterSweeps, stopping, sweeping, start, tolerance, initial, swept, scaledBack, decompose, unturned}
 use Rattle.matrix.proofs.Alike.{decompose-is}
-use Rattle.matrix.proofs.Sweeps.{sweeping-is, sweeps-bound, rotations-bound}
+use Rattle.matrix.proofs.Sweeps.{sweeping-is, sweeps-bound}
+use Rattle.matrix.proofs.Rotations.{rotations-bound}
 use Rattle.estimators.specs.Given.{decomposeGiven}
 use Rattle.estimators.specs.JamesStein.{decomposeUneven}
 use Rattle.estimators.specs.Adjusted.{isGiven, decompositionOf}

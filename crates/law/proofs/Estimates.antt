@@ -17,6 +17,7 @@ use Rattle.leaves.specs.Shift.{shift}
 use Rattle.leaves.proofs.Loops.{first-ext}
 use Rattle.leaves.proofs.Shift.{isFinite-shift, eq-shift, shift-zero⁺}
 use Rattle.leaves.proofs.Zero.{no}
+use Rattle.leaves.proofs.Operations.{moved-within}
 use Rattle.matrix.specs.Matrix.{Matrix, at}
 use Rattle.estimators.specs.Refusals.{passes, when, whenSome}
 use Rattle.estimators.specs.Sample.{covariance, largest, constantAsset}
@@ -31,7 +32,7 @@ use Rattle.estimators.specs.declared.Regularization.{Regularization}
 use Rattle.estimators.specs.declared.Field.the-variants.{HalfLifeField, ThresholdField}
 use Rattle.estimators.specs.declared.Refusal.the-variants.{BadSetting, ZeroVariance}
 use Rattle.law.specs.Law.{All, Sized, EstimateInRange, CopiedEstimate, sample, given, weighted, semi, semiBelow, maxPower, returnRange, covarianceRange}
-use Rattle.law.proofs.Bits.{returnGrain, returnLeast, returnMost}
+use Rattle.law.proofs.Ranges.{returnBounds, estimateBounds}
 use Rattle.law.proofs.Numbers.{copy-shift}
 use Rattle.law.proofs.Chain.{Chain, ends, pass-must}
 use Rattle.law.proofs.Sizes.{sized-fits}
@@ -39,7 +40,7 @@ use Rattle.law.proofs.Sample.{Returns, constant-same}
 use Rattle.law.proofs.Opening.{Shape, returns, sample-moved, semi-moved, semiBelow-moved}
 use Rattle.law.proofs.Weighted as Weighted
 use Rattle.law.proofs.Given.{average, average-moved, decomposition-same, given-chain}
-use Rattle.law.proofs.Shrinkage.{Estimated, estimated}
+use Rattle.law.proofs.Shrinkage.{Estimated}
 
 pub record Based (k n P side : ℕ) (E E' : Estimate) (x y G G' : Matrix) : Type 0 where
   pub bad : badEstimate E' ≡ badEstimate E
@@ -56,20 +57,20 @@ module _ (k : ℕ) (small : k ≤ maxPower) (r : List Float) (sizes : All (Sized
   abbrev y : Matrix
   y = at (map (shift (pos k)) r) n
 
-  abbrev R : Returns k n P returnGrain returnLeast returnMost (at r n) (at (map (shift (pos k)) r) n)
+  abbrev R : Returns k n P returnBounds (at r n) (at (map (shift (pos k)) r) n)
   R = returns k small r sizes n P s
 
   -- 9, of a variance from the returns
   varies : (b b' : Matrix) → ((i : ℕ) → i < n → b' i i ≡ shift (pos (k + k)) (b i i)) → whenSome (constantAsset n b' (largest P y)) ZeroVariance ≡ whenSome (constantAsset n b (largest P x)) ZeroVariance
-  varies b b' e = ap (λ (o : Option ℕ). whenSome o ZeroVariance) (constant-same R (lit≤ tt) (lit≤ tt) (omega arith) b b' e)
+  varies b b' e = ap (λ (o : Option ℕ). whenSome o ZeroVariance) (constant-same R (lit≤ tt) (omega arith) b b' e)
 
   from-sample : Based k n P side Sample Sample (at r n) (at (map (shift (pos k)) r) n) G G'
   unfolding badEstimate base noVariance
-  from-sample = record { bad = refl; sample = refl; given = refl; entries = λ e e' i j a b. estimated (lit≤ tt) (lit≤ tt) (lit≤ tt) (sample-moved k small r sizes n P s i j a b); variance = varies; sampled = λ e i j. (refl, refl) }
+  from-sample = record { bad = refl; sample = refl; given = refl; entries = λ e e' i j a b. moved-within estimateBounds tt (sample-moved k small r sizes n P s i j a b); variance = varies; sampled = λ e i j. (refl, refl) }
 
   from-semi : Based k n P side Semi Semi (at r n) (at (map (shift (pos k)) r) n) G G'
   unfolding badEstimate base noVariance
-  from-semi = record { bad = refl; sample = refl; given = refl; entries = λ e e' i j a b. estimated (lit≤ tt) (lit≤ tt) (lit≤ tt) (semi-moved k small r sizes n P s i j a b); variance = varies; sampled = λ e. no e refl }
+  from-semi = record { bad = refl; sample = refl; given = refl; entries = λ e e' i j a b. moved-within estimateBounds tt (semi-moved k small r sizes n P s i j a b); variance = varies; sampled = λ e. no e refl }
 
   from-threshold : (θ θ' : Float) → Sized returnRange θ → θ' ≡ shift (pos k) θ → Based k n P side (SemiBelow θ) (SemiBelow θ') (at r n) (at (map (shift (pos k)) r) n) G G'
   unfolding badEstimate base noVariance
@@ -77,7 +78,7 @@ module _ (k : ℕ) (small : k ≤ maxPower) (r : List Float) (sizes : All (Sized
     bad = ap (λ (b : Bool). when (not b) (BadSetting ThresholdField)) (ap isFinite e ∙ isFinite-shift (pos k) θ);
     sample = refl;
     given = refl;
-    entries = λ q q' i j a b. estimated (lit≤ tt) (lit≤ tt) (lit≤ tt) (semiBelow-moved k small r sizes n P θ θ' z e s i j a b);
+    entries = λ q q' i j a b. moved-within estimateBounds tt (semiBelow-moved k small r sizes n P θ θ' z e s i j a b);
     variance = varies;
     sampled = λ e. no e refl;
   }
@@ -96,7 +97,7 @@ module _ (k : ℕ) (small : k ≤ maxPower) (n P side : ℕ) (x y : Matrix) (g :
     given = refl;
     entries = λ q q' i j a b.
         let e : side ≡ n = eqb-true side n (not-false (eqb side n) q') in
-        estimated (lit≤ tt) (lit≤ tt) (lit≤ tt) (average-moved (k + k) (omega arith) side 0 g sizes full i j (lt-of-lt-of-le a (le-of-eq (sym e))) (lt-of-lt-of-le b (le-of-eq (sym e))));
+        moved-within estimateBounds tt (average-moved (k + k) (omega arith) side 0 g sizes full i j (lt-of-lt-of-le a (le-of-eq (sym e))) (lt-of-lt-of-le b (le-of-eq (sym e))));
     variance = λ b b' e. ap (λ (o : Option ℕ). whenSome o ZeroVariance) (first-ext n (λ i. eq (b' i i) zero⁺) (λ i. eq (b i i) zero⁺) (λ i l. ap₂ eq (e i l) (sym (shift-zero⁺ (pos (k + k)))) ∙ eq-shift (pos (k + k)) (b i i) zero⁺));
     sampled = λ e. no e refl;
   }

@@ -21,12 +21,14 @@ use Rattle.leaves.specs.Shift.{shift}
 use Rattle.leaves.specs.Exp.{minArgument, ln2, H, L, floor, horner, nearestPower, reduced, exp, expM1}
 use Rattle.leaves.proofs.Whole.{le-or-lt, over, under, over-neg, under-neg}
 use Rattle.leaves.proofs.Rounding.{near, Held, Near, near-most, near-least, near-error, near-held, held-times}
-use Rattle.leaves.proofs.Units.{U, U-pos, Top, Val, sign, mag, val-of, val-mag, val-finite, mag-shift, zero-val, neg-val, rounded, rounded-val, lt-val, eq-val, one-val}
+use Rattle.leaves.proofs.Units.{topBits, U, U-pos, Top, Val, sign, mag, val-of, val-mag, val-finite, mag-shift, zero-val, neg-val, rounded, rounded-val, lt-val, eq-val, one-val}
 use Rattle.leaves.proofs.Arithmetic.{sumSign, total, total-le, add-rounded, mul-rounded, div-rounded}
+use Rattle.leaves.proofs.Bounds.{Bounds, Bounded}
 use Rattle.leaves.proofs.Range.{Range, count-val, range-size, range-finer, range-weaken}
 use Rattle.leaves.proofs.Shift.{shift-forth}
 use Rattle.leaves.proofs.Signs.{sign-shift}
 use Rattle.leaves.proofs.PowersOfTwo.{range-move, scaled-moves}
+use Rattle.law.proofs.Ranges.{hornerBounds, weightPower, weightBounds}
 use Rattle.law.proofs.Sizes.{plus-val}
 
 -- ---- 1/32
@@ -40,6 +42,13 @@ U-W = refl
 pub W-pos : 0 < W
 unfolding W
 W-pos = pow-pos 1069
+
+-- the largest arguments, in W: 48 of a weight, which bounds 64 half-lives, and twice that of the denominator
+abbrev pub ageMost : ℕ
+ageMost = 48 * 32
+
+abbrev pub argumentMost : ℕ
+argumentMost = 2 * ageMost
 
 held-W : (c : ℕ) → c < 2 ^ 53 → Held (c * W)
 unfolding W
@@ -169,16 +178,10 @@ W-large = lit≤ tt
 -- ---- the power: K is the whole number nearest to Y / ln 2, for y = -Y
 -- one rounding's error, cruder: 1 / 100000 and half a unit
 pub near-above : (g n d : ℕ) → Near g n d → 100000 * (g * d) ≤ 100001 * n + 50000 * d
-near-above g n d e = go (g * d) n d (e .above)
-  where
-    go : (a n d : ℕ) → a * 9007199254740992 ≤ n * 9007199254740992 + n + d * 4503599627370496 → 100000 * a ≤ 100001 * n + 50000 * d
-    go a n d h = le-of-mul-le-mul-right {k = 9007199254740992} (omega arith) (lit< tt)
+near-above g n d e = let a = e .above in le-of-mul-le-mul-right {k = 2 ^ 53} (omega arith) (lit< tt)
 
 near-below : (g n d : ℕ) → Near g n d → 99999 * n ≤ 100000 * (g * d) + 50000 * d
-near-below g n d e = go (g * d) n d (e .below)
-  where
-    go : (a n d : ℕ) → n * 9007199254740992 ≤ a * 9007199254740992 + n + d * 4503599627370496 → 99999 * n ≤ 100000 * a + 50000 * d
-    go a n d h = le-of-mul-le-mul-right {k = 9007199254740992} (omega arith) (lit< tt)
+near-below g n d e = let b = e .below in le-of-mul-le-mul-right {k = 2 ^ 53} (omega arith) (lit< tt)
 
 cancel-above : (Y Z n u : ℕ) → 0 < u → 69314 * u ≤ 100000 * n → 100000 * n ≤ 69315 * u → 100000 * (Z * n) ≤ 100001 * (Y * u) + 50000 * n → 69314 * Z ≤ 100001 * Y + 50000
 cancel-above Y Z n u p a b f = le-of-mul-le-mul-right {k = u} (let g = mul-le-mul-right Z a in omega arith) p
@@ -213,13 +216,13 @@ record Power (y : Float) (Y : ℕ) : Type 0 where
   pub K : ℕ
   pub is : nearestPower y ≡ negℤ (pos K)
   pub few : K ≤ 140
-  pub near : Y ≤ 48 * (32 * W) → K ≤ 70
+  pub near : Y ≤ ageMost * W → K ≤ weightPower
   pub above : K * NH ≤ Y + 12 * W
   pub below : Y ≤ K * NH + 12 * W
   pub none : Y ≤ 8 * W → K ≡ 0
   pub some : 16 * W < Y → 0 < K
 
-module _ (y : Float) (Y : ℕ) (v : Val y true Y) (few : Y ≤ 96 * (32 * W)) where
+module _ (y : Float) (Y : ℕ) (v : Val y true Y) (few : Y ≤ argumentMost * W) where
   Z : ℕ
   Z = near (Y * U) N
 
@@ -239,7 +242,7 @@ module _ (y : Float) (Y : ℕ) (v : Val y true Y) (few : Y ≤ 96 * (32 * W)) wh
   quotient = div-most 8192 (lit≤ tt) y ln2 true false Y N v ln2-val N-pos
       (let n = N-is .0 in let w = U-W in le-trans (mul-le-mul-right U few) (turn N U W n)) .0
     where
-      turn : (N U W : ℕ) → 69314 * U ≤ 100000 * N → 96 * (32 * W) * U ≤ 8192 * W * N
+      turn : (N U W : ℕ) → 69314 * U ≤ 100000 * N → argumentMost * W * U ≤ 8192 * W * N
       turn N U W h = let f = mul-le-mul-right W h in omega arith
 
   -- at most 1/2 below zero
@@ -256,17 +259,12 @@ module _ (y : Float) (Y : ℕ) (v : Val y true Y) (few : Y ≤ 96 * (32 * W)) wh
     some = λ q. absurd (omega (arith, Z-below, W-large));
   }
     where
-      pick : (b : Bool) → (b ≡ true) ⊎ (b ≡ false)
-      pick true = inl refl
-      pick false = inr refl
+      plus : (b : Bool) → cond b false (true && ltb (16 * W) Z) ≡ false
+      plus true = refl
+      plus false = le-ltb (16 * W) Z h
 
       sum : Val (y ⊘ ln2 ⊕ half) false (near (16 * W - Z) 1)
-      sum =
-          let q = add-most 16 (lit≤ tt) (y ⊘ ln2) half true false Z (16 * W) quotient half-val (omega arith) in
-          subst₂ (λ (s : Bool) (n : ℕ). Val (y ⊘ ln2 ⊕ half) s (near n 1)) (elim (pick (ltb Z (16 * W))) [
-            | inl e ↦ rw e
-            | inr e ↦ rw (e, le-ltb (16 * W) Z h)
-          ]) (omega arith) (q .0)
+      sum = subst₂ (λ (s : Bool) (n : ℕ). Val (y ⊘ ln2 ⊕ half) s (near n 1)) (plus (ltb Z (16 * W))) (omega arith) (add-most 16 (lit≤ tt) (y ⊘ ln2) half true false Z (16 * W) quotient half-val (omega arith) .0)
 
       go : (x : Float) {S : ℕ} → Val x false S → S ≤ 16 * W → floor x ≡ negℤ (pos 0)
       go nan v l = absurd v
@@ -305,7 +303,7 @@ module _ (y : Float) (Y : ℕ) (v : Val y true Y) (few : Y ≤ 96 * (32 * W)) wh
       turns : (Y Z S D q u w : ℕ) → u ≡ 32 * w → 10000000 ≤ w → Z ≡ D + 16 * w → 69314 * Z ≤ 100001 * Y + 50000 → 100000 * (S * 1) ≤ 100001 * D + 50000 * 1 → q < S + u → 100 * q ≤ 145 * Y + 52 * u
       turns Y Z S D q u w e large z a f m = omega arith
 
-      bounds : (Y Z S D K u w nh : ℕ) → u ≡ 32 * w → 10000000 ≤ w → Z ≡ D + 16 * w → 16 * w < Z → Y ≤ 96 * (32 * w) → 69314 * Z ≤ 100001 * Y + 50000 → 99999 * Y ≤ 69315 * Z + 50000
+      bounds : (Y Z S D K u w nh : ℕ) → u ≡ 32 * w → 10000000 ≤ w → Z ≡ D + 16 * w → 16 * w < Z → Y ≤ argumentMost * w → 69314 * Z ≤ 100001 * Y + 50000 → 99999 * Y ≤ 69315 * Z + 50000
           → 100000 * (S * 1) ≤ 100001 * D + 50000 * 1 → 99999 * D ≤ 100000 * (S * 1) + 50000 * 1 → S ≤ K * u → K * u < S + u → K * (69314 * u) ≤ K * (100000 * nh) → K * (100000 * nh) ≤ K * (69315 * u)
           → (K ≤ 140) × (K * nh ≤ Y + 12 * w) × (Y ≤ K * nh + 12 * w) × (0 < K)
       bounds Y Z S D K u w nh e large z far few a b f g l m i j = (
@@ -315,10 +313,10 @@ module _ (y : Float) (Y : ℕ) (v : Val y true Y) (few : Y ≤ 96 * (32 * W)) wh
         first-pos K u (lt-of-lt-of-le (omega arith) l),
       )
         where
-          upper : (Y Z S D q k u w : ℕ) → u ≡ 32 * w → 10000000 ≤ w → Z ≡ D + 16 * w → Y ≤ 96 * (32 * w) → 69314 * Z ≤ 100001 * Y + 50000 → 100000 * (S * 1) ≤ 100001 * D + 50000 * 1 → q < S + u → 100000 * k ≤ 69315 * q → k ≤ Y + 12 * w
+          upper : (Y Z S D q k u w : ℕ) → u ≡ 32 * w → 10000000 ≤ w → Z ≡ D + 16 * w → Y ≤ argumentMost * w → 69314 * Z ≤ 100001 * Y + 50000 → 100000 * (S * 1) ≤ 100001 * D + 50000 * 1 → q < S + u → 100000 * k ≤ 69315 * q → k ≤ Y + 12 * w
           upper Y Z S D q k u w e large z few a f m j = omega arith
 
-          lower : (Y Z S D q k u w : ℕ) → u ≡ 32 * w → 10000000 ≤ w → Z ≡ D + 16 * w → Y ≤ 96 * (32 * w) → 99999 * Y ≤ 69315 * Z + 50000 → 99999 * D ≤ 100000 * (S * 1) + 50000 * 1 → S ≤ q → 69314 * q ≤ 100000 * k → Y ≤ k + 12 * w
+          lower : (Y Z S D q k u w : ℕ) → u ≡ 32 * w → 10000000 ≤ w → Z ≡ D + 16 * w → Y ≤ argumentMost * w → 99999 * Y ≤ 69315 * Z + 50000 → 99999 * D ≤ 100000 * (S * 1) + 50000 * 1 → S ≤ q → 69314 * q ≤ 100000 * k → Y ≤ k + 12 * w
           lower Y Z S D q k u w e large z few b g l i = omega arith
 
   power : Power y Y
@@ -367,9 +365,9 @@ reduced-val y Y v p =
         let q = add-most 12 (lit≤ tt) y x true false Y (p .K * NH) v w' (omega (arith, p .above, p .below)) in
         (sumSign true Y false (p .K * NH), near (Y - p .K * NH + (p .K * NH - Y)) 1, q .0, q .1)
 
--- a weight's range: from 2 ^ -72 to 2
+-- the bounds of a weight
 abbrev pub Weight : Float → Type 0
-Weight w = Range 950 (2 ^ 1002) (2 ^ 1075) w
+Weight w = Bounded weightBounds w
 
 -- ---- exp y, for y = -Y from -96 to 0: P / 2 ^ K with P from 5/16 to 27/16
 pub record Exp (y : Float) (Y : ℕ) : Type 0 where
@@ -381,7 +379,7 @@ pub record Exp (y : Float) (Y : ℕ) : Type 0 where
   pub most : P ≤ 54 * W
   pub fit : T (fits binary64 (exp y))
   pub finite : T (isFinite (exp y))
-  pub range : Y ≤ 48 * (32 * W) → Weight (exp y)
+  pub range : Y ≤ ageMost * W → Weight (exp y)
   pub plus : sign (exp y) ≡ false
   pub is : mag (exp y) * 2 ^ K ≡ P
 
@@ -402,39 +400,42 @@ one-fits = tt
 
 -- p over 2 ^ K
 module _ (K : ℕ) (few : K ≤ 140) (p : Float) (P : ℕ) (fit : T (fits binary64 p)) (v : Val p false P) (least : 10 * W ≤ P) (most : P ≤ 54 * W) where
-  p-range : Range 1020 (2 ^ 1072) (2 ^ 1075) p
+  abbrev h : Bounds
+  h = hornerBounds
+
+  p-range : Bounded hornerBounds p
   p-range =
       let m = val-mag p false P v .1 in
-      let lo : 2 ^ 1072 ≤ 10 * W = unfold W in lit≤ tt in
-      let hi : 54 * W ≤ 2 ^ 1075 = unfold W in lit≤ tt in
-      range-size 1020 (2 ^ 1075) p fit (val-finite p false P v) (inr (rw m (le-trans lo least))) (rw m (le-trans most hi))
+      let lo : 2 ^ h .least ≤ 10 * W = unfold W in lit≤ tt in
+      let hi : 54 * W ≤ 2 ^ h .most = unfold W in lit≤ tt in
+      range-size (h .least) (2 ^ h .most) p (lit≤ tt) fit (val-finite p false P v) (inr (rw m (le-trans lo least))) (rw m (le-trans most hi))
 
-  low : under (negℤ (pos K)) ≤ 1020 + over (negℤ (pos K))
+  low : under (negℤ (pos K)) ≤ h .grain + over (negℤ (pos K))
   unfolding over under
   low = omega (arith, over-neg (pos K), under-neg (pos K))
 
-  high : 1075 + over (negℤ (pos K)) ≤ 2097 + under (negℤ (pos K))
+  high : h .most + over (negℤ (pos K)) ≤ topBits + under (negℤ (pos K))
   unfolding over under
   high = omega (arith, over-neg (pos K), under-neg (pos K))
 
   lowered : pow2Scaled p (negℤ (pos K)) ≡ shift (negℤ (pos K)) p
-  lowered = scaled-moves 1075 p p-range (negℤ (pos K)) low high
+  lowered = scaled-moves (h .most) p p-range (negℤ (pos K)) low high
 
-  lowered-range : Range (1020 - K) (2 ^ (1072 - K)) (2 ^ 1075) (shift (negℤ (pos K)) p)
+  lowered-range : Range (h .grain - K) (2 ^ (h .least - K)) (2 ^ h .most) (shift (negℤ (pos K)) p)
   unfolding over under
   lowered-range =
       let o : over (negℤ (pos K)) ≡ 0 = over-neg (pos K) in
       let u : under (negℤ (pos K)) ≡ K = under-neg (pos K) in
-      range-move 1075 p p-range (negℤ (pos K)) low high (1020 - K) (2 ^ (1072 - K)) (2 ^ 1075) (omega arith)
-      (le-trans (le-of-eq (sym (pow-add 2 (1072 - K) (under (negℤ (pos K)))))) (le-trans (pow-mono (omega arith)) (le-of-eq (pow-add 2 1072 (over (negℤ (pos K)))))))
-      (le-trans (le-of-eq (sym (pow-add 2 1075 (over (negℤ (pos K)))))) (le-trans (pow-mono (omega arith)) (le-of-eq (pow-add 2 1075 (under (negℤ (pos K)))))))
+      range-move (h .most) p p-range (negℤ (pos K)) low high (h .grain - K) (2 ^ (h .least - K)) (2 ^ h .most) (omega arith)
+      (le-trans (le-of-eq (sym (pow-add 2 (h .least - K) (under (negℤ (pos K)))))) (le-trans (pow-mono (omega arith)) (le-of-eq (pow-add 2 (h .least) (over (negℤ (pos K)))))))
+      (le-trans (le-of-eq (sym (pow-add 2 (h .most) (over (negℤ (pos K)))))) (le-trans (pow-mono (omega arith)) (le-of-eq (pow-add 2 (h .most) (under (negℤ (pos K)))))))
 
   lowered-is : mag (shift (negℤ (pos K)) p) * 2 ^ K ≡ P
   lowered-is =
       let r = lowered-range in
       sym (mag-shift K (shift (negℤ (pos K)) p) (r .fit) (r .finite)) ∙ ap mag (shift-forth (pos K) p) ∙ val-mag p false P v .1
 
-module _ (y : Float) (Y : ℕ) (v : Val y true Y) (few : Y ≤ 96 * (32 * W)) where
+module _ (y : Float) (Y : ℕ) (v : Val y true Y) (few : Y ≤ argumentMost * W) where
   -- 746 and more are not reached, and y is not above 0
   not-less : lt y minArgument ≡ false
   not-less = lt-val y minArgument true true Y (746 * U) v (unfold U in (refl, refl)) ∙ le-ltb (746 * U) Y (rw U-W (omega arith))
@@ -467,7 +468,7 @@ module _ (y : Float) (Y : ℕ) (v : Val y true Y) (few : Y ≤ 96 * (32 * W)) wh
         most = h .3;
         fit = subst (λ (z : Float). T (fits binary64 z)) (sym e) (R .fit);
         finite = subst (λ (z : Float). T (isFinite z)) (sym e) (R .finite);
-        range = λ l. subst Weight (sym e) (let n = w .near l in range-finer 950 (omega arith) (range-weaken (2 ^ 1002) (2 ^ 1075) (pow-mono {i = 1002} {j = 1072 - K} (omega arith)) (le-refl (2 ^ 1075)) R));
+        range = λ l. subst Weight (sym e) (let n = w .near l in range-finer (weightBounds .grain) (omega arith) (range-weaken (2 ^ weightBounds .least) (2 ^ weightBounds .most) (pow-mono {i = weightBounds .least} {j = hornerBounds .least - K} (omega arith)) (le-refl (2 ^ weightBounds .most)) R));
         plus = ap sign e ∙ sign-shift (negℤ (pos K)) p ∙ val-mag p false (h .0) (h .1) .0;
         is = ap (λ (z : Float). mag z * 2 ^ K) e ∙ lowered-is K (w .few) p (h .0) fit (h .1) (h .2) (h .3);
       }
@@ -493,7 +494,7 @@ pub record ExpM1 (y : Float) (Y : ℕ) : Type 0 where
   pub near-zero : Y ≤ 16 * W → (Y ≤ 16 * E) × (E ≤ 3 * Y)
   pub far : 16 * W < Y → (5 * W ≤ E) × (E ≤ 32 * W)
 
-module _ (y : Float) (Y : ℕ) (v : Val y true Y) (some : 0 < Y) (few : Y ≤ 96 * (32 * W)) where
+module _ (y : Float) (Y : ℕ) (v : Val y true Y) (some : 0 < Y) (few : Y ≤ argumentMost * W) where
   half-test : lt y (neg half) ≡ ltb (16 * W) Y
   half-test = lt-val y (neg half) true true Y (16 * W) v (neg-val half false (16 * W) half-val)
 

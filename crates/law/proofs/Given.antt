@@ -18,7 +18,7 @@ use Rattle.leaves.proofs.Shift.{lt-shift, shift-zero⁺}
 use Rattle.leaves.proofs.Units.{U, mag}
 use Rattle.leaves.proofs.Arithmetic.{div-alike}
 use Rattle.leaves.proofs.Range.{sized, range-sized, count-pos}
-use Rattle.leaves.proofs.Operations.{Moved, still, moved-weaken, moved-abs, moved-add, moved-sub, moved-mul, moved-over}
+use Rattle.leaves.proofs.Operations.{Moved, still, moved-abs, moved-add, moved-sub, moved-mul, moved-over}
 use Rattle.matrix.specs.Limits.{maxSide}
 use Rattle.matrix.specs.Matrix.{Matrix, at, amax, averaged, divided}
 use Rattle.matrix.specs.Jacobi.{Decomposition, smallestValue, unturned}
@@ -31,16 +31,16 @@ use Rattle.estimators.specs.declared.Shrinkage.{Shrinkage}
 use Rattle.estimators.specs.declared.Regularization.{Regularization}
 use Rattle.estimators.specs.declared.Refusal.the-variants.{NoAssets, TooLarge, WrongSide, Asymmetric, Indefinite, NotDecomposed}
 use Rattle.law.specs.Law.{All, Sized, maxPower, covarianceRange}
-use Rattle.law.proofs.Bits.{covarianceGrain, covarianceMost}
+use Rattle.law.proofs.Ranges.{covarianceBounds, trillionthBounds, averagedBounds}
 use Rattle.law.proofs.Chain.{Chain, ends, chain-same, chain-when, chain-test, chain-must, chain-some}
 use Rattle.law.proofs.Sizes.{all-at, two-is}
 use Rattle.law.proofs.Sample.{count-moved}
 use Rattle.law.proofs.Matrices.{amax-moved, rows-moved}
 use Rattle.law.proofs.Opening.{at-copy, sized-moved, entries-same}
 
-trillionth-moved : Moved 0 982 1034 1035 1e-12 1e-12
+trillionth-moved : Moved 0 trillionthBounds 1e-12 1e-12
 unfolding ofBits sized fits isFinite mag U
-trillionth-moved = still 1034 1035 (range-sized 982 1035 1e-12 tt)
+trillionth-moved = still trillionthBounds (range-sized (trillionthBounds .least) (trillionthBounds .most) 1e-12 (lit≤ tt) tt)
 
 -- the matrix averaged with its transpose, stored
 abbrev pub average : ℕ → List Float → Matrix
@@ -51,14 +51,14 @@ module _ (k : ℕ) (small : k ≤ maxPower + maxPower) (side limit : ℕ) (g : L
   g' = map (shift (pos k)) g
 
   module _ (full : length g ≡ side * side) where
-    given-moved : (i j : ℕ) → i < side → j < side → Moved k covarianceGrain covarianceGrain covarianceMost (at g side i j) (at g' side i j)
+    given-moved : (i j : ℕ) → i < side → j < side → Moved k covarianceBounds (at g side i j) (at g' side i j)
     given-moved i j a b =
         let in-g : i * side + j < length g = lt-of-lt-of-le (cell i side j side a b) (le-of-eq (sym full)) in
-        moved-weaken covarianceGrain covarianceGrain covarianceMost (lit≤ tt) (lit≤ tt) (lit≤ tt) (sized-moved k covarianceRange (lit≤ tt) (at g side i j) (at g' side i j) (all-at (Sized covarianceRange) g (i * side + j) sizes in-g) (at-copy (pos k) g side i j))
+        sized-moved k covarianceRange (lit≤ tt) (at g side i j) (at g' side i j) (all-at (Sized covarianceRange) g (i * side + j) sizes in-g) (at-copy (pos k) g side i j)
 
-    pub average-moved : (i j : ℕ) → i < side → j < side → Moved k 889 941 1155 (average side g i j) (average side (map (shift (pos k)) g) i j)
+    pub average-moved : (i j : ℕ) → i < side → j < side → Moved k averagedBounds (average side g i j) (average side (map (shift (pos k)) g) i j)
     average-moved = rows-moved side side (averaged (at g side)) (averaged (at g' side)) (λ i j a b. rw (← two-is)
-        (moved-over (moved-add (given-moved i j a b) (given-moved j i b a) (omega arith)) (count-moved 1 2 (lit≤ tt) (lit≤ tt)) (count-pos 2 (lit≤ tt) (lit≤ tt)) 889 1155 (lit≤ tt) (lit≤ tt) (omega arith)))
+        (moved-over (moved-add covarianceBounds tt tt (given-moved i j a b) (given-moved j i b a) (omega arith)) (count-moved 1 2 (lit≤ tt) (lit≤ tt)) (count-pos 2 (lit≤ tt) (lit≤ tt)) (lit≤ tt) (omega arith)))
 
     -- 11
     asymmetry-same : asymmetry side (at (map (shift (pos k)) g) side) ≡ asymmetry side (at g side)
@@ -66,9 +66,9 @@ module _ (k : ℕ) (small : k ≤ maxPower + maxPower) (side limit : ℕ) (g : L
     asymmetry-same =
         let x = at g side in
         let y = at g' side in
-        let tolerance = rw (zero-add k) at (moved-mul trillionth-moved (amax-moved side side x y given-moved) 850 850 1115 (lit≤ tt) (lit≤ tt) (lit≤ tt) (omega arith)) in
+        let tolerance = rw (zero-add k) at (moved-mul trillionth-moved (amax-moved side side x y given-moved) (lit≤ tt) (omega arith)) in
         first-entry-alike side side (λ i j. lt (1e-12 ⊗ amax side side y) (abs (y i j ⊖ y j i))) (λ i j. lt (1e-12 ⊗ amax side side x) (abs (x i j ⊖ x j i)))
-        (λ i j a b. ap₂ lt (tolerance .copy) (moved-abs (moved-sub (given-moved i j a b) (given-moved j i b a) (omega arith)) .copy) ∙ lt-shift (pos k) (1e-12 ⊗ amax side side x) (abs (x i j ⊖ x j i)))
+        (λ i j a b. ap₂ lt (tolerance .copy) (moved-abs (moved-sub covarianceBounds tt tt (given-moved i j a b) (given-moved j i b a) (omega arith)) .copy) ∙ lt-shift (pos k) (1e-12 ⊗ amax side side x) (abs (x i j ⊖ x j i)))
 
     -- 13, 12 and the counts
     pub decomposition-same : decomposeGiven limit side (average side (map (shift (pos k)) g)) ≡ decomposeGiven limit side (average side g)
@@ -76,7 +76,7 @@ module _ (k : ℕ) (small : k ≤ maxPower + maxPower) (side limit : ℕ) (g : L
     decomposition-same =
         let x = average side g in
         let y = average side g' in
-        let scale = amax-moved side side x y (λ i j a b. moved-weaken 889 889 1155 (lit≤ tt) (lit≤ tt) (lit≤ tt) (average-moved i j a b)) .copy in
+        let scale = amax-moved side side x y average-moved .copy in
         ap₂ (λ (b : Bool) (d : Decomposition). elim b [ true ↦ d | false ↦ unturned side true ])
         (ap₂ lt (sym (shift-zero⁺ (pos k))) scale ∙ lt-shift (pos k) zero⁺ (amax side side x))
         (decompose-alike limit side (divided y (amax side side y)) (divided x (amax side side x)) (λ i j a b. ap₂ _⊘_ (average-moved i j a b .copy) scale ∙ div-alike (pos k) (x i j) (amax side side x)))

@@ -26,7 +26,8 @@ use Rattle.estimators.specs.declared.Refusal.the-variants.{BadSetting}
 use Rattle.estimators.specs.declared.Answer.{Answer}
 use Rattle.estimators.specs.declared.Answer.the-variants.{Refused, Covariance, Intensity, Mean, Shrunk}
 use Rattle.estimators.specs.BayesStein.{exponentsOf, bayesStein}
-use Rattle.estimators.proofs.Firsts.{pass-cons, pass-append}
+use Rattle.estimators.proofs.Firsts.{pass-append}
+use Rattle.estimators.proofs.Passed.{pass-cons}
 use Rattle.law.specs.Law as Law
 use Rattle.law.specs.Law.{Question, ask}
 use Rattle.law.proofs.Sizes.{not-lt}

@@ -18,11 +18,12 @@ use Rattle.leaves.specs.Loops.{nth}
 use Rattle.leaves.specs.Scaling.{binaryExponent, pow2Scaled}
 use Rattle.leaves.specs.Shift.{shift}
 use Rattle.leaves.proofs.Nan.{nan-add}
-use Rattle.leaves.proofs.Units.{Val, sign, mag, val-mag, mag-val, zero-mag, finite-fin, one-val, U}
+use Rattle.leaves.proofs.Units.{oneBits, topBits, fractionBits, Val, sign, mag, val-mag, mag-val, zero-mag, finite-fin, one-val, U}
 use Rattle.leaves.proofs.Zero.{no, is-below}
 use Rattle.leaves.proofs.Shift.{shift-nan}
-use Rattle.leaves.proofs.Range.{Range, range-zero, range-size, count-pos}
-use Rattle.leaves.proofs.Operations.{Moved, still, moved-weaken, moved-add, moved-sub, moved-mul, moved-over}
+use Rattle.leaves.proofs.Range.{range-size, count-pos}
+use Rattle.leaves.proofs.Bounds.{Bounds, Bounded, zero-bounded, sumOf}
+use Rattle.leaves.proofs.Operations.{Moved, still, moved-add, moved-sub, moved-mul, moved-over}
 use Rattle.leaves.proofs.Totals.{moved-sum}
 use Rattle.matrix.specs.Matrix.{Matrix, at, amax}
 use Rattle.matrix.specs.Jacobi.{Decomposition}
@@ -37,18 +38,20 @@ use Rattle.estimators.specs.declared.Refusal.the-variants.{Singular}
 use Rattle.estimators.proofs.SameReturns.{moments-same}
 use Rattle.law.specs.Law.{All, Sized, AtLeast, Alike, ask, maxPower, returnRange, meanRange}
 use Rattle.law.specs.Law as Law
-use Rattle.law.proofs.Bits.{sideBits, side-bits, returnGrain, returnLeast, returnMost, unitGrain, meanGrain, meanLeast}
+use Rattle.law.proofs.Bits.{sideBits, side-bits}
+use Rattle.law.proofs.Ranges.{fractionBounds, meanIntensityBounds, returnBounds, exponentAbove, exponentBelow, unitBounds, unitMeanBounds, centreBounds, pulledPartBounds}
 use Rattle.law.proofs.Chain.{Chain, ends, chain-same, chain-must, chained, parts, settled}
 use Rattle.law.proofs.Sizes.{at-least, lt-no}
 use Rattle.law.proofs.Sample.{Returns, entries-as, count-moved}
 use Rattle.law.proofs.Matrices.{amax-moved, amax-above}
-use Rattle.law.proofs.Scaled.{scaled-fits, nan-scaled, Scaling, scaling, scaled-back}
+use Rattle.law.proofs.Scaled.{Scaling, scaling, scaled-back}
+use Rattle.leaves.proofs.Scale.{scaled-fits, nan-scaled}
 use Rattle.law.proofs.Moments.{large, Copied, shrunk-alike, means-moved, shrunkInto, Large}
-use Rattle.law.proofs.Opening.{Shape, returns, opening-chain}
+use Rattle.law.proofs.Opening.{Shape, returns, returns-scalable, opening-chain}
 
 -- ---- an intensity: NaN, or from 0 to 1
 -- and 0 or at least 2 ^ -l
-pub unit-range : (l : ℕ) → l ≤ 1022 → (x : Float) → T (fits binary64 x) → AtLeast l x → lt x zero⁺ ≡ false → lt one x ≡ false → (x ≡ nan) ⊎ Range (1022 - l) (2 ^ (1022 - l + 52)) (2 ^ 1074) x
+pub unit-range : (l : ℕ) → fractionBits + l ≤ oneBits → (x : Float) → T (fits binary64 x) → AtLeast l x → lt x zero⁺ ≡ false → lt one x ≡ false → (x ≡ nan) ⊎ Bounded (fractionBounds l) x
 unit-range l h nan t a b c = inl refl
 unit-range l h (inf true) t a b c = unfold lt in absurd (subst T b tt)
 unit-range l h (inf false) t a b c = unfold lt in absurd (subst T c tt)
@@ -56,14 +59,14 @@ unit-range l h (fin s m e) t a b c =
     let x = fin s m e in
     let f = finite-fin s m e in
     let v = mag-val x t f in
-    let most : mag x ≤ 2 ^ 1074 = sign-case s v b c in
-    inr (range-size (1022 - l) (2 ^ 1074) x t f (elim (at-least l (omega arith) x v a) [ inl z ↦ inl z | inr p ↦ inr (le-trans (le-of-eq (ap (λ (n : ℕ). 2 ^ n) (omega arith))) p) ]) most)
+    let most : mag x ≤ 2 ^ oneBits = sign-case s v b c in
+    inr (range-size (oneBits - l) (2 ^ oneBits) x (omega arith) t f (at-least l (omega arith) x v a) most)
   where
-    sign-case : (s : Bool) → Val (fin s m e) (sign (fin s m e)) (mag (fin s m e)) → lt (fin s m e) zero⁺ ≡ false → lt one (fin s m e) ≡ false → mag (fin s m e) ≤ 2 ^ 1074
+    sign-case : (s : Bool) → Val (fin s m e) (sign (fin s m e)) (mag (fin s m e)) → lt (fin s m e) zero⁺ ≡ false → lt one (fin s m e) ≡ false → mag (fin s m e) ≤ 2 ^ oneBits
     sign-case false v b c = unfold U in lt-no one (fin false m e) one-val (unfold sign in v) c
     sign-case true v b c = zero-case m v b
       where
-        zero-case : (m : ℕ) → Val (fin true m e) (sign (fin true m e)) (mag (fin true m e)) → lt (fin true m e) zero⁺ ≡ false → mag (fin true m e) ≤ 2 ^ 1074
+        zero-case : (m : ℕ) → Val (fin true m e) (sign (fin true m e)) (mag (fin true m e)) → lt (fin true m e) zero⁺ ≡ false → mag (fin true m e) ≤ 2 ^ oneBits
         zero-case zero v b = le-trans (le-of-eq (zero-mag true e)) zero-le
         zero-case (suc m) v b = no (is-below m e) b
 
@@ -77,15 +80,15 @@ clamp-cases P x none all part = go (lt x zero⁺) refl (lt one x) refl
     go false e true f = all
     go false e false f = part e f
 
-pub clamped-range : (l : ℕ) → l ≤ 1022 → (x : Float) → T (fits binary64 x) → AtLeast l (clamp01 x) → (clamp01 x ≡ nan) ⊎ Range (1022 - l) (2 ^ (1022 - l + 52)) (2 ^ 1074) (clamp01 x)
+pub clamped-range : (l : ℕ) → fractionBits + l ≤ oneBits → (x : Float) → T (fits binary64 x) → AtLeast l (clamp01 x) → (clamp01 x ≡ nan) ⊎ Bounded (fractionBounds l) (clamp01 x)
 clamped-range l h x t =
-    let i = val-mag one false (2 ^ 1074) (unfold U in one-val) .1 in
-    let all : Range (1022 - l) (2 ^ (1022 - l + 52)) (2 ^ 1074) one = range-size (1022 - l) (2 ^ 1074) one (unfold fits in tt) (unfold isFinite in tt) (inr (le-trans (pow-mono {i = 1022 - l + 52} {j = 1074} (omega arith)) (le-of-eq (sym i)))) (le-of-eq i) in
-    clamp-cases (λ z. AtLeast l z → (z ≡ nan) ⊎ Range (1022 - l) (2 ^ (1022 - l + 52)) (2 ^ 1074) z) x (λ a. inr (range-zero (1022 - l) (2 ^ (1022 - l + 52)) (2 ^ 1074))) (λ a. inr all) (λ b c a. unit-range l h x t a b c)
+    let i = val-mag one false (2 ^ oneBits) (unfold U in one-val) .1 in
+    let all : Bounded (fractionBounds l) one = range-size (oneBits - l) (2 ^ oneBits) one (omega arith) (unfold fits in tt) (unfold isFinite in tt) (inr (le-trans (pow-mono {i = oneBits - l} {j = oneBits} (omega arith)) (le-of-eq (sym i)))) (le-of-eq i) in
+    clamp-cases (λ z. AtLeast l z → (z ≡ nan) ⊎ Bounded (fractionBounds l) z) x (λ a. inr (zero-bounded (fractionBounds l))) (λ a. inr all) (λ b c a. unit-range l h x t a b c)
 
 -- one that shrinks a mean
 abbrev pub MeanIntensity : Float → Type 0
-MeanIntensity α = Range meanGrain (2 ^ meanLeast) (2 ^ 1074) α
+MeanIntensity α = Bounded meanIntensityBounds α
 
 -- ---- what is found from the moments alone
 abbrev pub centre : ℕ → Moments → Float
@@ -101,7 +104,7 @@ james-cases P n m μ₀ d none cut = go (eq _ zero⁺) _ (scaled-fits _ _)
     go false w t = cut w t
 
 intensity-range : (n : ℕ) (m : Moments) (μ₀ : Float) (d : Decomposition) → AtLeast meanRange (jamesSteinIntensity n m μ₀ d) → (jamesSteinIntensity n m μ₀ d ≡ nan) ⊎ MeanIntensity (jamesSteinIntensity n m μ₀ d)
-intensity-range n m μ₀ d = james-cases (λ z. AtLeast meanRange z → (z ≡ nan) ⊎ MeanIntensity z) n m μ₀ d (λ a. inr (range-zero meanGrain (2 ^ meanLeast) (2 ^ 1074))) (clamped-range meanRange (lit≤ tt))
+intensity-range n m μ₀ d = james-cases (λ z. AtLeast meanRange z → (z ≡ nan) ⊎ MeanIntensity z) n m μ₀ d (λ a. inr (zero-bounded meanIntensityBounds)) (clamped-range meanRange (lit≤ tt))
 
 -- ---- returns over the power of two of the largest
 abbrev pub found : ℕ → ℕ → Matrix → Moments
@@ -111,46 +114,43 @@ found P n x = moments P n (scaled (λ i. binaryExponent (amax P n x)) x)
 abbrev pub shrunk : ℕ → ℕ → ℕ → Matrix → Shrinking
 shrunk limit P n x = jamesStein n limit (found P n x) (binaryExponent (amax P n x))
 
-module _ {k n P : ℕ} {x y : Matrix} (small : k ≤ maxPower) (r : Returns k n P returnGrain returnLeast returnMost x y) where
-  common : Scaling k returnGrain returnLeast returnMost (amax P n x) (amax P n y)
-  common = scaling (amax-moved P n x y (r .entries)) (lit≤ tt) (lit≤ tt) (lit≤ tt) (lit≤ tt) (lit≤ tt) (lit≤ tt) (omega arith)
+module _ {k n P : ℕ} {x y : Matrix} (small : k ≤ maxPower) (r : Returns k n P returnBounds x y) where
+  common : Scaling k returnBounds (amax P n x) (amax P n y)
+  common = scaling (amax-moved P n x y (r .entries)) returns-scalable (omega arith)
 
   pub found-same : found P n y ≡ found P n x
   unfolding scaled
   found-same = moments-same n P (scaled (λ i. binaryExponent (amax P n y)) y) (scaled (λ i. binaryExponent (amax P n x)) x) (λ t i a b. common .same (r .entries t i a b) (amax-above P n x y (r .entries) t i a b))
 
-  abbrev u : Matrix
-  u = scaled (λ i. binaryExponent (amax P n x)) x
-
-  units : Returns (common .still) n P unitGrain unitGrain 1075 (scaled (λ i. binaryExponent (amax P n x)) x) (scaled (λ i. binaryExponent (amax P n x)) x)
+  units : Returns (common .still) n P unitBounds (scaled (λ i. binaryExponent (amax P n x)) x) (scaled (λ i. binaryExponent (amax P n x)) x)
   unfolding scaled
   units = entries-as r (λ t i a b. common .moved (r .entries t i a b) (amax-above P n x y (r .entries) t i a b))
 
   abbrev m : Moments
   m = found P n x
 
-  abbrev μ-moved : (i : ℕ) → i < n → Moved (common .still) 878 930 1087 (nth (found P n x .mean) i) (nth (found P n x .mean) i)
+  abbrev μ-moved : (i : ℕ) → i < n → Moved (common .still) unitMeanBounds (nth (found P n x .mean) i) (nth (found P n x .mean) i)
   μ-moved = means-moved units (le-trans (common .few) small)
 
-  centre-moved : Moved (common .still) 821 873 1092 (centre n (found P n x)) (centre n (found P n x))
+  centre-moved : Moved (common .still) centreBounds (centre n (found P n x)) (centre n (found P n x))
   unfolding grandMean
   centre-moved =
       let j = common .few in
-      moved-over (moved-sum (common .still) 878 1087 n sideBits (side-bits (r .few)) (lit≤ tt) (omega arith) 930 (nth (m .mean)) (nth (m .mean)) μ-moved) (count-moved sideBits n (lit≤ tt) (side-bits (r .few))) (count-pos n (r .assets) (le-trans (r .few) (lit≤ tt)))
-      821 1092 (lit≤ tt) (lit≤ tt) (omega arith)
+      moved-over (moved-sum (common .still) unitMeanBounds n sideBits (side-bits (r .few)) (lit≤ tt) (omega arith) (nth (m .mean)) (nth (m .mean)) μ-moved) (count-moved sideBits n (lit≤ tt) (side-bits (r .few))) (count-pos n (r .assets) (le-trans (r .few) (lit≤ tt)))
+      (lit≤ tt) (omega arith)
 
-  towards-moved : (α : Float) → MeanIntensity α → (i : ℕ) → i < n → Moved (common .still) 369 369 1094 (towards α (centre n (found P n x)) (nth (found P n x .mean) i)) (towards α (centre n (found P n x)) (nth (found P n x .mean) i))
+  towards-moved : (α : Float) → MeanIntensity α → (i : ℕ) → i < n → Moved (common .still) (sumOf 1 pulledPartBounds) (towards α (centre n (found P n x)) (nth (found P n x .mean) i)) (towards α (centre n (found P n x)) (nth (found P n x .mean) i))
   unfolding towards
   towards-moved α a i l =
       let few = common .few in
       let μ = μ-moved i l in
-      let d = moved-sub (moved-weaken 821 821 1092 (lit≤ tt) (lit≤ tt) (lit≤ tt) centre-moved) (moved-weaken 821 821 1092 (lit≤ tt) (lit≤ tt) (lit≤ tt) μ) (omega arith) in
-      let p = rw (zero-add (common .still)) at (moved-mul (still meanLeast 1074 a) d 369 369 1093 (lit≤ tt) (lit≤ tt) (lit≤ tt) (omega arith)) in
-      moved-add (moved-weaken 369 369 1093 (lit≤ tt) (lit≤ tt) (lit≤ tt) μ) p (omega arith)
+      let p = rw (zero-add (common .still)) at (moved-mul (still meanIntensityBounds a) (moved-sub centreBounds tt tt centre-moved μ (omega arith)) (lit≤ tt) (omega arith)) in
+      moved-add pulledPartBounds tt tt μ p (omega arith)
 
   -- a number found from the moments, scaled back
-  back : {c e : ℕ} {z : Float} → Moved (common .still) c c e z z → suc returnRange ≤ c → e ≤ 1900 → T (fits binary64 (pow2Scaled z (binaryExponent (amax P n x)))) × (pow2Scaled z (binaryExponent (amax P n y)) ≡ shift (pos k) (pow2Scaled z (binaryExponent (amax P n x))))
-  back {z = z} q l h = (scaled-fits z (binaryExponent (amax P n x)), scaled-back common q (lit≤ tt) l (omega arith))
+  back : {c : Bounds} {z : Float} → Moved (common .still) c z z → exponentBelow returnBounds ≤ c .grain → c .most + exponentAbove returnBounds + maxPower ≤ topBits
+      → T (fits binary64 (pow2Scaled z (binaryExponent (amax P n x)))) × (pow2Scaled z (binaryExponent (amax P n y)) ≡ shift (pos k) (pow2Scaled z (binaryExponent (amax P n x))))
+  back {z = z} q l h = (scaled-fits z (binaryExponent (amax P n x)), scaled-back common q l (omega arith))
 
   pub decomposition-same : (limit : ℕ) → shrunk limit P n y .decomposition ≡ shrunk limit P n x .decomposition
   decomposition-same limit = ap (λ (m : Moments). jamesStein n limit m (binaryExponent (amax P n y)) .decomposition) found-same
@@ -159,7 +159,7 @@ module _ {k n P : ℕ} {x y : Matrix} (small : k ≤ maxPower) (r : Returns k n 
   james-copied limit a =
       let same = found-same in
       let w : Moments → Shrinking = λ m. jamesStein n limit m (binaryExponent (amax P n y)) in
-      let t = back (moved-weaken 821 821 1092 (lit≤ tt) (lit≤ tt) (lit≤ tt) centre-moved) (lit≤ tt) (lit≤ tt) in
+      let t = back centre-moved (lit≤ tt) (lit≤ tt) in
       record {
         intensity = ap (λ (m : Moments). w m .intensity) same;
         target = (t .0, ap (λ (m : Moments). w m .target) same ∙ t .1);

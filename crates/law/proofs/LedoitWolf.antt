@@ -27,7 +27,7 @@ use Rattle.estimators.specs.declared.Refusal.the-variants.{ZeroVariance}
 use Rattle.estimators.specs.declared.Answer.the-variants.{Intensity}
 use Rattle.law.specs.Law.{All, Sized, answerParts, Alike, ask, maxPower, returnRange}
 use Rattle.law.specs.Law as Law
-use Rattle.law.proofs.Bits.{returnGrain, returnLeast, returnMost}
+use Rattle.law.proofs.Ranges.{returnBounds, deviationOf}
 use Rattle.law.proofs.Numbers.{times-itself}
 use Rattle.law.proofs.Chain.{Chain, ends, chain-same, chained, parts, settled}
 use Rattle.law.proofs.Sample.{Returns, deviation-moved, constant-same}
@@ -44,11 +44,11 @@ ledoitWolf-cases P F T n x none cut = go (lt zero⁺ _) _ (div-fits binary64 _ _
     go true w t = cut w t
     go false w t = none
 
-pub ledoitWolf-same : {k n T : ℕ} {x y : Matrix} (F : Target) → k ≤ maxPower → Returns k n T returnGrain returnLeast returnMost x y → ledoitWolf F T n y ≡ ledoitWolf F T n x
+pub ledoitWolf-same : {k n T : ℕ} {x y : Matrix} (F : Target) → k ≤ maxPower → Returns k n T returnBounds x y → ledoitWolf F T n y ≡ ledoitWolf F T n x
 unfolding ledoitWolf scaled
 ledoitWolf-same {k} {n} {T} {x} {y} F small r =
-    let each = deviation-moved r 918 (lit≤ tt) (omega arith) in
-    let s : Scaling k 918 918 1127 (amax T n (deviation T x)) (amax T n (deviation T y)) = scaling (amax-moved T n (deviation T x) (deviation T y) each) (lit≤ tt) (lit≤ tt) (lit≤ tt) (lit≤ tt) (lit≤ tt) (lit≤ tt) (omega arith) in
+    let each = deviation-moved r (lit≤ tt) (omega arith) in
+    let s : Scaling k (deviationOf returnBounds) (amax T n (deviation T x)) (amax T n (deviation T y)) = scaling (amax-moved T n (deviation T x) (deviation T y) each) (lit≤ tt, lit≤ tt, lit≤ tt, lit≤ tt, lit≤ tt) (omega arith) in
     ap (λ (z : List Float). intensityOf F T n (at z n) (at (rows n n (λ i j. gram T (at z n) i j ⊘ count T)) n))
     (rows-ext T n (scaled (λ i. binaryExponent (amax T n (deviation T y))) (deviation T y)) (scaled (λ i. binaryExponent (amax T n (deviation T x))) (deviation T x))
     (λ t i a b. s .same (each t i a b) (amax-above T n (deviation T x) (deviation T y) each t i a b)))
@@ -58,7 +58,7 @@ module _ (k : ℕ) (small : k ≤ maxPower) (r : List Float) (sizes : All (Sized
   unfolding noCorrelation
   correlation-same ConstantVariance s = refl
   correlation-same ConstantCorrelation s = ap (λ (o : Option ℕ). whenSome o ZeroVariance)
-      (constant-same (returns k small r sizes n T s) (lit≤ tt) (lit≤ tt) (omega arith) (covariance T (at r n)) (covariance T (at (map (shift (pos k)) r) n)) (λ i l. sample-moved k small r sizes n T s i i l l .copy))
+      (constant-same (returns k small r sizes n T s) (lit≤ tt) (omega arith) (covariance T (at r n)) (covariance T (at (map (shift (pos k)) r) n)) (λ i l. sample-moved k small r sizes n T s i i l l .copy))
 
   abbrev accepted : Target → List Float → Answered
   accepted F r = answered (Intensity (ledoitWolf F T n (at r n))) []

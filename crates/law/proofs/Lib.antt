@@ -3,6 +3,7 @@ pub mod Chain
 pub mod Sample
 pub mod Scaled
 pub mod Bits
+pub mod Ranges
 pub mod Numbers
 pub mod Sizes
 pub mod Opening

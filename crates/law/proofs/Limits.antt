@@ -1,4 +1,4 @@
--- Document 01, "Jacobi": an answer given at a sweep limit is the answer at every larger one up to 100, in every bit and count. The decomposition that was found is found again
+-- An answer given at a sweep limit is the answer at every larger one up to 100, in every bit and count: document 01, "Jacobi", has a test before each sweep. The decomposition that was found is found again
 -- (matrix, `larger-limit`), and nothing else of a call knows the limit. Assumes nothing.
 use mathlib.Core.Path.{_≡_, refl, sym, ap, ap₂, _∙_, subst}
 use Prim.Native.Nat.{ℕ, _*_, _≤_}
@@ -28,7 +28,8 @@ use Rattle.estimators.specs.declared.Regularization.{Regularization}
 use Rattle.estimators.specs.declared.Settings.{Settings}
 use Rattle.estimators.specs.declared.Refusal.the-variants.{BadSetting, NotDecomposed, Singular}
 use Rattle.estimators.specs.BayesStein.{correlations}
-use Rattle.estimators.proofs.Firsts.{pass-cons, pass-append}
+use Rattle.estimators.proofs.Firsts.{pass-append}
+use Rattle.estimators.proofs.Passed.{pass-cons}
 use Rattle.law.specs.Law as Law
 use Rattle.law.specs.Law.{Question, ask}
 use Rattle.law.proofs.Columns.{found, taken}

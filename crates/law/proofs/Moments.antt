@@ -19,15 +19,15 @@ use Rattle.estimators.specs.Moments.{moments}
 use Rattle.estimators.specs.Shrinking.{Shrinking, shrunkBy}
 use Rattle.estimators.specs.Calls.{Answered, answered, settle}
 use Rattle.law.specs.Law.{Alike, All, AtLeast, meanRange, maxPower, AnswerParts}
-use Rattle.law.proofs.Bits.{unitGrain}
+use Rattle.law.proofs.Ranges.{unitBounds, unitMeanBounds}
 use Rattle.law.proofs.Numbers.{times-shift, times-itself, filled-alike}
 use Rattle.law.proofs.Chain.{parts}
 use Rattle.law.proofs.Sample.{Returns, mean-moved}
 
 -- ---- the means of returns below 2 in size
-pub means-moved : {k n P : ℕ} {u : Matrix} → Returns k n P unitGrain unitGrain 1075 u u → k ≤ maxPower → (i : ℕ) → i < n → Moved k 878 930 1087 (nth (moments P n u .mean) i) (nth (moments P n u .mean) i)
+pub means-moved : {k n P : ℕ} {u : Matrix} → Returns k n P unitBounds u u → k ≤ maxPower → (i : ℕ) → i < n → Moved k unitMeanBounds (nth (moments P n u .mean) i) (nth (moments P n u .mean) i)
 unfolding moments
-means-moved {n = n} {P = P} {u = u} r small i a = rw (nth-tab n (mean P u) i nan a) (mean-moved r 878 (lit≤ tt) (omega arith) i a)
+means-moved {n = n} {P = P} {u = u} r small i a = rw (nth-tab n (mean P u) i nan a) (mean-moved r (lit≤ tt) (omega arith) i a)
 
 -- ---- what a Stein mean answers
 abbrev pub shrunkInto : ℕ → Shrinking → List Float → Answered

@@ -16,27 +16,29 @@ use Rattle.leaves.specs.Numbers.{isFinite}
 use Rattle.leaves.specs.Shift.{shift}
 use Rattle.leaves.proofs.Loops.{cell}
 use Rattle.leaves.proofs.Shift.{isFinite-shift, shift-nan}
+use Rattle.leaves.proofs.Units.{oneBits, fractionBits}
 use Rattle.leaves.proofs.Operations.{Moved}
 use Rattle.matrix.specs.Matrix.{Matrix, at, allFinite}
 use Rattle.matrix.proofs.Alike.{finite-same, first-entry-alike}
 use Rattle.estimators.specs.Refusals.{Check, passes, whenSome, first}
 use Rattle.estimators.specs.Sample.{covariance, largest}
 use Rattle.estimators.specs.Semi.{semicovariance, semicovarianceBelow}
-use Rattle.estimators.specs.Order.{notFinite, byShape, Shaped, opening}
+use Rattle.estimators.specs.Order.{notFinite, byShape, opening}
+use Rattle.estimators.specs.Shapes.{Shaped}
 use Rattle.estimators.specs.declared.Refusal.the-variants.{NotFinite, CovarianceNotFinite}
 use Rattle.estimators.proofs.Shapes.{shape-passes, opened}
 use Rattle.law.specs.Law.{All, Sized, maxPower, returnRange}
-use Rattle.law.proofs.Bits.{returnGrain, returnLeast, returnMost}
+use Rattle.law.proofs.Ranges.{sizedBounds, returnBounds}
 use Rattle.law.proofs.Chain.{Chain, chain-same, chain-must, chain-equal}
 use Rattle.law.proofs.Sizes.{all-at, sized-range}
-use Rattle.law.proofs.Sample.{Returns, covariance-moved, largest-moved, Sampled, semicovariance-moved, semicovarianceBelow-moved}
-use Rattle.law.proofs.Scaled.{Scaling, scaling}
+use Rattle.law.proofs.Sample.{Returns, Squares, covariance-moved, largest-moved, Sampled, semicovariance-moved, semicovarianceBelow-moved}
+use Rattle.law.proofs.Scaled.{Scaling, Scalable, scaling}
 
 -- ---- stored numbers and their copies
 pub at-copy : (k : ℤ) (l : List Float) (n i j : ℕ) → at (map (shift k) l) n i j ≡ shift k (at l n i j)
 at-copy k l n i j = ap (getD (map (shift k) l) (i * n + j)) (sym (shift-nan k)) ∙ List·getD-map (shift k) l (i * n + j) nan
 
-pub sized-moved : (k l : ℕ) → l ≤ 1022 → (x y : Float) → Sized l x → y ≡ shift (pos k) x → Moved k (1022 - l) (1022 - l + 52) (1074 + l) x y
+pub sized-moved : (k l : ℕ) → fractionBits + l ≤ oneBits → (x y : Float) → Sized l x → y ≡ shift (pos k) x → Moved k (sizedBounds l) x y
 sized-moved k l h x y s e = record { range = sized-range l h x s; copy = e }
 
 -- 5
@@ -46,8 +48,11 @@ entries-same k l m n = ap (λ (o : Option (ℕ × ℕ)). whenSome o (λ p. NotFi
     (first-entry-alike m n (λ i j. not (isFinite (at (map (shift (pos k)) l) n i j))) (λ i j. not (isFinite (at l n i j))) (λ i j a b. ap not (ap isFinite (at-copy (pos k) l n i j) ∙ isFinite-shift (pos k) (at l n i j))))
 
 -- ---- a column over the power of two of its largest return
-pub column : {k n T : ℕ} {x y : Matrix} → k ≤ maxPower → Returns k n T returnGrain returnLeast returnMost x y → (i : ℕ) → i < n → Scaling k returnGrain returnLeast returnMost (largest T x i) (largest T y i)
-column small r i a = scaling (largest-moved r i a) (lit≤ tt) (lit≤ tt) (lit≤ tt) (lit≤ tt) (lit≤ tt) (lit≤ tt) (omega arith)
+pub returns-scalable : Scalable returnBounds
+returns-scalable = (lit≤ tt, lit≤ tt, lit≤ tt, lit≤ tt, lit≤ tt)
+
+pub column : {k n T : ℕ} {x y : Matrix} → k ≤ maxPower → Returns k n T returnBounds x y → (i : ℕ) → i < n → Scaling k returnBounds (largest T x i) (largest T y i)
+column small r i a = scaling (largest-moved r i a) returns-scalable (omega arith)
 
 -- ---- the shapes that are accepted
 abbrev pub Shape : List Float → ℕ → ℕ → Type 0
@@ -57,7 +62,7 @@ module _ (k : ℕ) (small : k ≤ maxPower) (r : List Float) (sizes : All (Sized
   abbrev r' : List Float
   r' = map (shift (pos k)) r
 
-  pub returns : Shape r n T → Returns k n T returnGrain returnLeast returnMost (at r n) (at (map (shift (pos k)) r) n)
+  pub returns : Shape r n T → Returns k n T returnBounds (at r n) (at (map (shift (pos k)) r) n)
   returns (assets, few, periods, most, full) = record {
     assets = assets;
     few = few;
@@ -68,14 +73,17 @@ module _ (k : ℕ) (small : k ≤ maxPower) (r : List Float) (sizes : All (Sized
         sized-moved k returnRange (lit≤ tt) (at r n t i) (at r' n t i) (all-at (Sized returnRange) r (t * n + i) sizes in-r) (at-copy (pos k) r n t i);
   }
 
+  squares : Squares k returnBounds
+  squares = (lit≤ tt, lit≤ tt, omega arith, omega arith)
+
   pub sample-moved : Shape r n T → (i j : ℕ) → i < n → j < n → Sampled (k + k) (covariance T (at r n) i j) (covariance T (at (map (shift (pos k)) r) n) i j)
-  sample-moved s = covariance-moved (returns s) 918 (lit≤ tt) (omega arith) 762 (lit≤ tt) 698 (lit≤ tt) 1180 (lit≤ tt) (omega arith)
+  sample-moved s = covariance-moved (returns s) squares
 
   pub semi-moved : Shape r n T → (i j : ℕ) → i < n → j < n → Sampled (k + k) (semicovariance T (at r n) i j) (semicovariance T (at (map (shift (pos k)) r) n) i j)
-  semi-moved s = semicovariance-moved (returns s) 918 (lit≤ tt) (omega arith) 762 (lit≤ tt) 698 (lit≤ tt) 1180 (lit≤ tt) (omega arith)
+  semi-moved s = semicovariance-moved (returns s) squares
 
   pub semiBelow-moved : (θ θ' : Float) → Sized returnRange θ → θ' ≡ shift (pos k) θ → Shape r n T → (i j : ℕ) → i < n → j < n → Sampled (k + k) (semicovarianceBelow θ T (at r n) i j) (semicovarianceBelow θ' T (at (map (shift (pos k)) r) n) i j)
-  semiBelow-moved θ θ' z e s = semicovarianceBelow-moved (returns s) 918 (lit≤ tt) (omega arith) 762 (lit≤ tt) 698 (lit≤ tt) 1180 (lit≤ tt) (omega arith) (sized-moved k returnRange (lit≤ tt) θ θ' z e)
+  semiBelow-moved θ θ' z e s = semicovarianceBelow-moved (returns s) squares (sized-moved k returnRange (lit≤ tt) θ θ' z e)
 
   covariance-same : Shape r n T → allFinite n n (covariance T (at (map (shift (pos k)) r) n)) ≡ allFinite n n (covariance T (at r n))
   covariance-same s = finite-same n n (covariance T (at (map (shift (pos k)) r) n)) (covariance T (at r n)) (λ i j a b. ap isFinite (sample-moved s i j a b .copy) ∙ isFinite-shift (pos (k + k)) (covariance T (at r n) i j))

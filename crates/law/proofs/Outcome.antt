@@ -22,7 +22,8 @@ use Rattle.estimators.specs.declared.Refusal.{Refusal}
 use Rattle.estimators.specs.declared.Refusal.the-variants.{CovarianceNotFinite, Singular}
 use Rattle.estimators.specs.declared.Answer.{Answer}
 use Rattle.estimators.specs.declared.Answer.the-variants.{Refused, Covariance, Intensity, Mean, Shrunk}
-use Rattle.estimators.proofs.Firsts.{pass-test, pass-cons, pass-append}
+use Rattle.estimators.proofs.Firsts.{pass-append}
+use Rattle.estimators.proofs.Passed.{pass-test, pass-cons}
 use Rattle.law.specs.Law as Law
 use Rattle.law.specs.Law.{Question, ask}
 use Rattle.law.proofs.Calls.{estimated, covariances, ofAnswer, covariance-is}

@@ -3,13 +3,13 @@
 use mathlib.Core.Path.{_≡_, refl, sym, ap, ap₂, _∙_, subst}
 use mathlib.Core.Logic.{_⊎_, inl, inr}
 use Prim.Native.Nat.{ℕ, zero, suc, _+_, _-_, _*_, _^_, _≤_, _<_, zero-le}
-use native.Mathlib.Nat.{zero-mul, le-trans, le-of-eq, lt-irrefl, zero-add, mul-le-mul, mul-le-mul-right, eq-zero-or-pos, le-of-mul-le-mul-right}
+use native.Mathlib.Nat.{zero-mul, le-refl, le-trans, le-of-eq, lt-irrefl, zero-add, mul-le-mul, mul-le-mul-right, eq-zero-or-pos}
 use native.Mathlib.Omega.{arith}
 use mathlib.Core.Bool.{Bool, true, false}
 use mathlib.Core.List.{List}
 use lib.Dec.{T, lit≤}
 use lib.IntN.{ℤ, pos, negℤ, _+ℤ_, _-ℤ_}
-use lib.Pow.{pow-add, pow-pos, pow-mono}
+use lib.Pow.{pow-add, pow-mono}
 use lib.Ieee.{Float, nan, inf, fin, binary64, fits, le, lt, add, mul}
 use lib.Ieee.Fits.{mul-fits, div-fits}
 use Rattle.leaves.specs.Numbers.{_⊕_, _⊖_, _⊗_, _⊘_, zero⁺, one, two, 1e-10, count, isFinite, max0}
@@ -22,13 +22,14 @@ use Rattle.leaves.proofs.Loops.{tab-ext, nth-tab}
 use Rattle.leaves.proofs.Whole.{over, under, plus, minus, same, one-side, over-neg, under-neg}
 use Rattle.leaves.proofs.Shift.{shift-nan, isFinite-shift}
 use Rattle.leaves.proofs.Rounding.{near-most, held-pow}
-use Rattle.leaves.proofs.Units.{U, U-pos, sign, mag, val-mag, mag-val, eq-zero}
+use Rattle.leaves.proofs.Units.{oneBits, topBits, U, U-pos, sign, mag, val-mag, mag-val, eq-zero}
 use Rattle.leaves.proofs.Arithmetic.{mul-finite}
-use Rattle.leaves.proofs.Range.{Range, range-value, range-size}
-use Rattle.leaves.proofs.Operations.{Moved, still, moved-weaken, moved-add, moved-sub, moved-mul, pow-le-U}
+use Rattle.leaves.proofs.Range.{Range, range-size}
+use Rattle.leaves.proofs.Bounds.{Bounded, sizes, productOf, is-covered}
+use Rattle.leaves.proofs.Operations.{Moved, still, moved-add, moved-sub, moved-mul, pow-le-U}
 use Rattle.leaves.proofs.Signs.{sign-mul, sign-count}
-use Rattle.leaves.proofs.Scale.{pow2-fits}
-use Rattle.leaves.proofs.PowersOfTwo.{range-move, scaled-moves, shift-null, exponent-range, fits-move, scaled-copy}
+use Rattle.leaves.proofs.Scale.{pow2-fits, scaled-once, scaled-fits, nan-scaled, inf-scaled, sign-scaled}
+use Rattle.leaves.proofs.PowersOfTwo.{range-move, scaled-moves, zero-scaled, fits-move, scaled-copy}
 use Rattle.matrix.specs.Limits.{maxSweeps, maxSide}
 use Rattle.matrix.specs.Matrix.{Matrix, at, amax}
 use Rattle.matrix.specs.Jacobi.{Decomposition, decompose, unturned, scaledBack, swept, start}
@@ -39,21 +40,40 @@ use Rattle.estimators.specs.Moments.{Moments, moments}
 use Rattle.estimators.specs.BayesStein.{singular, commonExponent, gathered, project, form, ratioOf, distanceOf, intensityAt, bayesSteinPull, pulled, exponentsOf, correlations, bayesStein}
 use borrow.Author.Tests.{ne-eqb}
 use Rattle.leaves.proofs.Zero.{not-above}
-use Rattle.law.specs.Law.{AtLeast, maxPower, meanRange, returnRange}
-use Rattle.law.proofs.Bits.{returnGrain, returnLeast, returnMost, meanGrain, meanLeast}
+use Rattle.law.specs.Law.{AtLeast, maxPower, meanRange}
+use Rattle.law.proofs.Ranges.{returnBounds, meanIntensityBounds, exponentAbove, exponentBelow, scaledBackOf, unitMeanBounds, inverseBounds, meanShareBounds, leftMeanBounds}
 use Rattle.law.proofs.Sizes.{pow2-val, at-least}
 use Rattle.law.proofs.Sample.{Returns}
-use Rattle.law.proofs.Scaled.{scaled-fits, nan-scaled, sign-scaled, scaled-range, lead}
+use Rattle.law.proofs.Scaled.{topOf, under-power, scaled-range}
 use Rattle.law.proofs.Shrinkage.{one-moved}
 use Rattle.law.proofs.Weighted.{sum-fits}
 use Rattle.law.proofs.JamesStein.{unit-range, MeanIntensity}
 use Rattle.law.proofs.Share.{max0-plus, share-unit}
 use Rattle.law.proofs.Common.{LeZ, common-in, common-above, common-lower}
-use Rattle.law.proofs.Tied.{one-step, inf-scaled, tied}
-use Rattle.law.proofs.Ratio.{product-is, sum-finite, sum-most, ratio-most, ratioMost, projectedMost}
+use Rattle.law.proofs.Tied.{tied}
+use Rattle.law.proofs.Ratio.{product-is, sum-finite, sum-most, ratio-most, ratioMost, projectedMost, turnedMost}
 use Rattle.law.proofs.Columns.{exponent-small, found, grows, inverse-exponent, inverse-some, share-exponent, share-range, sizeOf, taken, Σ, μ-range}
 
 -- ---- the exponents of the two vectors
+-- how far above and below 0: of the ones over the volatilities, of the means over them, and of the target
+abbrev onesAbove : ℕ
+onesAbove = exponentAbove inverseBounds + exponentBelow returnBounds
+
+abbrev onesBelow : ℕ
+onesBelow = exponentBelow inverseBounds + exponentAbove returnBounds
+
+abbrev meansAbove : ℕ
+meansAbove = exponentAbove meanShareBounds
+
+abbrev meansBelow : ℕ
+meansBelow = exponentBelow meanShareBounds
+
+abbrev targetAbove : ℕ
+targetAbove = meansAbove + onesBelow
+
+abbrev targetBelow : ℕ
+targetBelow = meansBelow + onesAbove
+
 abbrev Within : ℕ → ℕ → ℤ → Type 0
 Within hi lo j = (over j ≤ hi) × (under j ≤ lo)
 
@@ -68,29 +88,17 @@ unfolding over under
 none-small a b = (zero-le, zero-le)
 
 -- a number scaled so that its exponent is not above 0 is below 2
-below-two : {g L : ℕ} (h : ℕ) (x : Float) → Range g L (2 ^ h) x → (j : ℤ) → under j ≤ g + over j → h + over j ≤ 2097 + under j → (0 < mag x → LeZ (binaryExponent x +ℤ j) (pos 0)) → T (isFinite (pow2Scaled x j)) × (mag (pow2Scaled x j) ≤ 2 ^ 1075)
+below-two : {g L : ℕ} (h : ℕ) (x : Float) → Range g L (2 ^ h) x → (j : ℤ) → under j ≤ g + over j → h + over j ≤ topBits + under j → (0 < mag x → LeZ (binaryExponent x +ℤ j) (pos 0)) → T (isFinite (pow2Scaled x j)) × (mag (pow2Scaled x j) ≤ 2 ^ suc oneBits)
 unfolding over under
 below-two {g} {L} h x r j low high not-above = elim (eq-zero-or-pos (mag x)) [
-  | inl z ↦
-      let e = scaled-moves h x r j low high ∙ shift-null j x (r .fit) (r .finite) z in
-      (rw e (r .finite), rw (e, z) zero-le)
+  | inl z ↦ (let e = zero-scaled x j (r .fit) (r .finite) z in (rw e (r .finite), rw (e, z) zero-le))
   | inr p ↦
       let b = binaryExponent x in
-      let q = lead x (r .finite) (range-value r) p .1 in
-      let f = not-above p in
-      let top = 1075 + over b - under b in
-      let few : under b ≤ 1075 + over b = omega (arith, exponent-range h x r p, one-side b) in
-      let r' : Range g L (2 ^ top) x = record {
-        fit = r .fit;
-        finite = r .finite;
-        count = r .count;
-        grain = r .grain;
-        least = r .least;
-        most = le-of-mul-le-mul-right {k = 2 ^ under b} (le-trans q (le-of-eq (ap (λ (z : ℕ). 2 ^ z) (omega arith) ∙ pow-add 2 top (under b)))) (pow-pos (under b));
-      } in
-      let room : top + over j ≤ 1075 + under j = omega (arith, plus b j, one-side b, f) in
-      let s : Range (g + over j - under j) 0 (2 ^ 1075) (shift j x) = range-move top x r' j low (le-trans room (omega arith)) (g + over j - under j) 0 (2 ^ 1075) (omega arith) (le-trans (le-of-eq (zero-mul (2 ^ under j))) zero-le)
-      (le-trans (le-of-eq (sym (pow-add 2 top (over j)))) (le-trans (pow-mono room) (le-of-eq (pow-add 2 1075 (under j))))) in
+      let top = topOf x in
+      let q = under-power x x r p (le-refl (mag x)) r in
+      let room : top + over j ≤ suc oneBits + under j = omega (arith, plus b j, one-side b, not-above p, q .0) in
+      let s : Range (g + over j - under j) 0 (2 ^ suc oneBits) (shift j x) = range-move top x (q .1) j low (le-trans room (omega arith)) (g + over j - under j) 0 (2 ^ suc oneBits) (omega arith) (le-trans (le-of-eq (zero-mul (2 ^ under j))) zero-le)
+      (le-trans (le-of-eq (sym (pow-add 2 top (over j)))) (le-trans (pow-mono room) (le-of-eq (pow-add 2 (suc oneBits) (under j))))) in
       rw (scaled-moves h x r j low high) (s .finite, s .most)
 ]
 
@@ -102,22 +110,22 @@ values-fit limit n a e l =
     (unfold scaledBack in rw (nth-tab n (λ i. at (swept limit n (start n (amax n n a) a) .reached .matrix) n i i ⊗ amax n n a) e nan l) (mul-fits binary64 (at (swept limit n (start n (amax n n a) a) .reached .matrix) n e e) (amax n n a)))
 
 -- a projection, where it is finite
-project-most : (limit n : ℕ) (a : Matrix) → n ≤ maxSide → limit ≤ maxSweeps → (z : ℕ → Float) → ((i : ℕ) → i < n → T (fits binary64 (z i)) × T (isFinite (z i)) × (mag (z i) ≤ 2 ^ 1075))
+project-most : (limit n : ℕ) (a : Matrix) → n ≤ maxSide → limit ≤ maxSweeps → (z : ℕ → Float) → ((i : ℕ) → i < n → T (fits binary64 (z i)) × T (isFinite (z i)) × (mag (z i) ≤ 2 ^ suc oneBits))
     → (e : ℕ) → e < n → T (isFinite (nth (project n (decompose limit n a) z) e)) → mag (nth (project n (decompose limit n a) z) e) ≤ 2 ^ projectedMost
 project-most limit n a few short z each e l F =
     let W = at (decompose limit n a .vectors) n in
     let i : nth (project n (decompose limit n a) z) e ≡ sumTo n (λ i. W i e ⊗ z i) = unfold project in nth-tab n (λ e. sumTo n (λ i. W i e ⊗ z i)) e nan l in
-    rw i (sum-most n 1375 (λ i. W i e ⊗ z i) few (lit≤ tt) (λ t b.
+    rw i (sum-most n turnedMost (λ i. W i e ⊗ z i) few (lit≤ tt) (λ t b.
     let f = sum-finite n (λ i. W i e ⊗ z i) (subst (λ (y : Float). T (isFinite y)) i F) t b in
     let q = mul-finite (W t e) (z t) f in
     let s = vector (W t e) (vectors-small limit n a few short t e b l) (q .0) in (
       mul-fits binary64 (W t e) (z t),
       f,
       rw (product-is (W t e) (z t) (s .0) (each t b .0) f)
-          (near-most (mag (W t e) * mag (z t)) U (2 ^ 1375) U-pos (held-pow 1375) (le-trans (mul-le-mul (s .1) (each t b .2)) (le-of-eq powers))),
+          (near-most (mag (W t e) * mag (z t)) U (2 ^ turnedMost) U-pos (held-pow turnedMost) (le-trans (mul-le-mul (s .1) (each t b .2)) (le-of-eq powers))),
     )))
   where
-    powers : Limit * 2 ^ 1075 ≡ 2 ^ 1375 * U
+    powers : Limit * 2 ^ suc oneBits ≡ 2 ^ turnedMost * U
     powers = unfold U Limit in refl
 
     vector : (x : Float) → Small x → T (isFinite x) → T (fits binary64 x) × (mag x ≤ Limit)
@@ -170,7 +178,7 @@ pull-unit limit n m e few h =
 
 -- the ratio of a decomposition that passes the test, for vectors below 2 in size
 ratio-small : (limit n : ℕ) (a : Matrix) → 0 < n → n ≤ maxSide → limit ≤ maxSweeps → singular n (decompose limit n a) ≡ false → (x y : List Float)
-    → ((i : ℕ) → i < n → T (fits binary64 (nth y i)) × T (isFinite (nth y i)) × (mag (nth y i) ≤ 2 ^ 1075))
+    → ((i : ℕ) → i < n → T (fits binary64 (nth y i)) × T (isFinite (nth y i)) × (mag (nth y i) ≤ 2 ^ suc oneBits))
     → T (isFinite (ratioOf n (decompose limit n a) x y)) → mag (ratioOf n (decompose limit n a) x y) ≤ 2 ^ ratioMost
 unfolding form singular
 ratio-small limit zero a p few short test x y hy F = absurd (lt-irrefl 0 p)
@@ -182,7 +190,7 @@ ratio-small limit (suc n) a p few short test x y hy F =
     projected : (x : List Float) (e : ℕ) → e < suc n → T (fits binary64 (nth (project (suc n) (decompose limit (suc n) a) (nth x)) e))
     projected x e l = unfold project in rw (nth-tab (suc n) (λ e. sumTo (suc n) (λ i. at (decompose limit (suc n) a .vectors) (suc n) i e ⊗ nth x i)) e nan l) (sum-fits (suc n) (λ i. at (decompose limit (suc n) a .vectors) (suc n) i e ⊗ nth x i))
 
-module _ {k n P : ℕ} {x y : Matrix} (small : k ≤ maxPower) (r : Returns k n P returnGrain returnLeast returnMost x y) (tops : (i : ℕ) → i < n → over (exponentsOf P n y i) ≤ returnRange) (limit : ℕ) (p : Passed limit n (found P n x) (sizeOf P n x)) where
+module _ {k n P : ℕ} {x y : Matrix} (small : k ≤ maxPower) (r : Returns k n P returnBounds x y) (tops : (i : ℕ) → i < n → over (exponentsOf P n y i) ≤ exponentAbove returnBounds) (limit : ℕ) (p : Passed limit n (found P n x) (sizeOf P n x)) where
   abbrev m' : Moments
   m' = found P n x
 
@@ -195,18 +203,18 @@ module _ {k n P : ℕ} {x y : Matrix} (small : k ≤ maxPower) (r : Returns k n 
   abbrev d : Decomposition
   d = taken limit n (found P n x)
 
-  a-small : Within (34 + suc returnRange) (21 + returnRange) (aOf n (found P n x) (exponentsOf P n x))
-  a-small = common-in (inverse n m') (λ i. negℤ (e i)) (Within (34 + suc returnRange) (21 + returnRange)) n (none-small (34 + suc returnRange) (21 + returnRange)) (λ i l.
+  a-small : Within onesAbove onesBelow (aOf n (found P n x) (exponentsOf P n x))
+  a-small = common-in (inverse n m') (λ i. negℤ (e i)) (Within onesAbove onesBelow) n (none-small onesAbove onesBelow) (λ i l.
       plus-small (binaryExponent (inverse n m' i)) (negℤ (e i)) (inverse-exponent small r i l (p .above i l)) (neg-small (e i) (exponent-small small r i l (p .above i l))))
 
-  a'-small : under (aOf n (found P n x) (exponentsOf P n y)) ≤ 21 + returnRange
-  a'-small = common-in (inverse n m') (λ i. negℤ (f i)) (λ z. under z ≤ 21 + returnRange) n (none-small 0 (21 + returnRange) .1) (λ i l.
+  a'-small : under (aOf n (found P n x) (exponentsOf P n y)) ≤ onesBelow
+  a'-small = common-in (inverse n m') (λ i. negℤ (f i)) (λ z. under z ≤ onesBelow) n (none-small 0 onesBelow .1) (λ i l.
       let b = binaryExponent (inverse n m' i) in
       let q = inverse-exponent small r i l (p .above i l) in
       omega (arith, plus b (negℤ (f i)), one-side (b +ℤ negℤ (f i)), over-neg (f i), under-neg (f i), tops i l, q))
 
-  b-small : Within 47 165 (bOf n (found P n x))
-  b-small = common-in (share n m') (λ i. pos 0) (Within 47 165) n (none-small 47 165) (λ i l. plus-small (binaryExponent (share n m' i)) (pos 0) (share-exponent small r i l (p .above i l)) (none-small 0 0))
+  b-small : Within meansAbove meansBelow (bOf n (found P n x))
+  b-small = common-in (share n m') (λ i. pos 0) (Within meansAbove meansBelow) n (none-small meansAbove meansBelow) (λ i l. plus-small (binaryExponent (share n m' i)) (pos 0) (share-exponent small r i l (p .above i l)) (none-small 0 0))
 
   lower : aOf n (found P n x) (exponentsOf P n y) +ℤ pos k ≡ aOf n (found P n x) (exponentsOf P n x)
   lower = common-lower (inverse n m') e f k n (r .assets) (λ i l. grows small r i l (p .above i l)) (λ i l. inverse-some small r i l (p .above i l))
@@ -220,14 +228,14 @@ module _ {k n P : ℕ} {x y : Matrix} (small : k ≤ maxPower) (r : Returns k n 
       (let g = grows small r i l (p .above i l) in omega (arith, minus (negℤ (f i)) B, minus (negℤ (e i)) A, over-neg (f i), under-neg (f i), over-neg (e i), under-neg (e i), plus (e i) (pos k), plus B (pos k), ap over g, ap under g, ap over lower, ap under lower))))
 
   -- ---- the ratio
-  means-small : (i : ℕ) → i < n → T (fits binary64 (nth (means n (found P n x)) i)) × T (isFinite (nth (means n (found P n x)) i)) × (mag (nth (means n (found P n x)) i) ≤ 2 ^ 1075)
+  means-small : (i : ℕ) → i < n → T (fits binary64 (nth (means n (found P n x)) i)) × T (isFinite (nth (means n (found P n x)) i)) × (mag (nth (means n (found P n x)) i) ≤ 2 ^ suc oneBits)
   unfolding gathered over under
   means-small i l =
       let b = bOf n m' in
       let j = pos 0 -ℤ b in
       let z = share n m' i in
       let c = b-small in
-      let q = below-two 1121 z (share-range small r i l (p .above i l)) j (omega (arith, minus (pos 0) b, one-side j)) (omega (arith, minus (pos 0) b, one-side j)) (λ s.
+      let q = below-two (meanShareBounds .most) z (share-range small r i l (p .above i l)) j (omega (arith, minus (pos 0) b, one-side j)) (omega (arith, minus (pos 0) b, one-side j)) (λ s.
       let w = common-above (share n m') (λ i. pos 0) n i l (eq-zero z (share-range small r i l (p .above i l) .fit) (share-range small r i l (p .above i l) .finite) ∙ ne-eqb (mag z) 0 (λ e. lt-irrefl 0 (subst (λ (n : ℕ). 0 < n) e s))) in
       omega (arith, plus (binaryExponent z) j, minus (pos 0) b, plus (binaryExponent z) (pos 0), w)) in
       rw (nth-tab n (λ i. pow2Scaled (share n m' i) (pos 0 -ℤ b)) i nan l) (scaled-fits z j, q .0, q .1)
@@ -242,21 +250,21 @@ module _ {k n P : ℕ} {x y : Matrix} (small : k ≤ maxPower) (r : Returns k n 
   R-fits = div-fits binary64 (form n d (project n d (nth (ones n m' e))) (project n d (nth (means n m')))) (form n d (project n d (nth (ones n m' e))) (project n d (nth (ones n m' e))))
 
   -- ---- the target
-  -- of the ratio, scaled by 2 ^ S
+  -- the ratio, scaled by 2 ^ S: the larger the first run's power, the less is left for the second's
   abbrev targetMost : ℕ
-  targetMost = ratioMost + (47 + (21 + returnRange))
+  targetMost = ratioMost + targetAbove - k
 
   abbrev S : ℤ
   S = bOf n (found P n x) -ℤ aOf n (found P n x) (exponentsOf P n x)
 
-  S-small : Within (47 + (21 + returnRange)) (165 + (34 + suc returnRange)) S
+  S-small : Within targetAbove targetBelow S
   S-small = (omega (arith, minus (bOf n m') (aOf n m' e), one-side S, a-small, b-small), omega (arith, minus (bOf n m') (aOf n m' e), one-side S, a-small, b-small))
 
   S-moves : bOf n (found P n x) -ℤ aOf n (found P n x) (exponentsOf P n y) ≡ S +ℤ pos k
   unfolding over under
   S-moves = same (bOf n m' -ℤ aOf n m' f) (S +ℤ pos k) (omega (arith, minus (bOf n m') (aOf n m' f), minus (bOf n m') (aOf n m' e), plus S (pos k), plus (aOf n m' f) (pos k), ap over lower, ap under lower))
 
-  S'-small : Within (47 + (21 + returnRange)) (165 + (34 + suc returnRange)) (S +ℤ pos k)
+  S'-small : Within targetAbove targetBelow (S +ℤ pos k)
   unfolding over under
   S'-small = (omega (arith, ap over S-moves, minus (bOf n m') (aOf n m' f), one-side (bOf n m' -ℤ aOf n m' f), a'-small, b-small), omega (arith, plus S (pos k), one-side (S +ℤ pos k), S-small))
 
@@ -272,10 +280,8 @@ module _ {k n P : ℕ} {x y : Matrix} (small : k ≤ maxPower) (r : Returns k n 
   scaled-moved : (z : Float) → R ≡ z → AtLeast meanRange (pow2Scaled R S) → AtLeast meanRange (pow2Scaled R (S +ℤ pos k)) → pow2Scaled R (S +ℤ pos k) ≡ shift (pos k) (pow2Scaled R S)
   scaled-moved nan q a b = rw (q, nan-scaled (S +ℤ pos k), nan-scaled S, shift-nan (pos k))
   scaled-moved (inf s) q a b =
-      let c = S-small in
-      let c' = S'-small in
-      ap (λ (z : Float). pow2Scaled z (S +ℤ pos k)) q ∙ inf-scaled s (S +ℤ pos k) (le-trans (c' .0) (lit≤ tt)) (le-trans (c' .1) (lit≤ tt)) ∙ sym (endless s)
-      ∙ ap (shift (pos k)) (sym (ap (λ (z : Float). pow2Scaled z S) q ∙ inf-scaled s S (le-trans (c .0) (lit≤ tt)) (le-trans (c .1) (lit≤ tt))))
+      ap (λ (z : Float). pow2Scaled z (S +ℤ pos k)) q ∙ inf-scaled s (S +ℤ pos k) ∙ sym (endless s)
+      ∙ ap (shift (pos k)) (sym (ap (λ (z : Float). pow2Scaled z S) q ∙ inf-scaled s S))
   scaled-moved (fin s c w) q a b =
       let F : T (isFinite R) = subst (λ (z : Float). T (isFinite z)) (sym q) (unfold isFinite in tt) in
       tied R R-fits F ratioMost (R-small F) S k small (le-trans (S-small .1) (lit≤ tt)) (le-trans (S-small .0) (lit≤ tt)) (let c = S'-small in omega arith) a b
@@ -287,20 +293,20 @@ module _ {k n P : ℕ} {x y : Matrix} (small : k ≤ maxPower) (r : Returns k n 
   target-moved a b = target'-is ∙ scaled-moved R refl (subst (AtLeast meanRange) target-is a) (subst (AtLeast meanRange) target'-is b) ∙ ap (shift (pos k)) (sym target-is)
 
   -- a finite target's range: 0, or from 2 ^ -400, and not so large that it overflows in either run
-  target-range : AtLeast meanRange (bayesStein n limit (found P n x) (exponentsOf P n x) .target) → T (isFinite (bayesStein n limit (found P n x) (exponentsOf P n x) .target)) → Range meanGrain (2 ^ meanLeast) (2 ^ (targetMost - k)) (bayesStein n limit (found P n x) (exponentsOf P n x) .target)
+  target-range : AtLeast meanRange (bayesStein n limit (found P n x) (exponentsOf P n x) .target) → T (isFinite (bayesStein n limit (found P n x) (exponentsOf P n x) .target)) → Bounded (sizes (meanIntensityBounds .least) targetMost) (bayesStein n limit (found P n x) (exponentsOf P n x) .target)
   target-range a F = rw target-is (go (subst (AtLeast meanRange) target-is a) (subst (λ (z : Float). T (isFinite z)) target-is F))
     where
-      go : AtLeast meanRange (pow2Scaled R S) → T (isFinite (pow2Scaled R S)) → Range meanGrain (2 ^ meanLeast) (2 ^ (targetMost - k)) (pow2Scaled R S)
+      go : AtLeast meanRange (pow2Scaled R S) → T (isFinite (pow2Scaled R S)) → Bounded (sizes (meanIntensityBounds .least) targetMost) (pow2Scaled R S)
       go a F =
           let c = S-small in
-          let e = one-step R S (le-trans (c .0) (lit≤ tt)) (le-trans (c .1) (lit≤ tt)) in
+          let e = scaled-once R S (le-trans (c .0) (lit≤ tt)) (le-trans (c .1) (lit≤ tt)) in
           let q = mul-finite R (pow2 S) (subst (λ (z : Float). T (isFinite z)) e F) in
-          let w = pow2-val S (1074 + over S - under S) (omega arith) in
-          let most : mag (pow2Scaled R S) ≤ 2 ^ (targetMost - k) = rw (e, product-is R (pow2 S) R-fits (pow2-fits S (le-trans (c .0) (lit≤ tt)) (le-trans (c .1) (lit≤ tt))) (subst (λ (z : Float). T (isFinite z)) e F), val-mag (pow2 S) false (2 ^ (1074 + over S - under S)) w .1)
-          (near-most (mag R * 2 ^ (1074 + over S - under S)) U (2 ^ (targetMost - k)) U-pos (held-pow (targetMost - k)) (le-trans (mul-le-mul-right (2 ^ (1074 + over S - under S)) (R-small (q .0))) (pow-le-U ratioMost (1074 + over S - under S) (targetMost - k) (omega (arith, room))))) in
-          range-size meanGrain (2 ^ (targetMost - k)) (pow2Scaled R S) (scaled-fits R S) F (at-least meanRange (lit≤ tt) (pow2Scaled R S) (mag-val (pow2Scaled R S) (scaled-fits R S) F) a) most
+          let w = pow2-val S (oneBits + over S - under S) (omega arith) in
+          let most : mag (pow2Scaled R S) ≤ 2 ^ targetMost = rw (e, product-is R (pow2 S) R-fits (pow2-fits S (le-trans (c .0) (lit≤ tt)) (le-trans (c .1) (lit≤ tt))) (subst (λ (z : Float). T (isFinite z)) e F), val-mag (pow2 S) false (2 ^ (oneBits + over S - under S)) w .1)
+          (near-most (mag R * 2 ^ (oneBits + over S - under S)) U (2 ^ targetMost) U-pos (held-pow targetMost) (le-trans (mul-le-mul-right (2 ^ (oneBits + over S - under S)) (R-small (q .0))) (pow-le-U ratioMost (oneBits + over S - under S) targetMost (omega (arith, room))))) in
+          range-size (meanIntensityBounds .least) (2 ^ targetMost) (pow2Scaled R S) (lit≤ tt) (scaled-fits R S) F (at-least meanRange (lit≤ tt) (pow2Scaled R S) (mag-val (pow2Scaled R S) (scaled-fits R S) F) a) most
         where
-          room : over S + k ≤ 47 + (21 + returnRange) + under S
+          room : over S + k ≤ targetAbove + under S
           room = unfold over under in omega (arith, plus S (pos k), one-side (S +ℤ pos k), S'-small)
 
   -- ---- the intensity
@@ -321,23 +327,26 @@ module _ {k n P : ℕ} {x y : Matrix} (small : k ≤ maxPower) (r : Returns k n 
     abbrev t : Float
     t = bayesStein n limit (found P n x) (exponentsOf P n x) .target
 
-    part : Moved k 385 385 1128 (pow2Scaled ((one ⊖ α) ⊗ nth (found P n x .mean) i) (exponentsOf P n x i)) (pow2Scaled ((one ⊖ α) ⊗ nth (found P n x .mean) i) (exponentsOf P n y i))
+    part : Moved k (scaledBackOf leftMeanBounds) (pow2Scaled ((one ⊖ α) ⊗ nth (found P n x .mean) i) (exponentsOf P n x i)) (pow2Scaled ((one ⊖ α) ⊗ nth (found P n x .mean) i) (exponentsOf P n y i))
     part =
-        let rest = moved-sub (moved-weaken meanGrain meanLeast 1074 (lit≤ tt) (lit≤ tt) (lit≤ tt) one-moved) (still meanLeast 1074 a) (lit≤ tt) in
-        let q = moved-mul rest (still 930 1087 (μ-range small r i l)) 426 426 1088 (lit≤ tt) (lit≤ tt) (lit≤ tt) (lit≤ tt) .range in
+        let rest = moved-sub meanIntensityBounds tt tt one-moved (still meanIntensityBounds a) (lit≤ tt) in
+        let q = moved-mul rest (still unitMeanBounds (μ-range small r i l)) (lit≤ tt) (lit≤ tt) .range in
         let c = exponent-small small r i l (p .above i l) in
         let j = exponentsOf P n x i in
         let z = (one ⊖ α) ⊗ nth (m' .mean) i in
         record {
-          range = scaled-range 1088 j returnRange (suc returnRange) q (c .0) (c .1) (lit≤ tt) (lit≤ tt);
-          copy = ap (pow2Scaled z) (grows small r i l (p .above i l)) ∙ scaled-copy j (pos k) z (q .fit) (fits-move 1088 z q j (omega arith) (omega arith)) (fits-move 1088 z q (j +ℤ pos k) (unfold over under in omega (arith, plus j (pos k), one-side (j +ℤ pos k))) (unfold over under in omega (arith, plus j (pos k), one-side (j +ℤ pos k))));
+          range = scaled-range leftMeanBounds j (exponentAbove returnBounds) (exponentBelow returnBounds) q (c .0) (c .1) (lit≤ tt) (lit≤ tt);
+          copy = ap (pow2Scaled z) (grows small r i l (p .above i l)) ∙ scaled-copy j (pos k) z (q .fit) (fits-move (leftMeanBounds .most) z q j (omega arith) (omega arith))
+              (fits-move (leftMeanBounds .most) z q (j +ℤ pos k) (unfold over under in omega (arith, plus j (pos k), one-side (j +ℤ pos k))) (unfold over under in omega (arith, plus j (pos k), one-side (j +ℤ pos k))));
         }
 
     mean-finite : AtLeast meanRange t → T (isFinite t) → (t' : Float) → t' ≡ shift (pos k) t → pow2Scaled ((one ⊖ α) ⊗ nth (found P n x .mean) i) (exponentsOf P n y i) ⊕ α ⊗ t' ≡ shift (pos k) (pow2Scaled ((one ⊖ α) ⊗ nth (found P n x .mean) i) (exponentsOf P n x i) ⊕ α ⊗ t)
     mean-finite b F t' e =
-        let w : Moved k meanGrain meanLeast (targetMost - k) t t' = record { range = target-range b F; copy = e } in
-        let q = rw (zero-add k) at (moved-mul (still meanLeast 1074 a) w 170 170 (targetMost - k) (lit≤ tt) (lit≤ tt) (omega arith) (omega arith)) in
-        moved-add (moved-weaken 170 170 (targetMost - k) (lit≤ tt) (lit≤ tt) (omega arith) part) q (omega arith) .copy
+        let c = sizes (meanIntensityBounds .least) targetMost in
+        let d = productOf meanIntensityBounds c in
+        let w : Moved k c t t' = record { range = target-range b F; copy = e } in
+        let q = rw (zero-add k) at (moved-mul (still meanIntensityBounds a) w (lit≤ tt) (omega arith)) in
+        moved-add d (is-covered d (scaledBackOf leftMeanBounds) (lit≤ tt) (omega arith)) (is-covered d d (le-refl (d .grain)) (le-refl (d .most))) part q (omega arith) .copy
 
     mean-endless : (T (isFinite t) → ⊥) → (t' : Float) → t' ≡ shift (pos k) t → pow2Scaled ((one ⊖ α) ⊗ nth (found P n x .mean) i) (exponentsOf P n y i) ⊕ α ⊗ t' ≡ shift (pos k) (pow2Scaled ((one ⊖ α) ⊗ nth (found P n x .mean) i) (exponentsOf P n x i) ⊕ α ⊗ t)
     mean-endless F t' e =

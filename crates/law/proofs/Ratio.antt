@@ -1,5 +1,5 @@
--- The Bayes-Stein ratio N / D, with N the sum of p m / λ and D the sum of p p / λ over the columns of V, is NaN, infinite or at most 2 ^ 909: so scaled by a power of two that is small enough it is
--- finite in both runs or in none. V's entries are at most 2 ^ 300 in size, what it is multiplied with at most 2, and the smallest value λ is above n 2 ^ -52 times the largest, Λ. Where D is
+-- The Bayes-Stein ratio N / D, with N the sum of p m / λ and D the sum of p p / λ over the columns of V, is NaN, infinite or at most 2 ^ ratioMost units, some 2 ^ 909: so scaled by a power of two that
+-- is small enough it is finite in both runs or in none. V's entries are at most 2 ^ 300 in size, what it is multiplied with at most 2, and the smallest value λ is above n 2 ^ -52 times the largest, Λ. Where D is
 -- finite and not zero, every λ is above 0, and at least 2 ^ -53 Λ. With P the largest p in size, N is at most 2 ^ 367 P / Λ; and D is at least P P / 16 Λ where that is a unit or more, and else 1 / 4 Λ
 -- at least, in units. Both bounds give the ratio's, and no lower bound on V or Λ is needed. Assumes nothing.
 use mathlib.Core.Path.{_≡_, refl, sym, ap, ap₂, _∙_, subst, subst₂}
@@ -20,25 +20,44 @@ use Rattle.leaves.proofs.Whole.{le-or-lt}
 use borrow.Author.Tests.{lt-ltb, le-ltb, ltb-true, ltb-false}
 use Rattle.leaves.specs.Numbers.{_⊕_, _⊗_, _⊘_, ε, count, isFinite, larger, smaller}
 use Rattle.leaves.specs.Loops.{loop, sumTo, minTo, maxTo}
-use Rattle.leaves.proofs.Rounding.{near, Near, near-most, near-error, near-held, held-small, held-times}
-use Rattle.leaves.proofs.Units.{val-pos, U, U-pos, Top, pow-under-Top, Val, zero-mag, sign, mag, val-mag, mag-val, mag-held, finite-fin, fin-val, fin-under-Top, rounded, finite-mag, rounded-val, lt-val}
-use Rattle.leaves.proofs.Arithmetic.{sumSign, total, total-le, add-finite, mul-finite, div-finite, add-rounded, mul-rounded, div-rounded}
-use Rattle.leaves.proofs.Range.{count-val, range-most}
-use Rattle.leaves.proofs.Operations.{still}
+use Rattle.leaves.proofs.Rounding.{near, Near, near-most, near-error, near-held, held-times}
+use Rattle.leaves.proofs.Units.{oneBits, topBits, fractionBits, val-pos, U, U-pos, Top, pow-under-Top, Val, zero-mag, sign, mag, val-mag, mag-val, mag-held, finite-fin, fin-val, fin-under-Top, finite-mag, rounded-val, lt-val}
+use Rattle.leaves.proofs.Arithmetic.{add-finite, mul-finite, div-finite, mul-rounded, div-rounded}
+use Rattle.leaves.proofs.Range.{count-val, range-most, range-null}
+use Rattle.leaves.proofs.Bounds.{multiples, sumOf, only-zero}
+use Rattle.leaves.proofs.Operations.{Moved, still, moved-add}
 use Rattle.leaves.proofs.Signs.{sign-mul, sign-div}
 use Rattle.leaves.proofs.Totals.{moved-sum}
 use Rattle.matrix.specs.Limits.{maxSide}
+use Rattle.matrix.proofs.Turn.{limitBits}
 use Rattle.law.proofs.Bits.{sideBits, side-bits}
+use Rattle.law.proofs.Ranges.{zeroBounds}
 use Rattle.law.proofs.Sizes.{over-inf, number, val-number, le-or}
 use Rattle.law.proofs.Weighted.{sum-fits, sum-least}
 
--- what V is multiplied with, projected: a sum of products of at most 2 ^ 301
-abbrev pub projectedMost : ℕ
-projectedMost = sideBits + 1375
+-- a product of an entry of V and a number below 2, and a projection, which is a sum of such
+abbrev pub turnedMost : ℕ
+turnedMost = suc limitBits
 
--- 2 ^ 909, in units
+abbrev pub projectedMost : ℕ
+projectedMost = sideBits + turnedMost
+
+-- a term of N is at most 2 ^ termMost P / Λ, N itself 2 ^ numeratorMost P / Λ
+abbrev termMost : ℕ
+termMost = 3 + fractionBits + projectedMost
+
+abbrev numeratorMost : ℕ
+numeratorMost = suc sideBits + termMost
+
+-- P in units is at most 2 ^ divisorMost D Λ; the root of a unit is 2 ^ rootBits units
+abbrev rootBits : ℕ
+rootBits = oneBits / 2
+
+abbrev divisorMost : ℕ
+divisorMost = 4 + rootBits
+
 abbrev pub ratioMost : ℕ
-ratioMost = 1983
+ratioMost = suc numeratorMost + divisorMost
 
 -- ---- one operation's size
 module _ (x y : Float) (fx : T (fits binary64 x)) (fy : T (fits binary64 y)) where
@@ -66,8 +85,8 @@ sum-finite (suc n) f h t l =
     elim (eq-or-lt-of-le (le-of-suc-le-suc l)) [ inl e ↦ subst (λ (i : ℕ). T (isFinite (f i))) (sym e) (q .1) | inr i ↦ sum-finite n f (q .0) t i ]
 
 -- at most 2 ^ h units each
-pub sum-most : (n h : ℕ) (f : ℕ → Float) → n ≤ maxSide → sideBits + h ≤ 2097 → ((t : ℕ) → t < n → T (fits binary64 (f t)) × T (isFinite (f t)) × (mag (f t) ≤ 2 ^ h)) → mag (sumTo n f) ≤ 2 ^ (sideBits + h)
-sum-most n h f few o each = moved-sum 0 0 h n sideBits (side-bits few) (lit≤ tt) (rw (add-zero (sideBits + h)) o) 0 f f (λ t l. let q = each t l in still 0 h (range-most (f t) (q .0) (q .1) (q .2))) .range .most
+pub sum-most : (n h : ℕ) (f : ℕ → Float) → n ≤ maxSide → sideBits + h ≤ topBits → ((t : ℕ) → t < n → T (fits binary64 (f t)) × T (isFinite (f t)) × (mag (f t) ≤ 2 ^ h)) → mag (sumTo n f) ≤ 2 ^ (sideBits + h)
+sum-most n h f few o each = moved-sum 0 (multiples 0 h) n sideBits (side-bits few) (lit≤ tt) (rw (add-zero (sideBits + h)) o) f f (λ t l. let q = each t l in still (multiples 0 h) (range-most (f t) (q .0) (q .1) (q .2))) .range .most
 
 -- zeros sum to zero, so a sum that is not zero has a term that is not
 sum-some : (n : ℕ) (f : ℕ → Float) → ((t : ℕ) → t < n → T (fits binary64 (f t))) → T (isFinite (sumTo n f)) → 0 < mag (sumTo n f) → (t : ℕ) × (t < n) × (0 < mag (f t))
@@ -83,11 +102,9 @@ sum-some (suc n) f h F p =
   where
     both : (x y : Float) → T (fits binary64 x) → T (fits binary64 y) → T (isFinite x) → T (isFinite y) → mag x ≡ 0 → mag y ≡ 0 → 0 < mag (x ⊕ y) → ⊥
     both x y fx fy nx ny zx zy p =
-        let e = add-rounded x y (sign x) (sign y) 0 0 (subst (Val x (sign x)) zx (mag-val x fx nx)) (subst (Val y (sign y)) zy (mag-val y fy ny)) in
-        let n : total (sign x) 0 (sign y) 0 ≤ 0 = le-trans (total-le (sign x) (sign y) 0 0) (lit≤ tt) in
-        let m = near-most (total (sign x) 0 (sign y) 0) 1 0 (lit< tt) (held-small 0 (lit< tt)) (le-trans n (lit≤ tt)) in
-        let v = rounded-val (sumSign (sign x) 0 (sign y) 0) (total (sign x) 0 (sign y) 0) 1 (lit< tt) (lt-of-le-of-lt m (lt-of-le-of-lt zero-le (pow-under-Top 0 (lit≤ tt)))) in
-        lt-irrefl 0 (lt-of-lt-of-le p (le-trans (le-of-eq (ap mag e ∙ val-mag (rounded (sumSign (sign x) 0 (sign y) 0) (total (sign x) 0 (sign y) 0) 1) (sumSign (sign x) 0 (sign y) 0) (near (total (sign x) 0 (sign y) 0) 1) v .1)) m))
+        let b = zeroBounds in
+        let null : (z : Float) → T (fits binary64 z) → T (isFinite z) → mag z ≡ 0 → Moved 0 zeroBounds z z = λ z t f e. still b (range-null z t f e (b .grain) (2 ^ b .least) (2 ^ b .most)) in
+        lt-irrefl 0 (subst (λ (n : ℕ). 0 < n) (only-zero (sumOf 1 b) (lit< tt) (moved-add b tt tt (null x fx nx zx) (null y fy ny zy) (lit≤ tt) .range)) p)
 
 -- ---- the order of values that are not NaN, by a number for each
 unfoldable key : Float → ℕ
@@ -140,21 +157,22 @@ le-key x y fx fy p q h = ltb-true (key y) (key x) (sym (lt-key y x fy fx q p) �
 abbrev Fine : Float → Type 0
 Fine x = T (fits binary64 x) × T (number x)
 
+-- of two, the one that a test takes stands to both as the test says
+chosen-key : (R : ℕ → ℕ → Type 0) → ((a : ℕ) → R a a) → (m x : Float) → Fine m → Fine x → (c : Bool) → (c ≡ true → R (key x) (key m)) → (c ≡ false → R (key m) (key x)) → Fine (cond c x m) × R (key (cond c x m)) (key m) × R (key (cond c x m)) (key x)
+chosen-key R itself m x a b true f g = (b, f refl, itself (key x))
+chosen-key R itself m x a b false f g = (a, itself (key m), g refl)
+
 larger-key : (m x : Float) → Fine m → Fine x → Fine (larger m x) × (key m ≤ key (larger m x)) × (key x ≤ key (larger m x))
 unfolding larger
-larger-key m x a b = go (lt m x) (lt-key m x (a .0) (b .0) (a .1) (b .1))
-  where
-    go : (c : Bool) → c ≡ ltb (key m) (key x) → Fine (cond c x m) × (key m ≤ key (cond c x m)) × (key x ≤ key (cond c x m))
-    go true e = (b, le-of-lt (ltb-true (key m) (key x) (sym e)), le-refl (key x))
-    go false e = (a, le-refl (key m), ltb-false (key m) (key x) (sym e))
+larger-key m x a b =
+    let e = lt-key m x (a .0) (b .0) (a .1) (b .1) in
+    chosen-key (λ k l. l ≤ k) le-refl m x a b (lt m x) (λ t. le-of-lt (ltb-true (key m) (key x) (sym e ∙ t))) (λ t. ltb-false (key m) (key x) (sym e ∙ t))
 
 smaller-key : (m x : Float) → Fine m → Fine x → Fine (smaller m x) × (key (smaller m x) ≤ key m) × (key (smaller m x) ≤ key x)
 unfolding smaller
-smaller-key m x a b = go (lt x m) (lt-key x m (b .0) (a .0) (b .1) (a .1))
-  where
-    go : (c : Bool) → c ≡ ltb (key x) (key m) → Fine (cond c x m) × (key (cond c x m) ≤ key m) × (key (cond c x m) ≤ key x)
-    go true e = (b, le-of-lt (ltb-true (key x) (key m) (sym e)), le-refl (key x))
-    go false e = (a, le-refl (key m), ltb-false (key x) (key m) (sym e))
+smaller-key m x a b =
+    let e = lt-key x m (b .0) (a .0) (b .1) (a .1) in
+    chosen-key (λ k l. k ≤ l) le-refl m x a b (lt x m) (λ t. le-of-lt (ltb-true (key x) (key m) (sym e ∙ t))) (λ t. ltb-false (key x) (key m) (sym e ∙ t))
 
 module _ (f : ℕ → Float) (n : ℕ) (fit : (t : ℕ) → t < suc n → T (fits binary64 (f t))) (nums : (t : ℕ) → t < suc n → T (number (f t))) where
   -- the loop's number stands to each as a step's does
@@ -170,14 +188,17 @@ module _ (f : ℕ → Float) (n : ℕ) (fit : (t : ℕ) → t < suc n → T (fit
       (q .0, λ t l. elim (eq-or-lt-of-le (le-of-suc-le-suc l)) [ inl e ↦ subst (λ (i : ℕ). R (key (pick m (f k))) (key (f i))) (sym e) (q .2) | inr i ↦ trans (key (pick m (f k))) (key m) (key (f t)) (q .1) (r .1 t i) ])
 
 -- ---- values that pass the test of Bayes and Stein
--- n 2 ^ -52
-tiny : (n : ℕ) → n ≤ maxSide → Val (count n ⊗ ε) false (n * 2 ^ 1022)
+-- 2 ^ -52, in units, and n of them
+abbrev tinyBits : ℕ
+tinyBits = oneBits - fractionBits
+
+tiny : (n : ℕ) → n ≤ maxSide → Val (count n ⊗ ε) false (n * 2 ^ tinyBits)
 tiny n few =
-    let e : near (n * U * 2 ^ 1022) U ≡ n * 2 ^ 1022 = ap (λ (z : ℕ). near z U) (mul-right-comm n U (2 ^ 1022)) ∙ near-held (n * 2 ^ 1022) U U-pos (held-times n 1022 (lt-of-le-of-lt few (lit< tt))) in
-    let ε-val : Val ε false (2 ^ 1022) = unfold U in (refl, refl) in
-    let top : n * 2 ^ 1022 < Top = lt-of-le-of-lt (mul-le-mul-right (2 ^ 1022) few) (unfold Top in lit< tt) in
-    subst₂ (λ (z : Float) (a : ℕ). Val z false a) (sym (mul-rounded (count n) ε false false (n * U) (2 ^ 1022) (count-val n (le-trans few (lit≤ tt))) ε-val)) e
-    (rounded-val false (n * U * 2 ^ 1022) U U-pos (subst (λ (a : ℕ). a < Top) (sym e) top))
+    let e : near (n * U * 2 ^ tinyBits) U ≡ n * 2 ^ tinyBits = ap (λ (z : ℕ). near z U) (mul-right-comm n U (2 ^ tinyBits)) ∙ near-held (n * 2 ^ tinyBits) U U-pos (held-times n tinyBits (lt-of-le-of-lt few (lit< tt))) in
+    let ε-val : Val ε false (2 ^ tinyBits) = unfold U in (refl, refl) in
+    let top : n * 2 ^ tinyBits < Top = lt-of-le-of-lt (mul-le-mul-right (2 ^ tinyBits) few) (unfold Top in lit< tt) in
+    subst₂ (λ (z : Float) (a : ℕ). Val z false a) (sym (mul-rounded (count n) ε false false (n * U) (2 ^ tinyBits) (count-val n (le-trans few (lit≤ tt))) ε-val)) e
+    (rounded-val false (n * U * 2 ^ tinyBits) U U-pos (subst (λ (a : ℕ). a < Top) (sym e) top))
 
 pub record Positive (n : ℕ) (v : ℕ → Float) : Type 0 where
   pub L : ℕ
@@ -186,7 +207,7 @@ pub record Positive (n : ℕ) (v : ℕ → Float) : Type 0 where
   pub plus : (e : ℕ) → e < n → sign (v e) ≡ false
   pub above : (e : ℕ) → e < n → 0 < mag (v e)
   pub most : (e : ℕ) → e < n → mag (v e) ≤ L
-  pub least : (e : ℕ) → e < n → L ≤ 9007199254740992 * mag (v e)
+  pub least : (e : ℕ) → e < n → L ≤ 2 ^ suc fractionBits * mag (v e)
 
 -- by the largest, Λ
 module _ (n : ℕ) (few : suc n ≤ maxSide) (v : ℕ → Float) (fit : (e : ℕ) → e < suc n → T (fits binary64 (v e))) (nums : (e : ℕ) → e < suc n → T (number (v e))) where
@@ -198,10 +219,10 @@ module _ (n : ℕ) (few : suc n ≤ maxSide) (v : ℕ → Float) (fit : (e : ℕ
       bar-is : (s : Bool) → count (suc n) ⊗ ε ⊗ inf s ≡ inf s
       bar-is s = nonzero (count (suc n) ⊗ ε) (tiny (suc n) few)
         where
-          nonzero : (c : Float) → Val c false (suc n * 2 ^ 1022) → c ⊗ inf s ≡ inf s
+          nonzero : (c : Float) → Val c false (suc n * 2 ^ tinyBits) → c ⊗ inf s ≡ inf s
           nonzero nan w = absurd w
           nonzero (inf r) w = absurd w
-          nonzero (fin r zero e) w = absurd (lt-irrefl 0 (subst (λ (a : ℕ). 0 < a) (sym (val-mag (fin r zero e) false (suc n * 2 ^ 1022) w .1) ∙ zero-mag r e) (mul-pos (zero-lt-suc n) (pow-pos 1022))))
+          nonzero (fin r zero e) w = absurd (lt-irrefl 0 (subst (λ (a : ℕ). 0 < a) (sym (val-mag (fin r zero e) false (suc n * 2 ^ tinyBits) w .1) ∙ zero-mag r e) (mul-pos (zero-lt-suc n) (pow-pos tinyBits))))
           nonzero (fin r (suc k) e) w = unfold mul in rw (w .0, eqb·suc-zero k) (same s)
             where
               same : (s : Bool) → inf (unlike false s) ≡ inf s
@@ -219,18 +240,18 @@ module _ (n : ℕ) (few : suc n ≤ maxSide) (v : ℕ → Float) (fit : (e : ℕ
       bar = count (suc n) ⊗ ε ⊗ fin s c e
 
       a : ℕ
-      a = suc n * 2 ^ 1022
+      a = suc n * 2 ^ tinyBits
 
-      a-most : suc n * 2 ^ 1022 ≤ U
-      a-most = le-trans (mul-le-mul-right (2 ^ 1022) few) (unfold U in lit≤ tt)
+      a-most : suc n * 2 ^ tinyBits ≤ U
+      a-most = le-trans (mul-le-mul-right (2 ^ tinyBits) few) (unfold U in lit≤ tt)
 
       B : ℕ
-      B = near (suc n * 2 ^ 1022 * mag (fin s c e)) U
+      B = near (suc n * 2 ^ tinyBits * mag (fin s c e)) U
 
-      B-most : near (suc n * 2 ^ 1022 * mag (fin s c e)) U ≤ mag (fin s c e)
-      B-most = near-most (suc n * 2 ^ 1022 * L) U L U-pos (mag-held Λ t (finite-fin s c e) .0) (le-trans (mul-le-mul-right L a-most) (le-of-eq (mul-comm U L)))
+      B-most : near (suc n * 2 ^ tinyBits * mag (fin s c e)) U ≤ mag (fin s c e)
+      B-most = near-most (suc n * 2 ^ tinyBits * L) U L U-pos (mag-held Λ t (finite-fin s c e) .0) (le-trans (mul-le-mul-right L a-most) (le-of-eq (mul-comm U L)))
 
-      bar-val : Val (count (suc n) ⊗ ε ⊗ fin s c e) (unlike false s) (near (suc n * 2 ^ 1022 * mag (fin s c e)) U)
+      bar-val : Val (count (suc n) ⊗ ε ⊗ fin s c e) (unlike false s) (near (suc n * 2 ^ tinyBits * mag (fin s c e)) U)
       bar-val =
           let w = fin-val s c e t in
           subst (λ (z : Float). Val z (unlike false s) B) (sym (mul-rounded (count (suc n) ⊗ ε) Λ false s a L (tiny (suc n) few) w)) (rounded-val (unlike false s) (a * L) U U-pos (lt-of-le-of-lt B-most (fin-under-Top s c e t)))
@@ -262,13 +283,13 @@ module _ (n : ℕ) (few : suc n ≤ maxSide) (v : ℕ → Float) (fit : (e : ℕ
             plus = λ j q. each j q .1;
             above = λ j q. lt-of-le-of-lt zero-le (more j q);
             most = most;
-            least = λ j q. enough L B (mag (v j)) (2 ^ 1022) U (suc n * 2 ^ 1022) U-wide (le-trans (le-of-eq (sym (one-mul (2 ^ 1022)))) (mul-le-mul-right (2 ^ 1022) (zero-lt-suc n))) (pow-pos 1022) (near-error (suc n * 2 ^ 1022 * L) U U-pos .halved) (more j q);
+            least = λ j q. enough L B (mag (v j)) (2 ^ tinyBits) U (suc n * 2 ^ tinyBits) U-wide (le-trans (le-of-eq (sym (one-mul (2 ^ tinyBits)))) (mul-le-mul-right (2 ^ tinyBits) (zero-lt-suc n))) (pow-pos tinyBits) (near-error (suc n * 2 ^ tinyBits * L) U U-pos .halved) (more j q);
           }
         where
           under : (t l : ℕ) → l < t → t + l < t + t
           under t l h = omega arith
 
-          U-wide : U ≡ 4503599627370496 * 2 ^ 1022
+          U-wide : U ≡ 2 ^ fractionBits * 2 ^ tinyBits
           U-wide = unfold U in refl
 
           between : (x : Float) → T (fits binary64 x) → T (number x) → Top < key x → key x < Top + Top → T (isFinite x) × (sign x ≡ false) × (key x ≡ Top + mag x)
@@ -278,11 +299,11 @@ module _ (n : ℕ) (few : suc n ≤ maxSide) (v : ℕ → Float) (fit : (e : ℕ
           between (fin true k d) t p a b = unfold key in absurd (lt-irrefl Top (lt-of-lt-of-le a (sub-le Top (mag (fin true k d)))))
           between (fin false k d) t p a b = unfold key isFinite sign in (tt, refl, refl)
 
-          enough : (L B M z u a : ℕ) → u ≡ 4503599627370496 * z → z ≤ a → 0 < z → 2 * (a * L) ≤ 4 * (B * u) + u → B < M → L ≤ 9007199254740992 * M
+          enough : (L B M z u a : ℕ) → u ≡ 2 ^ fractionBits * z → z ≤ a → 0 < z → 2 * (a * L) ≤ 4 * (B * u) + u → B < M → L ≤ 2 ^ suc fractionBits * M
           enough L B M z u a i l p h q =
               let f : z * L ≤ a * L = mul-le-mul-right L l in
-              let c : 2 * L * z ≤ (4 * B + 1) * 4503599627370496 * z = subst (λ (u : ℕ). 2 * (a * L) ≤ 4 * (B * u) + u → 2 * L * z ≤ (4 * B + 1) * 4503599627370496 * z) (sym i) (λ h. omega arith) h in
-              let d : 2 * L ≤ (4 * B + 1) * 4503599627370496 = le-of-mul-le-mul-right {k = z} c p in
+              let c : 2 * L * z ≤ (4 * B + 1) * 2 ^ fractionBits * z = subst (λ (u : ℕ). 2 * (a * L) ≤ 4 * (B * u) + u → 2 * L * z ≤ (4 * B + 1) * 2 ^ fractionBits * z) (sym i) (λ h. omega arith) h in
+              let d : 2 * L ≤ (4 * B + 1) * 2 ^ fractionBits = le-of-mul-le-mul-right {k = z} c p in
               omega arith
 
 pub positive : (n : ℕ) → suc n ≤ maxSide → (v : ℕ → Float) → ((e : ℕ) → e < suc n → T (fits binary64 (v e))) → ((e : ℕ) → e < suc n → T (number (v e))) → le (minTo (suc n) v) (count (suc n) ⊗ ε ⊗ maxTo (suc n) v) ≡ false → Positive (suc n) v
@@ -334,13 +355,9 @@ module _ (n : ℕ) (few : suc n ≤ maxSide) (v : ℕ → Float) (vf : (e : ℕ)
     square e l =
         let q = quotient (p e ⊗ p e) (v e) (mul-fits binary64 (p e) (p e)) (vf e l) (values .finite e l) (values .above e l) (term e l) .halved in
         let d : mag (p e ⊗ p e ⊘ v e) ≤ mag D = sum-least (suc n) (λ e. p e ⊗ p e ⊘ v e) (λ e l. (div-fits binary64 (p e ⊗ p e) (v e), sign-div (p e ⊗ p e) (v e) (sign-mul (p e) (p e) refl ∙ sym (values .plus e l)))) FD e l in
-        go (mag (p e ⊗ p e)) U (mag (p e ⊗ p e ⊘ v e)) (mag (v e)) (mag D) (values .L) q d (values .most e l) PD
-      where
-        go : (a u d w D L : ℕ) → 2 * (a * u) ≤ 4 * (d * w) + w → d ≤ D → w ≤ L → 0 < D → a * u ≤ 4 * (D * L)
-        go a u d w D L q dD wL pD =
-            let f : d * w ≤ D * L = mul-le-mul dD wL in
-            let g : 1 * L ≤ D * L = mul-le-mul-right L pD in
-            omega arith
+        let f = mul-le-mul d (values .most e l) in
+        let g : 1 * values .L ≤ mag D * values .L = mul-le-mul-right (values .L) PD in
+        omega (arith, q, f, g, values .most e l)
 
     -- a square that is not zero
     unit : U ≤ 4 * (mag D * values .L)
@@ -364,13 +381,9 @@ module _ (n : ℕ) (few : suc n ≤ maxSide) (v : ℕ → Float) (vf : (e : ℕ)
     squared =
         let e = P .0 in
         let q = product (p e) (p e) (pf e (P .1)) (pf e (P .1)) (div-finite (p e ⊗ p e) (v e) (term e (P .1))) .halved in
-        go (Pm * Pm) (mag (p e ⊗ p e)) U (mag D * values .L) q (square e (P .1)) unit
-      where
-        go : (s a u X : ℕ) → 2 * s ≤ 4 * (a * u) + u → a * u ≤ 4 * X → u ≤ 4 * X → s ≤ 16 * X
-        go s a u X q h k = omega arith
+        omega (arith, q, square e (P .1), unit)
 
-    -- each term of N is at most 2 ^ 1435 P / Λ
-    term-most : (e : ℕ) → e < suc n → mag (p e ⊗ m e ⊘ v e) * values .L ≤ 2 ^ 1435 * Pm
+    term-most : (e : ℕ) → e < suc n → mag (p e ⊗ m e ⊘ v e) * values .L ≤ 2 ^ termMost * Pm
     term-most e l =
         let F = sum-finite (suc n) (λ e. p e ⊗ m e ⊘ v e) FN e l in
         let G = div-finite (p e ⊗ m e) (v e) F in
@@ -378,19 +391,19 @@ module _ (n : ℕ) (few : suc n ≤ maxSide) (v : ℕ → Float) (vf : (e : ℕ)
         let r = product (p e) (m e) (pf e l) (mf e l) G .doubled in
         le-trans (go (mag (p e ⊗ m e ⊘ v e)) (mag (v e)) (mag (p e ⊗ m e)) U (mag (p e)) (mag (m e)) Pm (2 ^ projectedMost) (values .L) q r (P .2 e l) (small e l (mul-finite (p e) (m e) G .1)) (values .least e l)) (le-of-eq powers)
       where
-        go : (t w a u p m P M L : ℕ) → t * w ≤ 2 * (a * u) → a * u ≤ 2 * (p * m) → p ≤ P → m ≤ M → L ≤ 9007199254740992 * w → t * L ≤ 36028797018963968 * (P * M)
+        go : (t w a u p m P M L : ℕ) → t * w ≤ 2 * (a * u) → a * u ≤ 2 * (p * m) → p ≤ P → m ≤ M → L ≤ 2 ^ suc fractionBits * w → t * L ≤ 2 ^ (3 + fractionBits) * (P * M)
         go t w a u p m P M L q r pP mM lw =
             let f : p * m ≤ P * M = mul-le-mul pP mM in
-            let g : t * L ≤ t * (9007199254740992 * w) = mul-le-mul-left t lw in
+            let g : t * L ≤ t * (2 ^ suc fractionBits * w) = mul-le-mul-left t lw in
             omega arith
 
-        powers : 36028797018963968 * (Pm * 2 ^ projectedMost) ≡ 2 ^ 1435 * Pm
-        powers = ap (λ (z : ℕ). 36028797018963968 * z) (mul-comm Pm (2 ^ projectedMost)) ∙ sym (mul-assoc 36028797018963968 (2 ^ projectedMost) Pm)
+        powers : 2 ^ (3 + fractionBits) * (Pm * 2 ^ projectedMost) ≡ 2 ^ termMost * Pm
+        powers = ap (λ (z : ℕ). 2 ^ (3 + fractionBits) * z) (mul-comm Pm (2 ^ projectedMost)) ∙ sym (mul-assoc (2 ^ (3 + fractionBits)) (2 ^ projectedMost) Pm)
 
-    N-most : mag N * values .L ≤ 2 ^ 1441 * Pm
+    N-most : mag N * values .L ≤ 2 ^ numeratorMost * Pm
     N-most =
         let L = values .L in
-        let X = 2 ^ 1435 * Pm in
+        let X = 2 ^ termMost * Pm in
         let Q = X / L in
         let t-most : (e : ℕ) → e < suc n → mag (p e ⊗ m e ⊘ v e) ≤ Q = λ e l. le-div-iff-mul-le (values .some) .1 (term-most e l) in
         let most : mag N ≤ 2 ^ suc sideBits * Q = elim (eq-zero-or-pos Q) [
@@ -400,12 +413,12 @@ module _ (n : ℕ) (few : suc n ≤ maxSide) (v : ℕ → Float) (vf : (e : ℕ)
           ]
           | inr q ↦ by-size Q q (λ e l. (div-fits binary64 (p e ⊗ m e) (v e), sum-finite (suc n) (λ e. p e ⊗ m e ⊘ v e) FN e l, le-of-lt (lt-of-le-of-lt (t-most e l) (size-lt Q))))
         ] in
-        le-trans (mul-le-mul-right L most) (le-trans (le-of-eq (mul-assoc (2 ^ suc sideBits) Q L)) (le-trans (mul-le-mul-left (2 ^ suc sideBits) (div-mul-le-self X L)) (le-of-eq (sym (mul-assoc (2 ^ suc sideBits) (2 ^ 1435) Pm)))))
+        le-trans (mul-le-mul-right L most) (le-trans (le-of-eq (mul-assoc (2 ^ suc sideBits) Q L)) (le-trans (mul-le-mul-left (2 ^ suc sideBits) (div-mul-le-self X L)) (le-of-eq (sym (mul-assoc (2 ^ suc sideBits) (2 ^ termMost) Pm)))))
       where
         by-size : (Q : ℕ) → 0 < Q → ((e : ℕ) → e < suc n → T (fits binary64 (p e ⊗ m e ⊘ v e)) × T (isFinite (p e ⊗ m e ⊘ v e)) × (mag (p e ⊗ m e ⊘ v e) ≤ 2 ^ size Q)) → mag N ≤ 2 ^ suc sideBits * Q
-        by-size Q q each = elim (le-or-lt (sideBits + size Q) 2097) [
+        by-size Q q each = elim (le-or-lt (sideBits + size Q) topBits) [
           | inl l ↦ le-trans (sum-most (suc n) (size Q) (λ e. p e ⊗ m e ⊘ v e) few l each) (le-trans (le-of-eq (halves (size Q) some)) (mul-le-mul-left (2 ^ suc sideBits) reach))
-          | inr l ↦ le-trans (le-of-lt (mag-held N (sum-fits (suc n) (λ e. p e ⊗ m e ⊘ v e)) FN .1)) (le-trans top (mul-le-mul-left (2 ^ suc sideBits) (le-trans (pow-mono {i = 2097 - sideBits} {j = size Q - 1} (omega arith)) reach)))
+          | inr l ↦ le-trans (le-of-lt (mag-held N (sum-fits (suc n) (λ e. p e ⊗ m e ⊘ v e)) FN .1)) (le-trans top (mul-le-mul-left (2 ^ suc sideBits) (le-trans (pow-mono {i = topBits - sideBits} {j = size Q - 1} (omega arith)) reach)))
         ]
           where
             some : 0 < size Q
@@ -421,7 +434,7 @@ module _ (n : ℕ) (few : suc n ≤ maxSide) (v : ℕ → Float) (vf : (e : ℕ)
             halves : (h : ℕ) → 0 < h → 2 ^ (sideBits + h) ≡ 2 ^ suc sideBits * 2 ^ (h - 1)
             halves h p = ap (λ (i : ℕ). 2 ^ i) (omega arith) ∙ pow-add 2 (suc sideBits) (h - 1)
 
-            top : Top ≤ 2 ^ suc sideBits * 2 ^ (2097 - sideBits)
+            top : Top ≤ 2 ^ suc sideBits * 2 ^ (topBits - sideBits)
             top = unfold Top in lit≤ tt
 
     pub ratio-finite-most : T (isFinite (N ⊘ D)) → mag (N ⊘ D) ≤ 2 ^ ratioMost
@@ -430,12 +443,12 @@ module _ (n : ℕ) (few : suc n ≤ maxSide) (v : ℕ → Float) (vf : (e : ℕ)
         let X = mag D * L in
         let R = mag (N ⊘ D) in
         let q = quotient N D (sum-fits (suc n) (λ e. p e ⊗ m e ⊘ v e)) (sum-fits (suc n) (λ e. p e ⊗ p e ⊘ v e)) FD PD F .doubled in
-        let a : R * X ≤ 2 ^ 1442 * (Pm * U) = le-trans (joined R (mag D) L (mag N) U q) (le-trans (mul-le-mul-left 2 (mul-le-mul-right U N-most)) (le-of-eq (regroup (2 ^ 1441) Pm U))) in
-        let b : Pm * U ≤ 2 ^ 541 * X = elim (le-or-lt Pm (2 ^ 537)) [
-          | inl l ↦ le-trans (mul-le-mul l unit) (le-trans (le-of-eq (sym (mul-assoc (2 ^ 537) 4 X))) (mul-le-mul-right X small₁))
-          | inr l ↦ le-trans (le-of-eq (ap (λ (u : ℕ). Pm * u) U-square ∙ sym (mul-assoc Pm (2 ^ 537) (2 ^ 537)))) (le-trans (mul-le-mul-right (2 ^ 537) (le-trans (mul-le-mul-left Pm (le-of-lt l)) squared)) (le-of-eq (mul-right-comm 16 X (2 ^ 537))))
+        let a : R * X ≤ 2 ^ suc numeratorMost * (Pm * U) = le-trans (joined R (mag D) L (mag N) U q) (le-trans (mul-le-mul-left 2 (mul-le-mul-right U N-most)) (le-of-eq (regroup (2 ^ numeratorMost) Pm U))) in
+        let b : Pm * U ≤ 2 ^ divisorMost * X = elim (le-or-lt Pm (2 ^ rootBits)) [
+          | inl l ↦ le-trans (mul-le-mul l unit) (le-trans (le-of-eq (sym (mul-assoc (2 ^ rootBits) 4 X))) (mul-le-mul-right X small₁))
+          | inr l ↦ le-trans (le-of-eq (ap (λ (u : ℕ). Pm * u) U-square ∙ sym (mul-assoc Pm (2 ^ rootBits) (2 ^ rootBits)))) (le-trans (mul-le-mul-right (2 ^ rootBits) (le-trans (mul-le-mul-left Pm (le-of-lt l)) squared)) (le-of-eq (mul-right-comm 16 X (2 ^ rootBits))))
         ] in
-        le-of-mul-le-mul-right {k = X} (le-trans a (le-trans (mul-le-mul-left (2 ^ 1442) b) (le-of-eq (sym (mul-assoc (2 ^ 1442) (2 ^ 541) X))))) (mul-pos PD (values .some))
+        le-of-mul-le-mul-right {k = X} (le-trans a (le-trans (mul-le-mul-left (2 ^ suc numeratorMost) b) (le-of-eq (sym (mul-assoc (2 ^ suc numeratorMost) (2 ^ divisorMost) X))))) (mul-pos PD (values .some))
       where
         joined : (R D L N u : ℕ) → R * D ≤ 2 * (N * u) → R * (D * L) ≤ 2 * (N * L * u)
         joined R D L N u q = let f = mul-le-mul-right L q in omega arith
@@ -443,13 +456,13 @@ module _ (n : ℕ) (few : suc n ≤ maxSide) (v : ℕ → Float) (vf : (e : ℕ)
         regroup : (c P u : ℕ) → 2 * (c * P * u) ≡ 2 * c * (P * u)
         regroup c P u = omega arith
 
-        small₁ : 2 ^ 537 * 4 ≤ 2 ^ 541
+        small₁ : 2 ^ rootBits * 4 ≤ 2 ^ divisorMost
         small₁ = lit≤ tt
 
-        U-square : U ≡ 2 ^ 537 * 2 ^ 537
+        U-square : U ≡ 2 ^ rootBits * 2 ^ rootBits
         U-square = unfold U in refl
 
-  -- the ratio is not finite, or at most 2 ^ 909
+  -- the ratio, where it is finite
   pub ratio-most : T (isFinite (N ⊘ D)) → mag (N ⊘ D) ≤ 2 ^ ratioMost
   ratio-most F = go D refl (div-finite N D F) F
     where

@@ -1,9 +1,9 @@
 -- What is computed from the returns column by column, for returns x and their copies y, each 2 ^ k times x: means, deviations, largest sizes, the sample covariance and the two semicovariances are
--- scaled exactly, because every sum, product and quotient on the way is a whole number of units and far from overflow. Exponents are of units of 2 ^ -1074:
--- `Bits` has those of a return. The same laws with k = 0 give the ranges of what is computed from one run's numbers. Assumes nothing.
+-- scaled exactly, because every sum, product and quotient on the way is a whole number of units and far from overflow. The same laws with k = 0 give the bounds of what is computed from
+-- one run's numbers. Assumes nothing.
 use mathlib.Core.Path.{_≡_, ap, ap₂, _∙_}
-use Prim.Native.Nat.{ℕ, suc, _+_, _-_, _^_, _≤_, _<_, zero-le}
-use native.Mathlib.Nat.{le-trans, zero-add}
+use Prim.Native.Nat.{ℕ, _+_, _-_, _^_, _≤_, _<_}
+use native.Mathlib.Nat.{le-refl, le-trans, zero-add}
 use native.Mathlib.Omega.{arith}
 use mathlib.Core.Bool.{Bool, true, false, cond}
 use lib.Dec.{T, lit≤, lit<}
@@ -16,9 +16,10 @@ use Rattle.leaves.specs.Shift.{shift}
 use Rattle.leaves.proofs.Loops.{first-ext}
 use Rattle.leaves.proofs.Shift.{le-shift, min0-shift}
 use Rattle.leaves.proofs.SqrtLaws.{sqrt-shift}
-use Rattle.leaves.proofs.Units.{U, mag}
-use Rattle.leaves.proofs.Range.{Range, sized, range-zero, range-sized, range-count, count-pos}
-use Rattle.leaves.proofs.Operations.{Moved, moved-weaken, moved-sub, moved-mul, moved-over, still}
+use Rattle.leaves.proofs.Units.{oneBits, topBits, fractionBits, U, mag}
+use Rattle.leaves.proofs.Range.{sized, range-sized, range-count, count-pos}
+use Rattle.leaves.proofs.Bounds.{Bounds, Bounded, zero-bounded, productOf, covers, is-covered}
+use Rattle.leaves.proofs.Operations.{Moved, moved-sub, moved-mul, moved-over, still}
 use Rattle.leaves.proofs.Totals.{moved-amax, moved-sum, amax-most}
 use Rattle.matrix.specs.Matrix.{Matrix}
 use Rattle.matrix.specs.Limits.{maxSide}
@@ -26,109 +27,120 @@ use Rattle.estimators.specs.Sample.{mean, deviation, gram, covariance, largest,
 use Rattle.estimators.specs.Semi.{shortfall, semicovariance, semicovarianceBelow}
 use Rattle.estimators.specs.Order.{maxPeriods}
 use Rattle.law.proofs.Bits.{periodBits, period-bits}
+use Rattle.law.proofs.Ranges.{countBounds, averageOf, deviationOf, covarianceOf, sampleBounds, tenBillionthBounds}
 
 -- ---- counts
-pub count-moved : (c n : ℕ) → c ≤ 53 → n ≤ 2 ^ c → Moved 0 1074 1074 (c + 1074) (count n) (count n)
-count-moved c n l h = still 1074 (c + 1074) (range-count c n l h)
+pub count-moved : (c n : ℕ) → c ≤ 53 → n ≤ 2 ^ c → Moved 0 (countBounds c) (count n) (count n)
+count-moved c n l h = still (countBounds c) (range-count c n l h)
 
 -- ---- columns
--- returns and their copies, of n assets in T periods
-pub record Returns (k n T g l h : ℕ) (x y : Matrix) : Type 0 where
+-- returns and their copies, of n assets in T periods, in the bounds b
+pub record Returns (k n T : ℕ) (b : Bounds) (x y : Matrix) : Type 0 where
   pub assets : 0 < n
   pub few : n ≤ maxSide
   pub periods : 2 ≤ T
   pub most : T ≤ maxPeriods
-  pub entries : (t i : ℕ) → t < T → i < n → Moved k g l h (x t i) (y t i)
+  pub entries : (t i : ℕ) → t < T → i < n → Moved k b (x t i) (y t i)
 
 -- the same periods and assets, with other entries
-pub entries-as : {k k' n T g g' l l' h h' : ℕ} {x x' y y' : Matrix} → Returns k n T g l h x y → ((t i : ℕ) → t < T → i < n → Moved k' g' l' h' (x' t i) (y' t i)) → Returns k' n T g' l' h' x' y'
+pub entries-as : {k k' n T : ℕ} {b c : Bounds} {x x' y y' : Matrix} → Returns k n T b x y → ((t i : ℕ) → t < T → i < n → Moved k' c (x' t i) (y' t i)) → Returns k' n T c x' y'
 entries-as r each = record { assets = r .assets; few = r .few; periods = r .periods; most = r .most; entries = each }
 
 -- a sum of T terms over a count
-pub average-moved : {k g h l : ℕ} (T c : ℕ) (u u' : ℕ → Float) → T ≤ maxPeriods → 0 < c → c ≤ maxPeriods → ((t : ℕ) → t < T → Moved k g l h (u t) (u' t)) → (g' : ℕ) → g' + 52 + periodBits ≤ g → periodBits + h + k ≤ 2097
-    → Moved k g' (g' + 52) (periodBits + h) (sumTo T u ⊘ count c) (sumTo T u' ⊘ count c)
-average-moved {k} {g} {h} {l} T c u u' t p f each g' a b =
-    moved-over (moved-sum k g h T periodBits (period-bits t) (lit≤ tt) b l u u' each) (count-moved periodBits c (lit≤ tt) (period-bits f)) (count-pos c p (le-trans f (lit≤ tt))) g' (periodBits + h) (omega arith) (omega arith) b
+average-moved : {k : ℕ} {b : Bounds} (T c : ℕ) (u u' : ℕ → Float) → T ≤ maxPeriods → 0 < c → c ≤ maxPeriods → ((t : ℕ) → t < T → Moved k b (u t) (u' t)) → fractionBits + periodBits ≤ b .grain → averageOf b .most + k ≤ topBits
+    → Moved k (averageOf b) (sumTo T u ⊘ count c) (sumTo T u' ⊘ count c)
+average-moved {k} {b} T c u u' t p f each fine room =
+    moved-over (moved-sum k b T periodBits (period-bits t) (lit≤ tt) (omega arith) u u' each) (count-moved periodBits c (lit≤ tt) (period-bits f)) (count-pos c p (le-trans f (lit≤ tt))) (omega arith) room
 
-module _ {k n T g l h : ℕ} {x y : Matrix} (r : Returns k n T g l h x y) (d : ℕ) (grain : d + 52 + periodBits ≤ g) (room : suc (periodBits + h) + k ≤ 2097) where
-  pub mean-moved : (i : ℕ) → i < n → Moved k d (d + 52) (periodBits + h) (mean T x i) (mean T y i)
+module _ {k n T : ℕ} {b : Bounds} {x y : Matrix} (r : Returns k n T b x y) (fine : fractionBits + periodBits ≤ b .grain) (room : deviationOf b .most + k ≤ topBits) where
+  pub mean-moved : (i : ℕ) → i < n → Moved k (averageOf b) (mean T x i) (mean T y i)
   unfolding mean
-  mean-moved i a = average-moved T T (λ t. x t i) (λ t. y t i) (r .most) (omega (arith, r .periods)) (r .most) (λ t b. r .entries t i b a) d grain (omega arith)
+  mean-moved i a = average-moved T T (λ t. x t i) (λ t. y t i) (r .most) (omega (arith, r .periods)) (r .most) (λ t l. r .entries t i l a) fine (omega arith)
 
-  -- less a number of the means' grain
-  pub less-moved : {m m' : Float} {lm : ℕ} → Moved k d lm (periodBits + h) m m' → (t i : ℕ) → t < T → i < n → Moved k d d (suc (periodBits + h)) (x t i ⊖ m) (y t i ⊖ m')
-  less-moved m t i a b = moved-sub (moved-weaken d 0 (periodBits + h) (omega arith) zero-le (omega arith) (r .entries t i a b)) m (omega arith)
+  -- the means' bounds cover the returns' and their own
+  returns-covered : lib.Dec.T (covers (averageOf b) b)
+  returns-covered = is-covered (averageOf b) b (omega arith) (omega arith)
 
-  pub deviation-moved : (t i : ℕ) → t < T → i < n → Moved k d d (suc (periodBits + h)) (deviation T x t i) (deviation T y t i)
+  means-covered : lib.Dec.T (covers (averageOf b) (averageOf b))
+  means-covered = is-covered (averageOf b) (averageOf b) (le-refl (averageOf b .grain)) (le-refl (averageOf b .most))
+
+  -- a return less a number that they cover
+  less-moved : {c : Bounds} {m m' : Float} → lib.Dec.T (covers (averageOf b) c) → Moved k c m m' → (t i : ℕ) → t < T → i < n → Moved k (deviationOf b) (x t i ⊖ m) (y t i ⊖ m')
+  less-moved s m t i l a = moved-sub (averageOf b) returns-covered s (r .entries t i l a) m room
+
+  pub deviation-moved : (t i : ℕ) → t < T → i < n → Moved k (deviationOf b) (deviation T x t i) (deviation T y t i)
   unfolding deviation
-  deviation-moved t i a b = less-moved (mean-moved i b) t i a b
+  deviation-moved t i l a = less-moved means-covered (mean-moved i a) t i l a
 
-pub largest-moved : {k n T g l h : ℕ} {x y : Matrix} → Returns k n T g l h x y → (i : ℕ) → i < n → Moved k g l h (largest T x i) (largest T y i)
+pub largest-moved : {k n T : ℕ} {b : Bounds} {x y : Matrix} → Returns k n T b x y → (i : ℕ) → i < n → Moved k b (largest T x i) (largest T y i)
 unfolding largest
-largest-moved {T = T} {x = x} {y = y} r i a = moved-amax T (λ t. x t i) (λ t. y t i) (λ t b. r .entries t i b a)
+largest-moved {T = T} {x = x} {y = y} r i a = moved-amax T (λ t. x t i) (λ t. y t i) (λ t l. r .entries t i l a)
 
-pub largest-above : {k n T g l h : ℕ} {x y : Matrix} → Returns k n T g l h x y → (t i : ℕ) → t < T → i < n → mag (x t i) ≤ mag (largest T x i)
+pub largest-above : {k n T : ℕ} {b : Bounds} {x y : Matrix} → Returns k n T b x y → (t i : ℕ) → t < T → i < n → mag (x t i) ≤ mag (largest T x i)
 unfolding largest
-largest-above {T = T} {x = x} r t i a b = amax-most (λ t. x t i) T (λ t c. (r .entries t i c b .range .fit, r .entries t i c b .range .finite)) t a
+largest-above {T = T} {x = x} r t i l a = amax-most (λ t. x t i) T (λ t m. (r .entries t i m a .range .fit, r .entries t i m a .range .finite)) t l
 
 -- ---- sums of products over a count
-module _ {k T : ℕ} (c : ℕ) (most : T ≤ maxPeriods) (some : 0 < c) (few : c ≤ maxPeriods) {d h : ℕ} (p : ℕ) (grain : p + 1074 ≤ d + d) (s : ℕ) (scale : s + 52 + periodBits ≤ p) (e : ℕ) (room : h + h ≤ e + 1074) (top : periodBits + e + (k + k) ≤ 2097) where
-  pub gram-moved : (z z' : Matrix) (i j : ℕ) → ((t : ℕ) → t < T → Moved k d d h (z t i) (z' t i)) → ((t : ℕ) → t < T → Moved k d d h (z t j) (z' t j)) → Moved (k + k) s (s + 52) (periodBits + e) (gram T z i j ⊘ count c) (gram T z' i j ⊘ count c)
-  unfolding gram
-  gram-moved z z' i j a b = average-moved T c (λ t. z t i ⊗ z t j) (λ t. z' t i ⊗ z' t j) most some few (λ t l. moved-mul (a t l) (b t l) p p e grain grain room (omega arith)) s scale top
+gram-moved : {k : ℕ} {b : Bounds} (T c : ℕ) → T ≤ maxPeriods → 0 < c → c ≤ maxPeriods → oneBits + fractionBits + periodBits ≤ b .grain + b .grain → averageOf (productOf b b) .most + (k + k) ≤ topBits
+    → (z z' : Matrix) (i j : ℕ) → ((t : ℕ) → t < T → Moved k b (z t i) (z' t i)) → ((t : ℕ) → t < T → Moved k b (z t j) (z' t j)) → Moved (k + k) (averageOf (productOf b b)) (gram T z i j ⊘ count c) (gram T z' i j ⊘ count c)
+unfolding gram
+gram-moved T c most some few fine room z z' i j u v = average-moved T c (λ t. z t i ⊗ z t j) (λ t. z' t i ⊗ z' t j) most some few (λ t l. moved-mul (u t l) (v t l) (omega arith) (omega arith)) (omega arith) room
 
-module _ {k n T g l h : ℕ} {x y : Matrix} (r : Returns k n T g l h x y) (d : ℕ) (grain : d + 52 + periodBits ≤ g) (room : suc (periodBits + h) + k ≤ 2097)
-    (p : ℕ) (square : p + 1074 ≤ d + d) (s : ℕ) (scale : s + 52 + periodBits ≤ p) (e : ℕ) (wide : suc (periodBits + h) + suc (periodBits + h) ≤ e + 1074) (top : periodBits + e + (k + k) ≤ 2097) where
+-- the squares of deviations have a grain, and room for it
+abbrev pub Squares : ℕ → Bounds → Type 0
+Squares k b = (fractionBits + periodBits ≤ b .grain) × (oneBits + fractionBits + periodBits ≤ deviationOf b .grain + deviationOf b .grain) × (deviationOf b .most + k ≤ topBits) × (covarianceOf b .most + (k + k) ≤ topBits)
+
+module _ {k n T : ℕ} {b : Bounds} {x y : Matrix} (r : Returns k n T b x y) (q : Squares k b) where
   some : 0 < T - 1
   some = omega (arith, r .periods)
 
   few : T - 1 ≤ maxPeriods
   few = omega (arith, r .most)
 
-  pub covariance-moved : (i j : ℕ) → i < n → j < n → Moved (k + k) s (s + 52) (periodBits + e) (covariance T x i j) (covariance T y i j)
+  pub covariance-moved : (i j : ℕ) → i < n → j < n → Moved (k + k) (covarianceOf b) (covariance T x i j) (covariance T y i j)
   unfolding covariance
-  covariance-moved i j a b = gram-moved (T - 1) (r .most) some few p square s scale e wide top (deviation T x) (deviation T y) i j (λ t l. deviation-moved r d grain room t i l a) (λ t l. deviation-moved r d grain room t j l b)
+  covariance-moved i j a c = gram-moved T (T - 1) (r .most) some few (q .1) (q .3) (deviation T x) (deviation T y) i j (λ t l. deviation-moved r (q .0) (q .2) t i l a) (λ t l. deviation-moved r (q .0) (q .2) t j l c)
 
-  min0-moved : {lm m : ℕ} {u v : Float} → Moved k d lm m u v → Moved k d lm m (min0 u) (min0 v)
+  min0-moved : {c : Bounds} {u v : Float} → Moved k c u v → Moved k c (min0 u) (min0 v)
   unfolding min0
-  min0-moved {lm} {m} {u} v = record { range = go (lt u zero⁺); copy = ap min0 (v .copy) ∙ min0-shift (pos k) u }
+  min0-moved {c} {u} v = record { range = go (lt u zero⁺); copy = ap min0 (v .copy) ∙ min0-shift (pos k) u }
     where
-      go : (b : Bool) → Range d (2 ^ lm) (2 ^ m) (cond b u zero⁺)
+      go : (z : Bool) → Bounded c (cond z u zero⁺)
       go true = v .range
-      go false = range-zero d (2 ^ lm) (2 ^ m)
+      go false = zero-bounded c
 
-  shortfall-moved : (a a' : ℕ → Float) {lm : ℕ} → ((i : ℕ) → i < n → Moved k d lm (periodBits + h) (a i) (a' i)) → (t i : ℕ) → t < T → i < n → Moved k d d (suc (periodBits + h)) (shortfall a x t i) (shortfall a' y t i)
+  shortfall-moved : {c : Bounds} (a a' : ℕ → Float) → lib.Dec.T (covers (averageOf b) c) → ((i : ℕ) → i < n → Moved k c (a i) (a' i)) → (t i : ℕ) → t < T → i < n → Moved k (deviationOf b) (shortfall a x t i) (shortfall a' y t i)
   unfolding shortfall
-  shortfall-moved a a' each t i u v = min0-moved (less-moved r d grain room (each i v) t i u v)
+  shortfall-moved a a' s each t i l m = min0-moved (less-moved r (q .0) (q .2) s (each i m) t i l m)
 
-  pub semicovariance-moved : (i j : ℕ) → i < n → j < n → Moved (k + k) s (s + 52) (periodBits + e) (semicovariance T x i j) (semicovariance T y i j)
+  pub semicovariance-moved : (i j : ℕ) → i < n → j < n → Moved (k + k) (covarianceOf b) (semicovariance T x i j) (semicovariance T y i j)
   unfolding semicovariance
-  semicovariance-moved i j a b =
-      let z = shortfall-moved (mean T x) (mean T y) (mean-moved r d grain room) in
-      gram-moved (T - 1) (r .most) some few p square s scale e wide top (shortfall (mean T x) x) (shortfall (mean T y) y) i j (λ t l. z t i l a) (λ t l. z t j l b)
+  semicovariance-moved i j a c =
+      let z = shortfall-moved (mean T x) (mean T y) (means-covered r (q .0) (q .2)) (mean-moved r (q .0) (q .2)) in
+      gram-moved T (T - 1) (r .most) some few (q .1) (q .3) (shortfall (mean T x) x) (shortfall (mean T y) y) i j (λ t l. z t i l a) (λ t l. z t j l c)
 
-  pub semicovarianceBelow-moved : {θ θ' : Float} → Moved k g l h θ θ' → (i j : ℕ) → i < n → j < n → Moved (k + k) s (s + 52) (periodBits + e) (semicovarianceBelow θ T x i j) (semicovarianceBelow θ' T y i j)
+  pub semicovarianceBelow-moved : {θ θ' : Float} → Moved k b θ θ' → (i j : ℕ) → i < n → j < n → Moved (k + k) (covarianceOf b) (semicovarianceBelow θ T x i j) (semicovarianceBelow θ' T y i j)
   unfolding semicovarianceBelow
-  semicovarianceBelow-moved {θ} {θ'} u i j a b =
-      let z = shortfall-moved (λ i. θ) (λ i. θ') (λ i a. moved-weaken d 0 (periodBits + h) (omega arith) zero-le (omega arith) u) in
-      gram-moved T (r .most) (omega (arith, r .periods)) (r .most) p square s scale e wide top (shortfall (λ a. θ) x) (shortfall (λ a. θ') y) i j (λ t l. z t i l a) (λ t l. z t j l b)
+  semicovarianceBelow-moved {θ} {θ'} u i j a c =
+      let z = shortfall-moved (λ i. θ) (λ i. θ') (returns-covered r (q .0) (q .2)) (λ i a. u) in
+      gram-moved T T (r .most) (omega (arith, r .periods)) (r .most) (q .1) (q .3) (shortfall (λ a. θ) x) (shortfall (λ a. θ') y) i j (λ t l. z t i l a) (λ t l. z t j l c)
 
 -- a covariance or semicovariance of returns in their range
 abbrev pub Sampled : ℕ → Float → Float → Type 0
-Sampled k x y = Moved k 698 750 1192 x y
+Sampled k x y = Moved k sampleBounds x y
 
 -- ---- the tolerance of a constant asset
-pub tenth-moved : Moved 0 988 1040 1041 1e-10 1e-10
+pub ten-billionth-moved : Moved 0 tenBillionthBounds 1e-10 1e-10
 unfolding ofBits sized fits isFinite mag U
-tenth-moved = still 1040 1041 (range-sized 988 1041 1e-10 tt)
+ten-billionth-moved = still tenBillionthBounds (range-sized (tenBillionthBounds .least) (tenBillionthBounds .most) 1e-10 (lit≤ tt) tt)
 
-pub tenth-above : 0 < mag 1e-10
+pub ten-billionth-above : 0 < mag 1e-10
 unfolding ofBits mag U
-tenth-above = lit< tt
+ten-billionth-above = lit< tt
 
-module _ {k n T g l h : ℕ} {x y : Matrix} (r : Returns k n T g l h x y) (G : 86 ≤ g) (L : 34 ≤ l) (room : h + k ≤ 2097) where
-  pub tolerance-moved : (i : ℕ) → i < n → Moved k (g - 86) (l - 34) h (1e-10 ⊗ largest T x i) (1e-10 ⊗ largest T y i)
-  tolerance-moved i a = rw (zero-add k) at (moved-mul tenth-moved (largest-moved r i a) (g - 86) (l - 34) h (omega arith) (omega arith) (omega arith) (omega arith))
+module _ {k n T : ℕ} {b : Bounds} {x y : Matrix} (r : Returns k n T b x y) (fine : oneBits ≤ tenBillionthBounds .grain + b .grain) (room : b .most + k ≤ topBits) where
+  pub tolerance-moved : (i : ℕ) → i < n → Moved k (productOf tenBillionthBounds b) (1e-10 ⊗ largest T x i) (1e-10 ⊗ largest T y i)
+  tolerance-moved i a = rw (zero-add k) at (moved-mul ten-billionth-moved (largest-moved r i a) fine (omega arith))
 
   -- the same asset for variances v and v', each 4 ^ k times v
   pub constant-same : (v v' : Matrix) → ((i : ℕ) → i < n → v' i i ≡ shift (pos (k + k)) (v i i)) → constantAsset n v' (largest T y) ≡ constantAsset n v (largest T x)

@@ -1,6 +1,6 @@
 -- The Bayes-Stein intensity, (n + 2) / (n + 2 + d), is not below 0 and not above 1 for any d without a minus sign, an infinity and NaN included: n + 2 + d is not below n + 2. Assumes nothing.
 use mathlib.Core.Path.{_≡_, refl, sym, ap, _∙_, subst}
-use Prim.Native.Nat.{ℕ, zero, _*_, _^_, _≤_, _<_, suc, _+_}
+use Prim.Native.Nat.{ℕ, zero, _*_, _^_, _≤_, _<_}
 use native.Mathlib.Nat.{le-trans, le-of-eq, lt-of-lt-of-le, lt-of-le-of-lt, mul-comm, mul-le-mul-right, mul-pos}
 use mathlib.Core.Bool.{Bool, true, false, cond}
 use lib.Dec.{T, lit≤, lit<}
@@ -9,16 +9,18 @@ use lib.Ieee.{Float, nan, inf, fin, binary64, fits, lt, div}
 use lib.Ieee.Fits.{add-fits, ofInt-fits}
 use Rattle.leaves.specs.Numbers.{_⊕_, _⊘_, zero⁺, one, two, count, isFinite, max0}
 use Rattle.leaves.proofs.Rounding.{near, near-most, held-pow}
-use Rattle.leaves.proofs.Units.{U, U-pos, U-is, Val, sign, mag, val-mag, rounded-val, pow-under-Top, lt-val, one-val}
+use Rattle.leaves.proofs.Units.{oneBits, U, U-pos, U-is, Val, sign, mag, val-mag, rounded-val, pow-under-Top, lt-val, one-val}
 use Rattle.leaves.proofs.Arithmetic.{div-rounded}
 use Rattle.leaves.proofs.Range.{Range}
-use Rattle.leaves.proofs.Operations.{Moved, moved-weaken, moved-add}
+use Rattle.leaves.proofs.Operations.{Moved, moved-add}
+use Rattle.leaves.proofs.Bounds.{sumOf}
 use Rattle.leaves.proofs.Signs.{sign-div, sign-add, sign-count, sign-not-below}
 use borrow.Author.Tests.{le-ltb}
 use Rattle.leaves.proofs.Zero.{no, not-above}
 use Rattle.matrix.specs.Limits.{maxSide}
 use Rattle.estimators.specs.BayesStein.{intensityAt}
 use Rattle.law.proofs.Bits.{sideBits, side-bits}
+use Rattle.law.proofs.Ranges.{countBounds}
 use Rattle.law.proofs.Sizes.{over-inf, plus-val, two-is, two-val}
 use Rattle.law.proofs.Sample.{count-moved}
 use Rattle.law.proofs.Weighted.{plus-least}
@@ -46,9 +48,9 @@ ratio-unit x y r sx px ty sy = go (x ⊕ y) refl
         let v = plus-val x (r .fit) (r .finite) sx in
         let w = plus-val (x ⊕ y) (add-fits binary64 x y) F (sign-add x y sx sy) in
         let n = mag x * U in
-        let most : near n (mag (x ⊕ y)) ≤ 2 ^ 1074 = near-most n (mag (x ⊕ y)) (2 ^ 1074) p (held-pow 1074) (le-trans (mul-le-mul-right U q) (le-of-eq (mul-comm (mag (x ⊕ y)) U ∙ ap (λ (u : ℕ). u * mag (x ⊕ y)) U-is))) in
-        let z : Val (x ⊘ (x ⊕ y)) false (near n (mag (x ⊕ y))) = subst (λ (z : Float). Val z false (near n (mag (x ⊕ y)))) (sym (div-rounded x (x ⊕ y) false false (mag x) (mag (x ⊕ y)) v w p)) (rounded-val false n (mag (x ⊕ y)) p (lt-of-le-of-lt most (pow-under-Top 1074 (lit≤ tt)))) in
-        lt-val one (x ⊘ (x ⊕ y)) false false (2 ^ 1074) (near n (mag (x ⊕ y))) (unfold U in one-val) z ∙ le-ltb (2 ^ 1074) (near n (mag (x ⊕ y))) most
+        let most : near n (mag (x ⊕ y)) ≤ 2 ^ oneBits = near-most n (mag (x ⊕ y)) (2 ^ oneBits) p (held-pow oneBits) (le-trans (mul-le-mul-right U q) (le-of-eq (mul-comm (mag (x ⊕ y)) U ∙ ap (λ (u : ℕ). u * mag (x ⊕ y)) U-is))) in
+        let z : Val (x ⊘ (x ⊕ y)) false (near n (mag (x ⊕ y))) = subst (λ (z : Float). Val z false (near n (mag (x ⊕ y)))) (sym (div-rounded x (x ⊕ y) false false (mag x) (mag (x ⊕ y)) v w p)) (rounded-val false n (mag (x ⊕ y)) p (lt-of-le-of-lt most (pow-under-Top oneBits (lit≤ tt)))) in
+        lt-val one (x ⊘ (x ⊕ y)) false false (2 ^ oneBits) (near n (mag (x ⊕ y))) (unfold U in one-val) z ∙ le-ltb (2 ^ oneBits) (near n (mag (x ⊕ y))) most
 
 pub max0-plus : (z : Float) → sign (max0 z) ≡ false
 unfolding max0
@@ -75,10 +77,8 @@ share-unit n z few t p = (sign-not-below (intensityAt n z) (sign-div X (X ⊕ z)
     X-plus : sign (count n ⊕ two) ≡ false
     X-plus = sign-add (count n) two (sign-count n) (unfold sign in refl)
 
-    X-moved : Moved 0 1074 1074 (suc (sideBits + 1074)) (count n ⊕ two) (count n ⊕ two)
-    X-moved =
-        let t : Moved 0 1074 1074 (sideBits + 1074) two two = subst (λ (z : Float). Moved 0 1074 1074 (sideBits + 1074) z z) two-is (moved-weaken 1074 1074 (sideBits + 1074) (lit≤ tt) (lit≤ tt) (lit≤ tt) (count-moved 1 2 (lit≤ tt) (lit≤ tt))) in
-        moved-add (count-moved sideBits n (lit≤ tt) (side-bits few)) t (lit≤ tt)
+    X-moved : Moved 0 (sumOf 1 (countBounds sideBits)) (count n ⊕ two) (count n ⊕ two)
+    X-moved = moved-add (countBounds sideBits) tt tt (count-moved sideBits n (lit≤ tt) (side-bits few)) (subst (λ (z : Float). Moved 0 (countBounds 1) z z) two-is (count-moved 1 2 (lit≤ tt) (lit≤ tt))) (lit≤ tt)
 
     X-above : 0 < mag (count n ⊕ two)
     X-above = lt-of-lt-of-le (subst (λ (a : ℕ). 0 < a) (sym (val-mag two false (2 * U) two-val .1)) (mul-pos (lit< {m = 0} {n = 2} tt) U-pos))

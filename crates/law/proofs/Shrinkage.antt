@@ -1,18 +1,19 @@
 -- An estimate b shrunk and regularized, and its copy b', each entry 2 ^ k times as large. A granted intensity or regularization is 0 or not so small that a product leaves the range in which
 -- it is exact. An intensity that is not a number makes every entry NaN, in both runs. Assumes nothing.
 use mathlib.Core.Path.{_≡_, refl, sym, ap, ap₂, _∙_}
-use Prim.Native.Nat.{ℕ, _+_, _^_, _≤_, _<_}
+use Prim.Native.Nat.{ℕ, _+_, _≤_, _<_}
 use native.Mathlib.Nat.{le-trans, zero-add, add-zero}
 use native.Mathlib.Omega.{arith}
 use mathlib.Core.Bool.{Bool, true, false, not, cond, _&&_, _||_}
-use lib.Dec.{eqb, lit≤}
+use lib.Dec.{T, eqb, lit≤}
 use lib.IntN.{pos}
 use lib.Ieee.{Float, nan, fits, add, mul, lt, le}
-use Rattle.leaves.specs.Numbers.{_⊕_, _⊖_, _⊗_, zero⁺, one, isFinite}
+use Rattle.leaves.specs.Numbers.{_⊕_, _⊗_, zero⁺, one, isFinite}
 use Rattle.leaves.proofs.Shift.{isFinite-shift, lt-shift, le-shift, shift-zero⁺}
-use Rattle.leaves.proofs.Units.{U, mag}
-use Rattle.leaves.proofs.Range.{Range, sized, range-sized, count-pos}
-use Rattle.leaves.proofs.Operations.{Moved, still, moved-weaken, moved-zero, moved-add, moved-sub, moved-mul, moved-mul-normal, moved-over}
+use Rattle.leaves.proofs.Units.{oneBits, U, mag}
+use Rattle.leaves.proofs.Range.{sized, range-sized, count-pos}
+use Rattle.leaves.proofs.Bounds.{Bounds, Bounded, covers}
+use Rattle.leaves.proofs.Operations.{Moved, still, moved-within, moved-zero, moved-add, moved-sub, moved-mul, moved-mul-normal, moved-over}
 use Rattle.matrix.specs.Matrix.{Matrix, identity}
 use Rattle.matrix.specs.Limits.{maxSide}
 use Rattle.estimators.specs.LedoitWolf.{averageVariance, constantCorrelation}
@@ -26,60 +27,57 @@ use Rattle.estimators.specs.declared.Regularization.the-variants.{Unregularized
 use Rattle.estimators.specs.declared.Field.the-variants.{RegularizationField}
 use Rattle.estimators.specs.declared.Refusal.the-variants.{BadSetting}
 use Rattle.law.specs.Law.{maxPower}
-use Rattle.law.proofs.Bits.{sideBits, side-bits, covarianceGrain, covarianceLeast, covarianceMost, intensityLeast, intensityGrain}
+use Rattle.law.proofs.Bits.{sideBits, side-bits}
+use Rattle.law.proofs.Ranges.{covarianceBounds, intensityBounds, oneBounds, estimateBounds, partBounds, shrunkBounds, adjustedBounds}
 use Rattle.law.proofs.Sample.{count-moved}
 use Rattle.law.proofs.Matrices.{trace-moved}
 use Rattle.law.proofs.Correlation.{Targeted}
 
 -- ---- 0 and 1
-pub one-moved : Moved 0 1022 1074 1074 one one
+pub one-moved : Moved 0 oneBounds one one
 unfolding sized fits isFinite mag U
-one-moved = still 1074 1074 (range-sized 1022 1074 one tt)
+one-moved = still oneBounds (range-sized oneBits oneBits one (lit≤ tt) tt)
 
-identity-moved : (i j : ℕ) → Moved 0 1022 1074 1074 (identity i j) (identity i j)
+identity-moved : (i j : ℕ) → Moved 0 oneBounds (identity i j) (identity i j)
 identity-moved i j = go (eqb i j)
   where
-    go : (b : Bool) → Moved 0 1022 1074 1074 (cond b one zero⁺) (cond b one zero⁺)
+    go : (c : Bool) → Moved 0 oneBounds (cond c one zero⁺) (cond c one zero⁺)
     go true = one-moved
-    go false = moved-zero 0 1022 1074 1074
+    go false = moved-zero 0 oneBounds
 
 -- an intensity: 0, or from 2 ^ -40 to 1
 abbrev pub Intensity : Float → Type 0
-Intensity δ = Range intensityGrain (2 ^ intensityLeast) (2 ^ 1074) δ
+Intensity δ = Bounded intensityBounds δ
 
 -- ---- an estimate of any kind; after shrinking; after regularizing
 abbrev pub Estimated : ℕ → Float → Float → Type 0
-Estimated k x x' = Moved k 154 154 1522 x x'
-
-pub estimated : {k g l h : ℕ} {x x' : Float} → 154 ≤ g → 154 ≤ l → h ≤ 1522 → Moved k g l h x x' → Estimated k x x'
-estimated g l h m = moved-weaken 154 154 1522 g l h m
+Estimated k x x' = Moved k estimateBounds x x'
 
 abbrev pub Shrunken : ℕ → Float → Float → Type 0
-Shrunken k x x' = Moved k 5 5 1645 x x'
+Shrunken k x x' = Moved k shrunkBounds x x'
 
 abbrev pub Adjusted : ℕ → Float → Float → Type 0
-Adjusted k x x' = Moved k 5 5 1646 x x'
+Adjusted k x x' = Moved k adjustedBounds x x'
 
 module _ (k : ℕ) (small : k ≤ maxPower + maxPower) (δ : Float) (d : Intensity δ) (n : ℕ) (b b' : Matrix) (i j : ℕ) where
   -- with (1 - δ) b
-  mixed-moved : {g l h g' l' h' : ℕ} (F : Target) → Moved k g l h (pull F δ n b i j) (pull F δ n b' i j) → Moved k g' l' h' (b i j) (b' i j) → 5 ≤ g → 5 ≤ l → h ≤ 1644 → 97 ≤ g' → 97 ≤ l' → h' ≤ 1643
-      → Shrunken k (mixed F δ n b i j) (mixed F δ n b' i j)
+  mixed-moved : {c : Bounds} (F : Target) → T (covers partBounds c) → Moved k c (pull F δ n b i j) (pull F δ n b' i j) → Estimated k (b i j) (b' i j) → Shrunken k (mixed F δ n b i j) (mixed F δ n b' i j)
   unfolding mixed
-  mixed-moved {h' = h'} F p u gp lp hp gu lu hu =
-      let rest : Moved 0 intensityGrain intensityGrain 1075 (one ⊖ δ) (one ⊖ δ) = moved-sub (moved-weaken intensityGrain intensityLeast 1074 (lit≤ tt) (lit≤ tt) (lit≤ tt) one-moved) (still intensityLeast 1074 d) (lit≤ tt) in
-      let q = rw (zero-add k) at (moved-mul rest (moved-weaken 97 97 1643 gu lu hu u) 5 5 1644 (lit≤ tt) (lit≤ tt) (lit≤ tt) (omega arith)) in
-      moved-add (moved-weaken 5 5 1644 gp lp hp p) q (omega arith)
+  mixed-moved F s p u =
+      let rest = moved-sub intensityBounds tt tt one-moved (still intensityBounds d) (lit≤ tt) in
+      let q = rw (zero-add k) at (moved-mul rest u (lit≤ tt) (omega arith)) in
+      moved-add partBounds s tt p q (omega arith)
 
   pub correlation-mixed : Targeted k (constantCorrelation n b i j) (constantCorrelation n b' i j) → Estimated k (b i j) (b' i j) → Shrunken k (mixed ConstantCorrelation δ n b i j) (mixed ConstantCorrelation δ n b' i j)
   unfolding pull
-  correlation-mixed t u = mixed-moved ConstantCorrelation (rw (zero-add k) at (moved-mul-normal (still intensityLeast 1074 d) t 154 1644 (lit≤ tt) (lit≤ tt) (omega arith))) u (lit≤ tt) (lit≤ tt) (lit≤ tt) (lit≤ tt) (lit≤ tt) (lit≤ tt)
+  correlation-mixed t u = mixed-moved ConstantCorrelation tt (rw (zero-add k) at (moved-mul-normal (still intensityBounds d) t (lit≤ tt) (omega arith))) u
 
   pub variance-mixed : 0 < n → n ≤ maxSide → ((i j : ℕ) → i < n → j < n → Estimated k (b i j) (b' i j)) → i < n → j < n → Shrunken k (mixed ConstantVariance δ n b i j) (mixed ConstantVariance δ n b' i j)
   unfolding pull averageVariance
   variance-mixed assets few each a c =
-      let m = moved-over (trace-moved n b b' few (omega arith) (λ i l. each i i l l)) (count-moved sideBits n (lit≤ tt) (side-bits few)) (count-pos n assets (le-trans few (lit≤ tt))) 97 1527 (lit≤ tt) (lit≤ tt) (omega arith) in
-      let p = rw (zero-add k) at (moved-mul-normal (still intensityLeast 1074 d) m 57 1527 (lit≤ tt) (lit≤ tt) (omega arith)) in
-      mixed-moved ConstantVariance (rw (add-zero k) at (moved-mul p (identity-moved i j) 5 109 1527 (lit≤ tt) (lit≤ tt) (lit≤ tt) (omega arith))) (each i j a c) (lit≤ tt) (lit≤ tt) (lit≤ tt) (lit≤ tt) (lit≤ tt) (lit≤ tt)
+      let m = moved-over (trace-moved n b b' few (omega arith) (λ i l. each i i l l)) (count-moved sideBits n (lit≤ tt) (side-bits few)) (count-pos n assets (le-trans few (lit≤ tt))) (lit≤ tt) (omega arith) in
+      let p = rw (zero-add k) at (moved-mul-normal (still intensityBounds d) m (lit≤ tt) (omega arith)) in
+      mixed-moved ConstantVariance tt (rw (add-zero k) at (moved-mul p (identity-moved i j) (lit≤ tt) (omega arith))) (each i j a c)
 
 pub nan-mixed : (F : Target) (n : ℕ) (b : Matrix) (i j : ℕ) → mixed F nan n b i j ≡ nan
 unfolding mixed pull add mul
@@ -95,9 +93,9 @@ pub record Regularized (k : ℕ) (H H' : Regularization) : Type 0 where
 
 pub unregularized : (k : ℕ) → Regularized k Unregularized Unregularized
 unfolding badRegularization isAdjusted regularized
-unregularized k = record { bad = refl; adjusts = λ δ. refl; entries = λ a a' i j u. moved-weaken 5 5 1646 (lit≤ tt) (lit≤ tt) (lit≤ tt) u; nans = λ a i j e. (e, e) }
+unregularized k = record { bad = refl; adjusts = λ δ. refl; entries = λ a a' i j u. moved-within adjustedBounds tt u; nans = λ a i j e. (e, e) }
 
-pub ridge : (k : ℕ) → k ≤ maxPower + maxPower → (ε ε' : Float) → Moved k covarianceGrain covarianceLeast covarianceMost ε ε' → Regularized k (Ridge ε) (Ridge ε')
+pub ridge : (k : ℕ) → k ≤ maxPower + maxPower → (ε ε' : Float) → Moved k covarianceBounds ε ε' → Regularized k (Ridge ε) (Ridge ε')
 unfolding badRegularization isAdjusted regularized add
 ridge k small ε ε' e =
     let s = pos k in
@@ -105,7 +103,7 @@ ridge k small ε ε' e =
       bad = ap₂ (λ (u v : Bool). when (not (u && v)) (BadSetting RegularizationField)) (ap isFinite (e .copy) ∙ isFinite-shift s ε) (ap₂ le (sym (shift-zero⁺ s)) (e .copy) ∙ le-shift s zero⁺ ε);
       adjusts = λ δ. ap (λ (u : Bool). lt zero⁺ δ || u) (ap₂ lt (sym (shift-zero⁺ s)) (e .copy) ∙ lt-shift s zero⁺ ε);
       entries = λ a a' i j u.
-          let p = rw (add-zero k) at (moved-mul e (identity-moved i j) 5 5 1645 (lit≤ tt) (lit≤ tt) (lit≤ tt) (omega arith)) in
-          moved-add u p (omega arith);
+          let p = rw (add-zero k) at (moved-mul e (identity-moved i j) (lit≤ tt) (omega arith)) in
+          moved-add shrunkBounds tt tt u p (omega arith);
       nans = λ a i j n. (ap (λ (z : Float). z ⊕ ε ⊗ identity i j) n, ap (λ (z : Float). z ⊕ ε' ⊗ identity i j) n);
     }

@@ -1,8 +1,8 @@
 -- The sizes that document 01 grants, as ranges of units: comparisons of numbers that are not negative are comparisons of their units. Assumes nothing.
 use mathlib.Core.Path.{_≡_, refl, sym, ap, _∙_, subst}
 use mathlib.Core.Logic.{_⊎_, inl, inr}
-use Prim.Native.Nat.{ℕ, zero, suc, _+_, _-_, _*_, _^_, _≤_, _<_, zero-le}
-use native.Mathlib.Nat.{add-comm, le-trans, le-of-eq, le-of-lt, le-of-suc-le-suc, not-suc-le-zero, lt-irrefl, one-mul, eq-zero-or-pos}
+use Prim.Native.Nat.{ℕ, zero, suc, _+_, _-_, _*_, _^_, _≤_, _<_}
+use native.Mathlib.Nat.{add-comm, le-of-eq, le-of-lt, le-of-suc-le-suc, not-suc-le-zero, lt-irrefl, one-mul, eq-zero-or-pos}
 use native.Mathlib.Omega.{arith}
 use mathlib.Core.Bool.{Bool, true, false, not, _&&_, _||_, and-true, or-not-self}
 use mathlib.Core.List.{List, [], _∷_}
@@ -18,9 +18,11 @@ use borrow.Author.Tests.{not-true, not-false, lt-ltb, le-ltb, ltb-true, ltb-fals
 use Rattle.leaves.specs.Numbers.{_⊘_, zero⁺, two, count, isFinite, abs}
 use Rattle.leaves.specs.Scaling.{pow2}
 use Rattle.leaves.proofs.Whole.{over, under, over-neg, under-neg, up-is, down-is}
-use Rattle.leaves.proofs.Units.{U, Val, abs-val, sign, mag, zero-val, mag-val, lt-val, eq-zero}
-use Rattle.leaves.proofs.Range.{Range, range-size, count-val}
+use Rattle.leaves.proofs.Units.{oneBits, fractionBits, U, Val, abs-val, sign, mag, zero-val, mag-val, lt-val, eq-zero}
+use Rattle.leaves.proofs.Range.{range-size, range-null, count-val}
+use Rattle.leaves.proofs.Bounds.{Bounded}
 use Rattle.law.specs.Law.{All, Sized, AtLeast}
+use Rattle.law.proofs.Ranges.{sizedBounds}
 
 -- ---- lists
 pub all-at : (P : Float → Type 0) (l : List Float) (i : ℕ) → All P l → i < length l → P (getD l i nan)
@@ -122,17 +124,17 @@ module _ (x y : Float) {a b : ℕ} (v : Val x false a) (w : Val y false b) where
 pub plus-val : (x : Float) → T (fits binary64 x) → T (isFinite x) → sign x ≡ false → Val x false (mag x)
 plus-val x t f e = subst (λ (s : Bool). Val x s (mag x)) e (mag-val x t f)
 
-pub pow2-val : (j : ℤ) (n : ℕ) → n + under j ≡ 1074 + over j → Val (pow2 j) false (2 ^ n)
+pub pow2-val : (j : ℤ) (n : ℕ) → n + under j ≡ oneBits + over j → Val (pow2 j) false (2 ^ n)
 unfolding U
-pow2-val j n e = (refl, rw (up-is j, down-is j) (ap (λ (z : ℕ). z * 2 ^ 1074) (one-mul (2 ^ over j)) ∙ sym (pow-add 2 (over j) 1074) ∙ ap (λ (z : ℕ). 2 ^ z) (omega arith) ∙ pow-add 2 n (under j)))
+pow2-val j n e = (refl, rw (up-is j, down-is j) (ap (λ (z : ℕ). z * 2 ^ oneBits) (one-mul (2 ^ over j)) ∙ sym (pow-add 2 (over j) oneBits) ∙ ap (λ (z : ℕ). 2 ^ z) (omega arith) ∙ pow-add 2 n (under j)))
 
 pub two-is : count 2 ≡ two
 unfolding ofInt round
 two-is = refl
 
-minus-val : (l : ℕ) → l ≤ 1074 → Val (pow2 (negℤ (pos l))) false (2 ^ (1074 - l))
+minus-val : (l : ℕ) → l ≤ oneBits → Val (pow2 (negℤ (pos l))) false (2 ^ (oneBits - l))
 unfolding over under
-minus-val l h = pow2-val (negℤ (pos l)) (1074 - l) (omega (arith, over-neg (pos l), under-neg (pos l)))
+minus-val l h = pow2-val (negℤ (pos l)) (oneBits - l) (omega (arith, over-neg (pos l), under-neg (pos l)))
 
 pub two-val : Val two false (2 * U)
 two-val = subst (λ (z : Float). Val z false (2 * U)) two-is (count-val 2 (lit≤ tt))
@@ -141,7 +143,7 @@ two-val = subst (λ (z : Float). Val z false (2 * U)) two-is (count-val 2 (lit�
 pub sized-fits : (l : ℕ) (x : Float) → Sized l x → T (fits binary64 x)
 sized-fits l x t = and-l (fits binary64 x) (eq x zero⁺ || (le (pow2 (negℤ (pos l))) (abs x) && le (abs x) (pow2 (pos l)))) t
 
-pub sized-range : (l : ℕ) → l ≤ 1022 → (x : Float) → Sized l x → Range (1022 - l) (2 ^ (1022 - l + 52)) (2 ^ (1074 + l)) x
+pub sized-range : (l : ℕ) → fractionBits + l ≤ oneBits → (x : Float) → Sized l x → Bounded (sizedBounds l) x
 sized-range l h x t =
     let a : Bool = eq x zero⁺ in
     let b : Bool = le (pow2 (negℤ (pos l))) (abs x) in
@@ -156,21 +158,20 @@ sized-range l h x t =
     finite (inf s) t = unfold eq le lt abs in absurd (and-r (le (pow2 (negℤ (pos l))) (inf false)) false t)
     finite (fin s m e) t = unfold isFinite in tt
 
-    go : Val x (sign x) (mag x) → T (isFinite x) → T (eq x zero⁺) ⊎ T (le (pow2 (negℤ (pos l))) (abs x) && le (abs x) (pow2 (pos l))) → Range (1022 - l) (2 ^ (1022 - l + 52)) (2 ^ (1074 + l)) x
-    go v f (inl z) = let n = eqb-true (mag x) 0 (sym (eq-zero x (sized-fits l x t) f) ∙ is-true (eq x zero⁺) z) in range-size (1022 - l) (2 ^ (1074 + l)) x (sized-fits l x t) f (inl n) (rw n zero-le)
+    go : Val x (sign x) (mag x) → T (isFinite x) → T (eq x zero⁺) ⊎ T (le (pow2 (negℤ (pos l))) (abs x) && le (abs x) (pow2 (pos l))) → Bounded (sizedBounds l) x
+    go v f (inl z) = let n = eqb-true (mag x) 0 (sym (eq-zero x (sized-fits l x t) f) ∙ is-true (eq x zero⁺) z) in range-null x (sized-fits l x t) f n (sizedBounds l .grain) (2 ^ sizedBounds l .least) (2 ^ sizedBounds l .most)
     go v f (inr q) =
         let b : Bool = le (pow2 (negℤ (pos l))) (abs x) in
         let c : Bool = le (abs x) (pow2 (pos l)) in
         let w = abs-val x v in
-        range-size (1022 - l) (2 ^ (1074 + l)) x (sized-fits l x t) f
-        (inr (le-trans (le-of-eq (ap (λ (z : ℕ). 2 ^ z) (omega arith))) (le-yes (pow2 (negℤ (pos l))) (abs x) (minus-val l (omega arith)) w (is-true b (and-l b c q)))))
-        (le-yes (abs x) (pow2 (pos l)) w (pow2-val (pos l) (1074 + l) (unfold over under in omega arith)) (is-true c (and-r b c q)))
+        range-size (oneBits - l) (2 ^ (oneBits + l)) x (omega arith) (sized-fits l x t) f (inr (le-yes (pow2 (negℤ (pos l))) (abs x) (minus-val l (omega arith)) w (is-true b (and-l b c q))))
+        (le-yes (abs x) (pow2 (pos l)) w (pow2-val (pos l) (oneBits + l) (unfold over under in omega arith)) (is-true c (and-r b c q)))
 
 -- ---- 0, or of size 2 ^ -l at least
-pub at-least : (l : ℕ) → l ≤ 1074 → (x : Float) → Val x (sign x) (mag x) → AtLeast l x → (mag x ≡ 0) ⊎ (2 ^ (1074 - l) ≤ mag x)
+pub at-least : (l : ℕ) → l ≤ oneBits → (x : Float) → Val x (sign x) (mag x) → AtLeast l x → (mag x ≡ 0) ⊎ (2 ^ (oneBits - l) ≤ mag x)
 at-least l h x v t = elim (eq-zero-or-pos (mag x)) [ inl z ↦ inl z | inr p ↦ inr (go (lt zero⁺ (abs x)) refl (lt (abs x) (pow2 (negℤ (pos l)))) refl t p) ]
   where
-    go : (a : Bool) → lt zero⁺ (abs x) ≡ a → (b : Bool) → lt (abs x) (pow2 (negℤ (pos l))) ≡ b → T (not (a && b)) → 0 < mag x → 2 ^ (1074 - l) ≤ mag x
+    go : (a : Bool) → lt zero⁺ (abs x) ≡ a → (b : Bool) → lt (abs x) (pow2 (negℤ (pos l))) ≡ b → T (not (a && b)) → 0 < mag x → 2 ^ (oneBits - l) ≤ mag x
     go true i true j t p = absurd t
     go true i false j t p = lt-no (abs x) (pow2 (negℤ (pos l))) (abs-val x v) (minus-val l h) j
     go false i b j t p = absurd (lt-irrefl 0 (native.Mathlib.Nat.lt-of-lt-of-le p (lt-no zero⁺ (abs x) (zero-val false (pos 0)) (abs-val x v) i)))

@@ -24,7 +24,8 @@ use Rattle.leaves.proofs.Loops.{sum-ext, nth-tab}
 use Rattle.leaves.proofs.Rounding.{near, near-least}
 use Rattle.leaves.proofs.Units.{sign, mag, mag-held, finite-mag}
 use Rattle.leaves.proofs.Arithmetic.{add-rounded, add-finite}
-use Rattle.leaves.proofs.Operations.{Moved, still, moved-weaken, moved-sub, moved-mul, moved-over}
+use Rattle.leaves.proofs.Operations.{Moved, still, moved-sub, moved-mul, moved-over}
+use Rattle.leaves.proofs.Bounds.{productOf}
 use Rattle.leaves.proofs.Signs.{sign-sum, sign-div, sign-not-below}
 use Rattle.leaves.proofs.SqrtNearest.{moved-sqrt}
 use Rattle.leaves.proofs.Totals.{moved-sum}
@@ -38,7 +39,8 @@ use Rattle.estimators.specs.declared.Refusal.the-variants.{BadSetting}
 use Rattle.estimators.specs.declared.Answer.the-variants.{Mean}
 use Rattle.law.specs.Law.{All, Sized, LongHalfLife, Alike, ask, maxPower, returnRange, maxHalfLives}
 use Rattle.law.specs.Law as Law
-use Rattle.law.proofs.Bits.{periodBits, period-bits, returnGrain, returnLeast, returnMost}
+use Rattle.law.proofs.Bits.{periodBits, period-bits}
+use Rattle.law.proofs.Ranges.{returnBounds, exponentAbove, exponentBelow, weightBounds, totalWeightBounds, denominatorBounds, unitBounds, weightedUnitBounds, weightedMeanBounds, rootWeightBounds, weightedDeviationBounds}
 use Rattle.law.proofs.Numbers.{filled-alike}
 use Rattle.law.proofs.Chain.{Chain, ends, chain-must, chained, parts, settled}
 use Rattle.law.proofs.Sample.{Returns, largest-above}
@@ -81,12 +83,12 @@ pub record Weighing (T : ℕ) (w : List Float) : Type 0 where
   pub plus : (t : ℕ) → t < T → sign (nth w t) ≡ false
   pub above : (t : ℕ) → t < T → 0 < mag (nth w t)
 
-module _ {k n T : ℕ} {x y : Matrix} (small : k ≤ maxPower) (r : Returns k n T returnGrain returnLeast returnMost x y) (w : List Float) (W : Weighing T w) where
-  weight-moved : (t : ℕ) → t < T → Moved 0 950 950 1075 (nth w t) (nth w t)
-  weight-moved t l = moved-weaken 950 950 1075 (lit≤ tt) (lit≤ tt) (lit≤ tt) (still 1002 1075 (W .range t l))
+module _ {k n T : ℕ} {x y : Matrix} (small : k ≤ maxPower) (r : Returns k n T returnBounds x y) (w : List Float) (W : Weighing T w) where
+  weight-moved : (t : ℕ) → t < T → Moved 0 weightBounds (nth w t) (nth w t)
+  weight-moved t l = still weightBounds (W .range t l)
 
-  all-moved : Moved 0 950 950 1087 (sumTo T (nth w)) (sumTo T (nth w))
-  all-moved = moved-sum 0 950 1075 T periodBits (period-bits (r .most)) (lit≤ tt) (lit≤ tt) 950 (nth w) (nth w) weight-moved
+  all-moved : Moved 0 totalWeightBounds (sumTo T (nth w)) (sumTo T (nth w))
+  all-moved = moved-sum 0 weightBounds T periodBits (period-bits (r .most)) (lit≤ tt) (lit≤ tt) (nth w) (nth w) weight-moved
 
   all-above : 0 < mag (sumTo T (nth w))
   all-above =
@@ -97,29 +99,28 @@ module _ {k n T : ℕ} {x y : Matrix} (small : k ≤ maxPower) (r : Returns k n 
     abbrev e : ℤ
     e = binaryExponent (largest T x i)
 
-    abbrev common : Scaling k returnGrain returnLeast returnMost (largest T x i) (largest T y i)
+    abbrev common : Scaling k returnBounds (largest T x i) (largest T y i)
     common = column small r i a
 
     average : Float
     average = sumTo T (λ t. nth w t ⊗ pow2Scaled (x t i) (negℤ (binaryExponent (largest T x i)))) ⊘ sumTo T (nth w)
 
-    average-moved : Moved (common .still) 753 753 1212 average average
+    average-moved : Moved (common .still) weightedUnitBounds average average
     unfolding average
     average-moved =
         let j = common .still in
-        let terms : (t : ℕ) → t < T → Moved j 818 818 1076 (nth w t ⊗ pow2Scaled (x t i) (negℤ e)) (nth w t ⊗ pow2Scaled (x t i) (negℤ e)) =
-        λ t l. rw (zero-add j) at (moved-mul (weight-moved t l) (common .moved (r .entries t i l a) (largest-above r t i l a)) 818 818 1076 (lit≤ tt) (lit≤ tt) (lit≤ tt) (omega (arith, common .few))) in
-        moved-weaken 753 753 1212 (lit≤ tt) (lit≤ tt) (lit≤ tt)
-        (moved-over (moved-sum j 818 1076 T periodBits (period-bits (r .most)) (lit≤ tt) (omega (arith, common .few)) 818 (λ t. nth w t ⊗ pow2Scaled (x t i) (negℤ e)) (λ t. nth w t ⊗ pow2Scaled (x t i) (negℤ e)) terms)
-        all-moved all-above 753 1212 (lit≤ tt) (lit≤ tt) (omega (arith, common .few)))
+        let terms : (t : ℕ) → t < T → Moved j (productOf weightBounds unitBounds) (nth w t ⊗ pow2Scaled (x t i) (negℤ e)) (nth w t ⊗ pow2Scaled (x t i) (negℤ e)) =
+        λ t l. rw (zero-add j) at (moved-mul (weight-moved t l) (common .moved (r .entries t i l a) (largest-above r t i l a)) (lit≤ tt) (omega (arith, common .few))) in
+        moved-over (moved-sum j (productOf weightBounds unitBounds) T periodBits (period-bits (r .most)) (lit≤ tt) (omega (arith, common .few)) (λ t. nth w t ⊗ pow2Scaled (x t i) (negℤ e)) (λ t. nth w t ⊗ pow2Scaled (x t i) (negℤ e)) terms)
+        all-moved all-above (lit≤ tt) (omega (arith, common .few))
 
-    pub mean-moved : Moved k 712 712 1252 (weightedMean T w x i) (weightedMean T w y i)
+    pub mean-moved : Moved k weightedMeanBounds (weightedMean T w x i) (weightedMean T w y i)
     unfolding weightedMean average
     mean-moved = record {
-      range = scaled-range 1212 e returnRange (suc returnRange) (average-moved .range) (common .small .0) (common .small .1) (lit≤ tt) (lit≤ tt);
+      range = scaled-range weightedUnitBounds e (exponentAbove returnBounds) (exponentBelow returnBounds) (average-moved .range) (common .small .0) (common .small .1) (lit≤ tt) (lit≤ tt);
       copy = ap (λ (s : Float). pow2Scaled (s ⊘ sumTo T (nth w)) (binaryExponent (largest T y i)))
           (sum-ext T (λ t. nth w t ⊗ pow2Scaled (y t i) (negℤ (binaryExponent (largest T y i)))) (λ t. nth w t ⊗ pow2Scaled (x t i) (negℤ e)) (λ t l. ap (λ (z : Float). nth w t ⊗ z) (common .same (r .entries t i l a) (largest-above r t i l a))))
-          ∙ scaled-back common average-moved (lit≤ tt) (lit≤ tt) (omega arith);
+          ∙ scaled-back common average-moved (lit≤ tt) (omega arith);
     }
 
 -- ---- an accepted half-life
@@ -145,7 +146,7 @@ long-enough P two h t =
     go (suc P) two b t = is-true b (rw (ne-eqb (suc P) 0 (λ e. absurd (omega arith))) at t)
 
 -- ---- the weighted covariance
-pub covariance-moved : {k n T : ℕ} {x y : Matrix} → k ≤ maxPower → Returns k n T returnGrain returnLeast returnMost x y → (h : Float) → LongHalfLife T h → accepted (logDecay h) ≡ true
+pub covariance-moved : {k n T : ℕ} {x y : Matrix} → k ≤ maxPower → Returns k n T returnBounds x y → (h : Float) → LongHalfLife T h → accepted (logDecay h) ≡ true
     → (i j : ℕ) → i < n → j < n → Estimated (k + k) (weightedCovariance T (logDecay h) x i j) (weightedCovariance T (logDecay h) y i j)
 unfolding weightedCovariance gram
 covariance-moved {k} {n} {T} {x} {y} small r h long ok i j a b =
@@ -154,13 +155,13 @@ covariance-moved {k} {n} {T} {x} {y} small r h long ok i j a b =
     let W = weighing T (r .periods) (r .most) h (q .0) ok (q .1) in
     let D = denominator-range T (r .periods) (r .most) h (q .0) ok (q .1) in
     let d = denominator T (logDecay h) in
-    let root : (t : ℕ) → t < T → Moved 0 976 1028 1113 (sqrt (nth w t ⊘ d)) (sqrt (nth w t ⊘ d)) =
-    λ t l. moved-sqrt {k = 0} (moved-over (still 1002 1075 (W .range t l)) (still 997 1094 (D .0)) (D .2) 930 1152 (lit≤ tt) (lit≤ tt) (lit≤ tt)) (sign-not-below (nth w t ⊘ d) (sign-div (nth w t) d (W .plus t l ∙ sym (D .1)))) 976 1113 (lit≤ tt) (lit≤ tt) in
-    let term : (c : ℕ) → c < n → (t : ℕ) → t < T → Moved k 614 614 1292 ((x t c ⊖ weightedMean T w x c) ⊗ sqrt (nth w t ⊘ d)) ((y t c ⊖ weightedMean T w y c) ⊗ sqrt (nth w t ⊘ d)) =
-    λ c l t m. rw (add-zero k) at (moved-mul (moved-sub (moved-weaken 712 712 1252 (lit≤ tt) (lit≤ tt) (lit≤ tt) (r .entries t c m l)) (mean-moved small r w W c l) (omega arith)) (root t m) 614 614 1292 (lit≤ tt) (lit≤ tt) (lit≤ tt) (omega arith)) in
-    moved-sum (k + k) 154 1510 T periodBits (period-bits (r .most)) (lit≤ tt) (omega arith) 154 (λ t. (x t i ⊖ weightedMean T w x i) ⊗ sqrt (nth w t ⊘ d) ⊗ ((x t j ⊖ weightedMean T w x j) ⊗ sqrt (nth w t ⊘ d)))
+    let root : (t : ℕ) → t < T → Moved 0 rootWeightBounds (sqrt (nth w t ⊘ d)) (sqrt (nth w t ⊘ d)) =
+    λ t l. moved-sqrt {k = 0} (moved-over (still weightBounds (W .range t l)) (still denominatorBounds (D .0)) (D .2) (lit≤ tt) (lit≤ tt)) (sign-not-below (nth w t ⊘ d) (sign-div (nth w t) d (W .plus t l ∙ sym (D .1)))) in
+    let term : (c : ℕ) → c < n → (t : ℕ) → t < T → Moved k weightedDeviationBounds ((x t c ⊖ weightedMean T w x c) ⊗ sqrt (nth w t ⊘ d)) ((y t c ⊖ weightedMean T w y c) ⊗ sqrt (nth w t ⊘ d)) =
+    λ c l t m. rw (add-zero k) at (moved-mul (moved-sub weightedMeanBounds tt tt (r .entries t c m l) (mean-moved small r w W c l) (omega arith)) (root t m) (lit≤ tt) (omega arith)) in
+    moved-sum (k + k) (productOf weightedDeviationBounds weightedDeviationBounds) T periodBits (period-bits (r .most)) (lit≤ tt) (omega arith) (λ t. (x t i ⊖ weightedMean T w x i) ⊗ sqrt (nth w t ⊘ d) ⊗ ((x t j ⊖ weightedMean T w x j) ⊗ sqrt (nth w t ⊘ d)))
     (λ t. (y t i ⊖ weightedMean T w y i) ⊗ sqrt (nth w t ⊘ d) ⊗ ((y t j ⊖ weightedMean T w y j) ⊗ sqrt (nth w t ⊘ d)))
-    (λ t l. moved-mul (term i a t l) (term j b t l) 154 154 1510 (lit≤ tt) (lit≤ tt) (lit≤ tt) (omega arith))
+    (λ t l. moved-mul (term i a t l) (term j b t l) (lit≤ tt) (omega arith))
 
 -- ---- the call
 module _ (k : ℕ) (small : k ≤ maxPower) (r : List Float) (sizes : All (Sized returnRange) r) (n T : ℕ) (h : Float) (long : LongHalfLife T h) where

@@ -18,15 +18,17 @@ use Rattle.leaves.specs.Exp.{ln2, exp, expM1}
 use Rattle.leaves.proofs.Rounding.{near, Held, near-most, near-least, near-error, near-held, held-pow, held-up}
 use Rattle.leaves.proofs.Units.{U, U-pos, Top, pow-under-Top, Val, sign, mag, zero-mag, val-mag, val-pos, val-finite, mag-val, mag-held, zero-val, neg-val, finite-mag, rounded-val, rounded-cases, lt-val}
 use Rattle.leaves.proofs.Arithmetic.{mul-rounded, div-rounded}
-use Rattle.leaves.proofs.Range.{Range, count-val, range-size}
+use Rattle.leaves.proofs.Range.{count-val, range-size}
+use Rattle.leaves.proofs.Bounds.{Bounded}
 use Rattle.leaves.proofs.Whole.{le-or-lt}
 use Rattle.leaves.proofs.Signs.{sign-round}
 use Rattle.law.proofs.Sizes.{le-yes, two-val}
-use Rattle.law.proofs.Exponential.{W, U-W, W-pos, W-large, N, N-is, ln2-val, near-above, mul-most, Exp, exp-within, product-least, product-most, ExpM1, expM1-within, exp-above, Weight, exp-val}
+use Rattle.law.proofs.Exponential.{W, ageMost, argumentMost, U-W, W-pos, W-large, N, N-is, ln2-val, near-above, mul-most, Exp, exp-within, product-least, product-most, ExpM1, expM1-within, exp-above, Weight, exp-val}
 use Rattle.estimators.specs.Weighted.{minLogDecay, logDecay, accepted, denominator}
 use Rattle.estimators.specs.Order.{maxPeriods}
 use Rattle.law.specs.Law.{maxHalfLives}
 use Rattle.law.proofs.Bits.{periodBits, period-bits, halfLifeBits}
+use Rattle.law.proofs.Ranges.{weightBounds, denominatorBounds}
 
 -- ---- the logarithm of the decay: finite and below zero, so the half-life is finite and above
 module _ (h : Float) (fit : T (fits binary64 h)) (ok : accepted (logDecay h) ≡ true) where
@@ -85,15 +87,13 @@ module _ (h : Float) (fit : T (fits binary64 h)) (ok : accepted (logDecay h) ≡
               not-true false i = refl
 
 -- ---- T - 1 ≤ 64 h
-times-log : (j a H n u w : ℕ) → j * u ≤ maxHalfLives * H → 100000 * (a * H) ≤ 100001 * (n * u) + 50000 * H → 0 < H → 100000 * n ≤ 69315 * u → u ≡ 32 * w → j ≤ maxPeriods → 10000000 ≤ w → j * a ≤ 1536 * w
+times-log : (j a H n u w : ℕ) → j * u ≤ maxHalfLives * H → 100000 * (a * H) ≤ 100001 * (n * u) + 50000 * H → 0 < H → 100000 * n ≤ 69315 * u → u ≡ 32 * w → j ≤ maxPeriods → 10000000 ≤ w → j * a ≤ ageMost * w
 times-log j a H n u w l e p q i few large =
     let f : j * (100000 * (a * H)) ≤ j * (100001 * (n * u) + 50000 * H) = mul-le-mul-left j e in
     let g : n * (j * u) ≤ n * (maxHalfLives * H) = mul-le-mul-left n l in
     let c : 100000 * (j * a) * H ≤ (100001 * maxHalfLives * n + 50000 * j) * H = omega arith in
-    finish (j * a) n u w j (le-of-mul-le-mul-right {k = H} c p) q i few large
-  where
-    finish : (x n u w j : ℕ) → 100000 * x ≤ 100001 * maxHalfLives * n + 50000 * j → 100000 * n ≤ 69315 * u → u ≡ 32 * w → j ≤ maxPeriods → 10000000 ≤ w → x ≤ 1536 * w
-    finish x n u w j c q i few large = omega arith
+    let x = le-of-mul-le-mul-right {k = H} c p in
+    omega arith
 
 module _ (P : ℕ) (periods : 2 ≤ P) (most : P ≤ maxPeriods) (h : Float) (fit : T (fits binary64 h)) (ok : accepted (logDecay h) ≡ true) (long : le (count (P - 1)) (count maxHalfLives ⊗ h) ≡ true) where
   abbrev m : ℕ
@@ -113,7 +113,7 @@ module _ (P : ℕ) (periods : 2 ≤ P) (most : P ≤ maxPeriods) (h : Float) (fi
         | inr over ↦ let top : maxPeriods * U ≤ Top = unfold U Top in lit≤ tt in le-trans (mul-le-mul-right U (le-trans (omega arith) most)) (le-trans top (le-trans (over .0) (le-of-eq e)))
       ]
 
-  times-bound : (j : ℕ) → j ≤ P - 1 → j * mag (logDecay h) ≤ 1536 * W
+  times-bound : (j : ℕ) → j ≤ P - 1 → j * mag (logDecay h) ≤ ageMost * W
   times-bound j few =
       let q = half-life h fit ok in
       let H = q .0 in
@@ -122,8 +122,8 @@ module _ (P : ℕ) (periods : 2 ≤ P) (most : P ≤ maxPeriods) (h : Float) (fi
       (subst (λ (a : ℕ). 100000 * (a * H) ≤ 100001 * (N * U) + 50000 * H) e (near-above (near (N * U) H) (N * U) H (near-error (N * U) H (q .2)))) (q .2) (N-is .1) U-W (omega arith) W-large
 
   -- ---- the weights
-  exponent-val : (j : ℕ) → j ≤ P - 1 → Val (count j ⊗ logDecay h) true (near (j * U * mag (logDecay h)) U) × (near (j * U * mag (logDecay h)) U ≤ 1536 * W)
-  exponent-val j few = mul-most 1536 (lit≤ tt) (count j) (logDecay h) false true (j * U) m (count-val j (le-trans few (le-trans (omega arith) (le-trans most (lit≤ tt))))) (log-val h fit ok .0)
+  exponent-val : (j : ℕ) → j ≤ P - 1 → Val (count j ⊗ logDecay h) true (near (j * U * mag (logDecay h)) U) × (near (j * U * mag (logDecay h)) U ≤ ageMost * W)
+  exponent-val j few = mul-most ageMost (lit≤ tt) (count j) (logDecay h) false true (j * U) m (count-val j (le-trans few (le-trans (omega arith) (le-trans most (lit≤ tt))))) (log-val h fit ok .0)
       (le-trans (le-of-eq (mul-right-comm j U m)) (mul-le-mul-right U (times-bound j few)))
 
   weight : (j : ℕ) → (few : j ≤ P - 1) → Exp (count j ⊗ logDecay h) (near (j * U * mag (logDecay h)) U)
@@ -137,7 +137,7 @@ module _ (P : ℕ) (periods : 2 ≤ P) (most : P ≤ maxPeriods) (h : Float) (fi
       (x .range (le-trans (v .1) (omega arith)), x .plus, exp-above x)
 
   -- ---- the denominator
-  log-bound : mag (logDecay h) ≤ 1536 * W
+  log-bound : mag (logDecay h) ≤ ageMost * W
   log-bound = le-trans (le-of-eq (sym (one-mul m))) (times-bound 1 (omega arith))
 
   log-exp : Exp (logDecay h) (mag (logDecay h))
@@ -165,7 +165,7 @@ module _ (P : ℕ) (periods : 2 ≤ P) (most : P ≤ maxPeriods) (h : Float) (fi
   twice-val : Val (two ⊗ logDecay h) true (2 * mag (logDecay h))
   twice-val =
       let e : near (2 * U * m) U ≡ 2 * m = ap (λ (n : ℕ). near n U) (mul-right-comm 2 U m) ∙ near-held (2 * m) U U-pos (subst Held (mul-comm m 2) (held-up m 1 (log-held h fit ok))) in
-      subst (Val (two ⊗ logDecay h) true) e (mul-most 3072 (lit≤ tt) two (logDecay h) false true (2 * U) m two-val (log-val h fit ok .0)
+      subst (Val (two ⊗ logDecay h) true) e (mul-most argumentMost (lit≤ tt) two (logDecay h) false true (2 * U) m two-val (log-val h fit ok .0)
       (le-trans (le-of-eq (mul-right-comm 2 U m)) (mul-le-mul-right U (let b = log-bound in omega arith))) .0)
 
   below : ExpM1 (two ⊗ logDecay h) (2 * mag (logDecay h))
@@ -230,34 +230,31 @@ module _ (P : ℕ) (periods : 2 ≤ P) (most : P ≤ maxPeriods) (h : Float) (fi
       let q₂ = product-most (above .E) (2 * mag (exp (logDecay h))) 108 g W U U-W W-pos most (le-trans (n .doubled) (le-of-eq (ap (λ (z : ℕ). 2 * z) (sym turn)))) in
       (omega (arith, b, p), omega (arith, b, e, q₁), omega (arith, b, e, q₂))
 
-  apart : 8 * W < mag (logDecay h) → (5 * W ≤ E₂) × (E₂ ≤ 32 * W) × (2 ^ 997 ≤ dividend)
+  apart : 8 * W < mag (logDecay h) → (5 * W ≤ E₂) × (E₂ ≤ 32 * W) × (2 ^ denominatorBounds .least ≤ dividend)
   unfolding E₂ dividend E₁ factor
   apart c =
       let b = below .far (omega arith) in
       let s = span-within in
-      let r = log-exp .range log-bound' in
+      let r = log-exp .range log-bound in
       let e : 1 * W ≤ 2 * above .E = elim (le-or-lt span (16 * W)) [ inl q ↦ (let z = above .near-zero q .0 in omega (arith, s)) | inr q ↦ (let z = above .far q .0 in omega arith) ] in (
         b .0,
         b .1,
-        near-least (2 * mag (exp (logDecay h)) * above .E) U (2 ^ 997) U-pos (held-pow 997)
+        near-least (2 * mag (exp (logDecay h)) * above .E) U (2 ^ denominatorBounds .least) U-pos (held-pow (denominatorBounds .least))
             (le-trans powers (le-trans (mul-le-mul (r .least (exp-above log-exp)) e) (le-of-eq (regroup (mag (exp (logDecay h))) (above .E))))),
       )
     where
-      log-bound' : mag (logDecay h) ≤ 48 * (32 * W)
-      log-bound' = le-trans log-bound (omega arith)
-
-      powers : 2 ^ 997 * U ≤ 2 ^ 1002 * (1 * W)
+      powers : 2 ^ denominatorBounds .least * U ≤ 2 ^ weightBounds .least * (1 * W)
       powers = unfold U W in lit≤ tt
 
       regroup : (b E : ℕ) → b * (2 * E) ≡ 2 * b * E
       regroup b E = omega arith
 
-  quotient-bounds : (0 < E₂) × (2 ^ 997 * E₂ ≤ dividend * U) × (dividend * U ≤ 2 ^ 1094 * E₂)
+  quotient-bounds : (0 < E₂) × (2 ^ denominatorBounds .least * E₂ ≤ dividend * U) × (dividend * U ≤ 2 ^ denominatorBounds .most * E₂)
   quotient-bounds = elim (le-or-lt (mag (logDecay h)) (8 * W)) [
     | inl c ↦
         let q = close c in (
           q .0,
-          le-trans (mul-le-mul-left (2 ^ 997) (q .1)) (le-trans (le-of-eq (sym (mul-assoc (2 ^ 997) 1536 dividend))) (le-trans (mul-le-mul-right dividend small₁) (le-of-eq (mul-comm U dividend)))),
+          le-trans (mul-le-mul-left (2 ^ denominatorBounds .least) (q .1)) (le-trans (le-of-eq (sym (mul-assoc (2 ^ denominatorBounds .least) 1536 dividend))) (le-trans (mul-le-mul-right dividend small₁) (le-of-eq (mul-comm U dividend)))),
           le-trans (mul-le-mul-right U (q .2)) (le-trans (le-of-eq (mul-right-comm (168 * 2 ^ periodBits) E₂ U)) (mul-le-mul-right E₂ large₁)),
         )
     | inr c ↦
@@ -268,24 +265,24 @@ module _ (P : ℕ) (periods : 2 ≤ P) (most : P ≤ maxPeriods) (h : Float) (fi
         )
   ]
     where
-      small₁ : 2 ^ 997 * 1536 ≤ U
+      small₁ : 2 ^ denominatorBounds .least * 1536 ≤ U
       small₁ = unfold U in lit≤ tt
 
-      large₁ : 168 * 2 ^ periodBits * U ≤ 2 ^ 1094
+      large₁ : 168 * 2 ^ periodBits * U ≤ 2 ^ denominatorBounds .most
       large₁ = unfold U in lit≤ tt
 
       bigger : (E w : ℕ) → 5 * w ≤ E → 162 * w ≤ 168 * 2 ^ periodBits * E
       bigger E w b = omega arith
 
-  pub denominator-range : Range 945 (2 ^ 997) (2 ^ 1094) (denominator P (logDecay h)) × (sign (denominator P (logDecay h)) ≡ false) × (0 < mag (denominator P (logDecay h)))
+  pub denominator-range : Bounded denominatorBounds (denominator P (logDecay h)) × (sign (denominator P (logDecay h)) ≡ false) × (0 < mag (denominator P (logDecay h)))
   unfolding denominator E₂
   denominator-range =
       let x = two ⊗ exp (logDecay h) ⊗ neg (expM1 (count (P - 1) ⊗ logDecay h)) in
       let y = neg (expM1 (two ⊗ logDecay h)) in
       let q = quotient-bounds in
-      let least = near-least (dividend * U) E₂ (2 ^ 997) (q .0) (held-pow 997) (q .1) in
-      let most = near-most (dividend * U) E₂ (2 ^ 1094) (q .0) (held-pow 1094) (q .2) in
+      let least = near-least (dividend * U) E₂ (2 ^ denominatorBounds .least) (q .0) (held-pow (denominatorBounds .least)) (q .1) in
+      let most = near-most (dividend * U) E₂ (2 ^ denominatorBounds .most) (q .0) (held-pow (denominatorBounds .most)) (q .2) in
       let v : Val (x ⊘ y) false (near (dividend * U) E₂) = subst (λ (z : Float). Val z false (near (dividend * U) E₂)) (sym (div-rounded x y false false dividend E₂ (dividend-val .0) (neg-val (expM1 (two ⊗ logDecay h)) true (below .E) (below .val)) (q .0)))
-      (rounded-val false (dividend * U) E₂ (q .0) (lt-of-le-of-lt most (pow-under-Top 1094 (lit≤ tt)))) in
+      (rounded-val false (dividend * U) E₂ (q .0) (lt-of-le-of-lt most (pow-under-Top (denominatorBounds .most) (lit≤ tt)))) in
       let i = val-mag (x ⊘ y) false (near (dividend * U) E₂) v in
-      (range-size 945 (2 ^ 1094) (x ⊘ y) (div-fits binary64 x y) (val-finite (x ⊘ y) false (near (dividend * U) E₂) v) (inr (rw (i .1) least)) (rw (i .1) most), i .0, rw (i .1) (lt-of-lt-of-le (pow-pos 997) least))
+      (range-size (denominatorBounds .least) (2 ^ denominatorBounds .most) (x ⊘ y) (lit≤ tt) (div-fits binary64 x y) (val-finite (x ⊘ y) false (near (dividend * U) E₂) v) (inr (rw (i .1) least)) (rw (i .1) most), i .0, rw (i .1) (lt-of-lt-of-le (pow-pos (denominatorBounds .least)) least))

@@ -16,7 +16,7 @@ use Rattle.leaves.specs.Shift.{shift}
 use Rattle.leaves.proofs.Laws.{zero-exp}
 use Rattle.leaves.proofs.Zero.{no, zero-is-zero, other-is-not}
 use Rattle.leaves.proofs.Rounding.{near, near-most, held-small}
-use Rattle.leaves.proofs.Units.{U, Top, sign, mag, Val, mag-val, zero-val, val-unique, rounded, rounded-val, pow-under-Top}
+use Rattle.leaves.proofs.Units.{oneBits, topBits, U, Top, sign, mag, Val, mag-val, zero-val, val-unique, rounded, rounded-val, pow-under-Top}
 use Rattle.leaves.proofs.Arithmetic.{div-rounded}
 use Rattle.leaves.proofs.Signs.{sign-add, sign-mul, sign-sqrt}
 use Rattle.law.proofs.Sizes.{number, not-lt}
@@ -40,30 +40,33 @@ zero-add x y p q = let w = go (p .0) (q .0) in (w .0, ap₂ (λ (x y : Float). x
     go false true = unfold add sum round in (false, refl)
     go false false = unfold add sum round in (false, refl)
 
--- times itself, a half and two: by computation
+-- what computes to a zero of either zero makes a zero of each
+zero-by : (f : Float → Float) → ((s : Bool) → Zero (f (fin s zero (pos 0)))) → (x : Float) → Zero x → Zero (f x)
+zero-by f each x p = let w = each (p .0) in (w .0, ap f (p .1) ∙ w .1)
+
 pub zero-square : (x : Float) → Zero x → Zero (x ⊗ x)
-zero-square x p = let w = go (p .0) in (w .0, ap (λ (x : Float). x ⊗ x) (p .1) ∙ w .1)
+zero-square = zero-by (λ x. x ⊗ x) go
   where
     go : (s : Bool) → Zero (fin s zero (pos 0) ⊗ fin s zero (pos 0))
     go true = unfold mul round in (false, refl)
     go false = unfold mul round in (false, refl)
 
 pub zero-half : (x : Float) → Zero x → Zero (x ⊗ half)
-zero-half x p = let w = go (p .0) in (w .0, ap (λ (x : Float). x ⊗ half) (p .1) ∙ w .1)
+zero-half = zero-by (λ x. x ⊗ half) go
   where
     go : (s : Bool) → Zero (fin s zero (pos 0) ⊗ half)
     go true = unfold mul round in (true, refl)
     go false = unfold mul round in (false, refl)
 
 pub zero-double : (x : Float) → Zero x → Zero (two ⊗ x)
-zero-double x p = let w = go (p .0) in (w .0, ap (λ (x : Float). two ⊗ x) (p .1) ∙ w .1)
+zero-double = zero-by (λ x. two ⊗ x) go
   where
     go : (s : Bool) → Zero (two ⊗ fin s zero (pos 0))
     go true = unfold mul round in (true, refl)
     go false = unfold mul round in (false, refl)
 
 pub zero-average : (x : Float) → Zero x → Zero (x ⊘ two)
-zero-average x p = let w = go (p .0) in (w .0, ap (λ (x : Float). x ⊘ two) (p .1) ∙ w .1)
+zero-average = zero-by (λ x. x ⊘ two) go
   where
     go : (s : Bool) → Zero (fin s zero (pos 0) ⊘ two)
     go true = unfold div round in (true, refl)
@@ -105,9 +108,9 @@ number-cond false x y p q = q
 
 number-units : (s : Bool) (q k : ℕ) → T (number (units binary64 s q k))
 unfolding units odd
-number-units s q k = number-cond (ltb (q * 2 ^ k) (2 ^ 2098)) (odd 54 s q k 1074) (inf s) (go q) tt
+number-units s q k = number-cond (ltb (q * 2 ^ k) (2 ^ suc topBits)) (odd 54 s q k oneBits) (inf s) (go q) tt
   where
-    go : (q : ℕ) → T (number (odd 54 s q k 1074))
+    go : (q : ℕ) → T (number (odd 54 s q k oneBits))
     go zero = tt
     go (suc q) = tt
 

@@ -1,13 +1,17 @@
--- The inputs of the pairs: two assets in three periods, returns 0 or of one size, at the lower end of the range and at the upper, which is 2^maxPower times it.
-use mathlib.Core.Path.{refl}
+-- Pairs of inputs that show that the power-of-two law is not empty (`Pair`): two assets in three periods, returns 0 or of one size, at the lower end of the
+-- range and at the upper, which is 2^maxPower times it.
+use Prim.Native.Nat.{_-_}
+use mathlib.Core.Path.{_≡_, refl}
 use mathlib.Core.Bool.{true, false}
 use mathlib.Core.List.{List, [], _∷_}
+use mathlib.Core.Option.{none}
 use lib.Dec.{lit≤}
 use lib.IntN.{ℤ, pos, negℤ}
 use lib.Ieee.{Float, fin}
 use Rattle.leaves.specs.Numbers.{zero⁺, one}
 use Rattle.examples.proofs.Evaluated.{evaluated}
-use Rattle.law.specs.Law.{Question, Input, All, Each, Copy, Sized, CopiedQuestion, QuestionInRange, Scaled, returnRange, covarianceRange, maxPower}
+use Rattle.law.specs.Law.{Question, Input, answer, All, Each, Copy, Sized, CopiedQuestion, QuestionInRange, Scaled, returnRange, covarianceRange, maxPower}
+use Rattle.law.proofs.Theorem.{turned-down}
 
 -- ---- the ends of the ranges
 -- of returns and thresholds
@@ -56,7 +60,7 @@ copies : Each (Copy (pos maxPower)) (returns lowReturn) (returns highReturn)
 unfolding evaluated
 copies = ((refl, refl), ((refl, refl), ((refl, refl), ((refl, refl), ((refl, refl), ((refl, refl), tt))))))
 
-pub scaled-up : {q q' : Question} → QuestionInRange (low q) q → QuestionInRange (high q') q' → CopiedQuestion (pos maxPower) q q' → Scaled (pos maxPower) (low q) (high q')
+scaled-up : {q q' : Question} → QuestionInRange (low q) q → QuestionInRange (high q') q' → CopiedQuestion (pos maxPower) q q' → Scaled (pos maxPower) (low q) (high q')
 scaled-up a b c = record {
   power = lit≤ tt;
   returns = copies;
@@ -67,3 +71,13 @@ scaled-up a b c = record {
   first = record { returns = low-returns; question = a };
   second = record { returns = high-returns; question = b };
 }
+
+-- both inputs are accepted, and meet every hypothesis of the law at k = maxPower and at k = -maxPower
+pub record Pair (q q' : Question) : Type 0 where
+  pub low-accepted : answer (low q) .refusal ≡ none
+  pub high-accepted : answer (high q') .refusal ≡ none
+  pub up : Scaled (pos maxPower) (low q) (high q')
+  pub down : Scaled (negℤ (pos maxPower)) (high q') (low q)
+
+pub pair : {q q' : Question} → answer (low q) .refusal ≡ none → answer (high q') .refusal ≡ none → QuestionInRange (low q) q → QuestionInRange (high q') q' → CopiedQuestion (pos maxPower) q q' → Pair q q'
+pair {q} {q'} x y a b c = let s = scaled-up a b c in record { low-accepted = x; high-accepted = y; up = s; down = turned-down (maxPower - 1) (low q) (high q') s }

@@ -1,4 +1,4 @@
 -- The power-of-two law at numbers.
-mod Inputs
+pub mod Inputs
 pub mod Covariances
 pub mod Means

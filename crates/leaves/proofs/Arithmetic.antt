@@ -1,5 +1,6 @@
 -- The sum, the product and the quotient of values in units: each is the exact result, n / d units, rounded once (`add-rounded`, `mul-rounded`, `div-rounded`). With `near-error` this bounds every
--- operation's error, and with `near-most` and `near-least` its size. The quotient of two values shifted alike is the same float, with no condition (`div-alike`). Assumes nothing.
+-- operation's error, and with `near-most` and `near-least` its size. The quotient of two values shifted alike is the same float, with no condition (`div-alike`). And which operands of a
+-- finite result are finite. Assumes nothing.
 use mathlib.Core.Path.{_≡_, refl, sym, ap, ap₂, _∙_}
 use Prim.Native.Nat.{ℕ, zero, suc, _+_, _-_, _*_, _≤_, _<_}
 use native.Mathlib.Nat.{lt-irrefl, zero-lt-suc, one-mul, mul-one, mul-comm, mul-mul-mul-comm, mul-sub, add-mul, mul-pos, eq-of-mul-eq-mul-right}
@@ -38,8 +39,8 @@ sum-is s a t b c = go (Bool·beq s t) (ltb a b) refl
     go false true e = let l = ltb-true a b e in ap (λ (z : ℕ). round binary64 t z c) (omega arith)
     go false false e = let l = ltb-false a b e in ap (λ (z : ℕ). round binary64 (s && ltb b a) z c) (omega arith)
 
-less-times : (y x p : ℕ) → (y - x) * p ≡ y * p - x * p
-less-times y x p = mul-comm (y - x) p ∙ mul-sub p y x ∙ ap₂ (λ (u v : ℕ). u - v) (mul-comm p y) (mul-comm p x)
+sub-mul : (y x p : ℕ) → (y - x) * p ≡ y * p - x * p
+sub-mul y x p = mul-comm (y - x) p ∙ mul-sub p y x ∙ ap₂ (λ (u v : ℕ). u - v) (mul-comm p y) (mul-comm p x)
 
 -- of x / q and y / q, which are a / p and b / p
 module _ (s t : Bool) (x y p q a b : ℕ) (P : 0 < p) (Q : 0 < q) (e : x * p ≡ a * q) (g : y * p ≡ b * q) where
@@ -52,7 +53,7 @@ module _ (s t : Bool) (x y p q a b : ℕ) (P : 0 < p) (Q : 0 < q) (e : x * p ≡
       go : (u : Bool) → cond u (x + y) (distance x y) * p ≡ cond u (a + b) (distance a b) * q
       go true = add-mul x y p ∙ ap₂ (λ (u v : ℕ). u + v) e g ∙ sym (add-mul a b q)
       go false =
-          add-mul (x - y) (y - x) p ∙ ap₂ (λ (u v : ℕ). u + v) (less-times x y p ∙ ap₂ (λ (u v : ℕ). u - v) e g ∙ sym (less-times a b q)) (less-times y x p ∙ ap₂ (λ (u v : ℕ). u - v) g e ∙ sym (less-times b a q))
+          add-mul (x - y) (y - x) p ∙ ap₂ (λ (u v : ℕ). u + v) (sub-mul x y p ∙ ap₂ (λ (u v : ℕ). u - v) e g ∙ sym (sub-mul a b q)) (sub-mul y x p ∙ ap₂ (λ (u v : ℕ). u - v) g e ∙ sym (sub-mul b a q))
           ∙ sym (add-mul (a - b) (b - a) q)
 
 pub sumSign-times : (s t : Bool) (a b k : ℕ) → 0 < k → sumSign s (a * k) t (b * k) ≡ sumSign s a t b
@@ -84,43 +85,6 @@ add-rounded (fin u m e) (fin r n h) s t a b v w =
     ap₂ (λ (y z : Bool). sum binary64 y X z Y D) (v .0) (w .0) ∙ sum-is s X t Y D
     ∙ ap (λ (z : Bool). round binary64 z (total s X t Y) D) (sumSign-scaled s t X Y U D a b U-pos D-pos p q)
     ∙ round-same binary64 (sumSign s a t b) (total s X t Y) D (total s a t b) (1 * U) D-pos (rw (one-mul U) U-pos) (rw (one-mul U) (total-scaled s t X Y U D a b U-pos D-pos p q))
-
--- a finite sum has finite terms, and a finite product finite factors
-pub add-finite : (x y : Float) → T (isFinite (x ⊕ y)) → T (isFinite x) × T (isFinite y)
-unfolding add isFinite
-add-finite nan y t = absurd t
-add-finite (inf s) nan t = absurd t
-add-finite (inf true) (inf true) t = absurd t
-add-finite (inf true) (inf false) t = absurd t
-add-finite (inf false) (inf true) t = absurd t
-add-finite (inf false) (inf false) t = absurd t
-add-finite (inf s) (fin r n d) t = absurd t
-add-finite (fin s m e) nan t = absurd t
-add-finite (fin s m e) (inf r) t = absurd t
-add-finite (fin s m e) (fin r n d) t = (tt, tt)
-
-neither : (b s : Bool) → T (isFinite (cond b nan (inf s))) → ⊥
-unfolding isFinite
-neither true s t = t
-neither false s t = t
-
-pub mul-finite : (x y : Float) → T (isFinite (x ⊗ y)) → T (isFinite x) × T (isFinite y)
-unfolding mul isFinite
-mul-finite nan y t = absurd t
-mul-finite (inf s) nan t = absurd t
-mul-finite (inf s) (inf r) t = absurd t
-mul-finite (inf s) (fin r n d) t = absurd (neither (eqb n 0) (unlike s r) t)
-mul-finite (fin s m e) nan t = absurd t
-mul-finite (fin s m e) (inf r) t = absurd (neither (eqb m 0) (unlike s r) t)
-mul-finite (fin s m e) (fin r n d) t = (tt, tt)
-
-pub div-finite : (x y : Float) → T (isFinite (x ⊘ y)) → T (isFinite x)
-unfolding div isFinite
-div-finite nan y t = absurd t
-div-finite (inf s) nan t = absurd t
-div-finite (inf s) (inf r) t = absurd t
-div-finite (inf s) (fin r n d) t = absurd t
-div-finite (fin s m e) y t = tt
 
 -- ---- the product
 pub mul-rounded : (x y : Float) (s t : Bool) (a b : ℕ) → Val x s a → Val y t b → x ⊗ y ≡ rounded (unlike s t) (a * b) U
@@ -187,3 +151,40 @@ div-alike k (fin s (suc m) e) (inf t) = refl
 div-alike k (fin s zero e) (fin t zero d) = refl
 div-alike k (fin s (suc m) e) (fin t zero d) = refl
 div-alike k (fin s m e) (fin t (suc n) d) = div-alike-fin k s t m (suc n) e d (zero-lt-suc n)
+
+-- ---- a finite sum has finite terms, a finite product finite factors, and a finite quotient a finite dividend
+pub add-finite : (x y : Float) → T (isFinite (x ⊕ y)) → T (isFinite x) × T (isFinite y)
+unfolding add isFinite
+add-finite nan y t = absurd t
+add-finite (inf s) nan t = absurd t
+add-finite (inf true) (inf true) t = absurd t
+add-finite (inf true) (inf false) t = absurd t
+add-finite (inf false) (inf true) t = absurd t
+add-finite (inf false) (inf false) t = absurd t
+add-finite (inf s) (fin r n d) t = absurd t
+add-finite (fin s m e) nan t = absurd t
+add-finite (fin s m e) (inf r) t = absurd t
+add-finite (fin s m e) (fin r n d) t = (tt, tt)
+
+neither : (b s : Bool) → T (isFinite (cond b nan (inf s))) → ⊥
+unfolding isFinite
+neither true s t = t
+neither false s t = t
+
+pub mul-finite : (x y : Float) → T (isFinite (x ⊗ y)) → T (isFinite x) × T (isFinite y)
+unfolding mul isFinite
+mul-finite nan y t = absurd t
+mul-finite (inf s) nan t = absurd t
+mul-finite (inf s) (inf r) t = absurd t
+mul-finite (inf s) (fin r n d) t = absurd (neither (eqb n 0) (unlike s r) t)
+mul-finite (fin s m e) nan t = absurd t
+mul-finite (fin s m e) (inf r) t = absurd (neither (eqb m 0) (unlike s r) t)
+mul-finite (fin s m e) (fin r n d) t = (tt, tt)
+
+pub div-finite : (x y : Float) → T (isFinite (x ⊘ y)) → T (isFinite x)
+unfolding div isFinite
+div-finite nan y t = absurd t
+div-finite (inf s) nan t = absurd t
+div-finite (inf s) (inf r) t = absurd t
+div-finite (inf s) (fin r n d) t = absurd t
+div-finite (fin s m e) y t = tt

@@ -10,7 +10,7 @@ use mir.Facts.{toZ-ofZ}
 use Rattle.leaves.specs.Scaling.{cut}
 use Rattle.leaves.proofs.Whole.{one-side, minus}
 use Rattle.leaves.proofs.Ints.{fits-i32, i32-fits, back-i32}
-use Rattle.leaves.proofs.Scale.{cut-range}
+use Rattle.leaves.proofs.ScaleSteps.{cut-range}
 
 -- k - cut k is an i32
 apart : (k : ℤ) → SFits w32 k → SFits w32 (k -ℤ cut k)

@@ -2,7 +2,7 @@
 -- left over a root that it has guessed, in two steps (`rest-is`). Assumes nothing.
 use mathlib.Core.Path.{_≡_}
 use Prim.Native.Nat.{ℕ, _+_, _-_, _*_, _/_, _%_, _^_, _≤_, _<_}
-use native.Mathlib.Nat.{mul-right-comm, sub-add-cancel, lt-of-le-of-lt, le-of-eq, mul-assoc, mul-left-comm, mul-le-mul, le-antisymm, le-trans, lt-of-lt-of-le, pow-suc}
+use native.Mathlib.Nat.{lt-of-le-of-lt, mul-assoc, mul-le-mul, le-antisymm, lt-of-lt-of-le, pow-suc}
 use native.Mathlib.Numerals.{add-one}
 use native.Mathlib.Omega.{arith}
 use lib.Dec.{lit<}
@@ -10,7 +10,7 @@ use lib.Pow.{pow-mono}
 use borrow.Author.Tests.{eq-eqb, ne-eqb}
 use Rattle.leaves.specs.Root as Roots
 use Rattle.leaves.specs.Root.{sticky}
-use Rattle.leaves.proofs.Roots.{Whole, square-double, square-plus, odd-square, next-square, root-over, root-below}
+use Rattle.leaves.proofs.Roots.{Whole, root-over, root-below}
 
 -- there is one root only
 root-unique : (n r q : ℕ) → Whole n r → Whole n q → r ≡ q
@@ -39,39 +39,39 @@ module _ (n rest root rem i : ℕ) (d : Digits n rest root rem i) (go : i < 55) 
     few = omega arith;
     top = omega arith;
     rem-le = omega arith;
-    root-lt = rw two (omega (arith, d .root-lt));
-    passed = rw (four, square-double root) (omega (arith, d .passed));
+    root-lt = rw two (omega arith);
+    passed = rw four (omega arith);
   }
 
   pub turn-1 : root * 4 + 1 ≤ rem * 4 + rest / 2 ^ 52 → Digits n (rest % 2 ^ 52 * 4) (root * 2 + 1) (rem * 4 + rest / 2 ^ 52 - (root * 4 + 1)) (i + 1)
   turn-1 h = record {
     few = omega arith;
     top = omega arith;
-    rem-le = omega (arith, d .rem-le);
-    root-lt = rw two (omega (arith, d .root-lt));
-    passed = rw (four, odd-square root) (omega (arith, d .passed));
+    rem-le = omega arith;
+    root-lt = rw two (omega arith);
+    passed = rw four (omega arith);
   }
 
 pub all-passed : (n rest root rem i : ℕ) → Digits n rest root rem i → 55 ≤ i → rem + root * root ≡ n * 2 ^ 56
 all-passed n rest root rem i d done =
-    let e : i ≡ 55 = omega (arith, d .few) in
+    let e : i ≡ 55 = omega arith in
     let p : n * 4 ^ 55 ≡ (root * root + rem) * 2 ^ 54 + rest = rw e at (d .passed) in
-    omega (arith, p, d .top)
+    omega arith
 
 -- ---- a root is known by what is left over: n * 2 ^ 56 less its square, at most twice the root
 module _ (n root rest : ℕ) (small : n < 2 ^ 54) (all : rest + root * root ≡ n * 2 ^ 56) (few : rest ≤ root * 2) where
   found : Roots.root 55 (n * 2 ^ 56) ≡ root
   found = root-unique (n * 2 ^ 56) (Roots.root 55 (n * 2 ^ 56)) root
       (root-below 55 (n * 2 ^ 56) (omega arith))
-      (record { low = omega (arith, all); high = rw (next-square root) (omega (arith, all, few)) })
+      (record { low = omega arith; high = omega arith })
 
   pub exact : rest ≡ 0 → root * 2 ≡ sticky (n * 2 ^ 56)
   unfolding sticky
-  exact h = rw (found, eq-eqb (root * root) (n * 2 ^ 56) (omega (arith, all)))
+  exact h = rw (found, eq-eqb (root * root) (n * 2 ^ 56) (omega arith))
 
   pub inexact : (rest ≡ 0 → ⊥) → root * 2 + 1 ≡ sticky (n * 2 ^ 56)
   unfolding sticky
-  inexact h = rw (found, ne-eqb (root * root) (n * 2 ^ 56) (λ (e : root * root ≡ n * 2 ^ 56). h (omega (arith, all))))
+  inexact h = rw (found, ne-eqb (root * root) (n * 2 ^ 56) (λ (e : root * root ≡ n * 2 ^ 56). h (omega arith)))
 
 -- ---- that rest, in two steps of 28 digits each
 -- what the machine's words hold
@@ -82,18 +82,8 @@ product-fits a b p q =
     lt-of-le-of-lt (mul-le-mul l r) (lit< tt)
 
 pub cross-fits : (a b : ℕ) → a < 2 ^ 29 → b < 2 ^ 29 → 2 * a * b ≤ 2 ^ 59
-cross-fits a b p q = le-trans (le-of-eq (mul-assoc 2 a b)) (omega (arith, product-fits a b p q))
-
-sum-is : (n h l first second rest : ℕ) → first + h * h ≡ n → second + 2 * h * l ≡ first * 2 ^ 28 → rest + l * l ≡ second * 2 ^ 28
-    → rest + (h * 2 ^ 28 + l) * (h * 2 ^ 28 + l) ≡ n * 2 ^ 56
-sum-is n h l first second rest a b c = rw (square-plus (h * 2 ^ 28) l, square-of h, mul-right-comm h (2 ^ 28) l) (omega (arith, a, b, c))
-  where
-    square-of : (h : ℕ) → h * 2 ^ 28 * (h * 2 ^ 28) ≡ h * h * 2 ^ 56
-    square-of h = rw (mul-assoc h (2 ^ 28) (h * 2 ^ 28), mul-left-comm (2 ^ 28) h (2 ^ 28), ← mul-assoc h h (2 ^ 56))
+cross-fits a b p q = omega (arith, product-fits a b p q)
 
 pub rest-is : (n h l : ℕ) → h * h ≤ n → 2 * h * l ≤ (n - h * h) * 2 ^ 28 → l * l ≤ ((n - h * h) * 2 ^ 28 - 2 * h * l) * 2 ^ 28
     → ((n - h * h) * 2 ^ 28 - 2 * h * l) * 2 ^ 28 - l * l + (h * 2 ^ 28 + l) * (h * 2 ^ 28 + l) ≡ n * 2 ^ 56
-rest-is n h l a b c =
-    let first = n - h * h in
-    let second = first * 2 ^ 28 - 2 * h * l in
-    sum-is n h l first second (second * 2 ^ 28 - l * l) (sub-add-cancel a) (sub-add-cancel b) (sub-add-cancel c)
+rest-is n h l a b c = omega arith

@@ -9,12 +9,12 @@ use mathlib.Core.Bool.{Bool, true, false, cond}
 use lib.Dec.{eqb}
 use lib.IntN.{pos}
 use borrow.Author.Tests.{eqb-true}
-use lib.Ieee.{binary64, round, ofInt, units}
+use lib.Ieee.{binary64, ofInt, units}
 use Rattle.leaves.specs.Root.{root, sticky}
 use Rattle.leaves.proofs.Whole.{le-or-lt}
-use Rattle.leaves.proofs.Roots.{Whole, root-below, root-over, root-under, square-plus}
+use Rattle.leaves.proofs.Roots.{Whole, root-below, root-over, root-under}
 use Rattle.leaves.proofs.Sqrts.{sticky-in}
-use Rattle.leaves.proofs.SqrtLaws.{eighth, eighth-error, round-56}
+use Rattle.leaves.proofs.Eighths.{eighth-is, round-56, eights}
 
 -- ---- the root's digits, by g = 4 p - 2
 sticky-from : (n r g rest : ℕ) → g ≤ r → r < g + 4 → rest + g * g ≡ n → 0 < rest → (t : Bool) → eqb (r * r) n ≡ t
@@ -24,13 +24,7 @@ sticky-from n r g rest a b e h true q = (⊎-elim (λ (l : g + 1 ≤ r). omega a
   where
     -- g's square is less
     apart : r ≡ g → ⊥
-    apart s = let i : g * g ≡ n = ap (λ (x : ℕ). x * x) (sym s) ∙ eqb-true (r * r) n q in omega (arith, e, h, i)
-
--- 8 p keeps its digits
-pub eights : (p : ℕ) → (2 ^ 52 ≤ p) × (p < 2 ^ 53) → round binary64 false (8 * p) 1 ≡ units binary64 false p 1077
-eights p d =
-    let e = eighth-error (8 * p) in
-    round-56 (8 * p) (omega (arith, d)) (omega (arith, d)) ∙ ap (λ (q : ℕ). units binary64 false q 1077) (le-antisymm (omega (arith, e)) (omega (arith, e)))
+    apart s = let i : g * g ≡ n = ap (λ (x : ℕ). x * x) (sym s) ∙ eqb-true (r * r) n q in omega arith
 
 module _ (n p rest : ℕ) (small : n < 2 ^ 54) (large : 2 ^ 52 ≤ n) (digits : (2 ^ 52 ≤ p) × (p < 2 ^ 53))
     (over : rest + (4 * p - 2) * (4 * p - 2) ≡ n * 2 ^ 56) (some : 0 < rest) (few : rest < 32 * p) where
@@ -44,15 +38,12 @@ module _ (n p rest : ℕ) (small : n < 2 ^ 54) (large : 2 ^ 52 ≤ n) (digits : 
   unfolding sticky
   near =
       let g = 4 * p - 2 in
-      let u : N < (g + 4) * (g + 4) = rw (square-plus g 4) (omega (arith, over, few, digits)) in
-      let s = sticky-from N (root 55 N) g rest (root-over N (root 55 N) g whole (omega (arith, over))) (root-under N (root 55 N) (g + 4) whole u) over some (eqb (root 55 N * root 55 N) N) refl in
-      omega (arith, s, digits)
-
-  eighth-is : (s : ℕ) → 8 * p ≤ s + 3 → s ≤ 8 * p + 3 → eighth s ≡ p
-  eighth-is s a b = let e = eighth-error s in le-antisymm (omega (arith, e)) (omega (arith, e))
+      let u : N < (g + 4) * (g + 4) = omega arith in
+      let s = sticky-from N (root 55 N) g rest (root-over N (root 55 N) g whole (omega arith)) (root-under N (root 55 N) (g + 4) whole u) over some (eqb (root 55 N * root 55 N) N) refl in
+      omega arith
 
   pub nearest-is : ofInt binary64 (pos (8 * p)) ≡ ofInt binary64 (pos (sticky N))
   unfolding ofInt
   nearest-is =
-      let i = sticky-in N (omega (arith, large)) (omega (arith, small)) in
-      eights p digits ∙ ap (λ (q : ℕ). units binary64 false q 1077) (sym (eighth-is (sticky N) (near .0) (near .1))) ∙ sym (round-56 (sticky N) (i .0) (i .1))
+      let i = sticky-in N (omega arith) (omega arith) in
+      eights p digits ∙ ap (λ (q : ℕ). units binary64 false q 1077) (sym (eighth-is p (sticky N) (near .0) (near .1))) ∙ sym (round-56 (sticky N) (i .0) (i .1))

@@ -9,7 +9,7 @@ use lib.ListN.{length, getD, set, length-set}
 use lib.Ieee.{Float}
 use Rattle.leaves.specs.Numbers.{_⊕_, zero⁺, abs, larger}
 use Rattle.leaves.specs.Loops.{loop, sumTo, amaxTo, tab, fill}
-use Rattle.leaves.proofs.Loops.{at-cell, loop-more, loop-ext, kept-loop, fill-whole}
+use Rattle.leaves.proofs.Loops.{at-cell, loop-more, loop-ext, fill-whole}
 
 -- a loop's invariant s ≡ loop step i s₀, after a turn and at the end
 pub loop-turn : {S : Type 0} (step : ℕ → S → S) (i : ℕ) (s₀ s s′ : S) → s ≡ loop i step s₀ → s′ ≡ step i s → s′ ≡ loop (i + 1) step s₀
@@ -21,10 +21,6 @@ loop-end step i n s₀ s e h = e ∙ ap (λ (k : ℕ). loop k step s₀) h
 pub loop-start : {S : Type 0} (step : ℕ → S → S) (s : S) → s ≡ loop 0 step s
 unfolding loop
 loop-start step s = refl
-
--- steps that do nothing
-pub loop-still : {S : Type 0} (f : ℕ → S → S) (n : ℕ) (s : S) → ((k : ℕ) → k < n → (x : S) → f k x ≡ x) → loop n f s ≡ s
-loop-still f n s h = kept-loop (λ x. x ≡ s) n f s refl (λ k l x e. h k l x ∙ e)
 
 loop-both : {S : Type 0} (f : ℕ → S → S) (a b : ℕ) (s : S) → loop (a + b) f s ≡ loop b (λ k. f (a + k)) (loop a f s)
 unfolding loop
@@ -86,7 +82,7 @@ module _ {A : Type 0} {f : ℕ → A} {n : ℕ} {old out : List A} where
 
   -- at the end
   pub filled-all : {i : ℕ} → Filled f i n old out → n ≤ i → out ≡ fill n f old
-  filled-all {i} F h = let e : i ≡ n = omega (arith, F .low) in F .is ∙ ap (λ (k : ℕ). fill k f old) e
+  filled-all {i} F h = let e : i ≡ n = omega arith in F .is ∙ ap (λ (k : ℕ). fill k f old) e
 
   -- at the end, where the slice is no longer than that
   pub filled-whole : {i : ℕ} → Filled f i n old out → n ≤ i → length old ≡ n → out ≡ tab n f

@@ -4,7 +4,7 @@ use mathlib.Core.Logic.{_⊎_, inl, inr}
 use mathlib.Core.List.{[], List, _∷_, _++_, append-nil}
 use mathlib.Core.Option.{Option, none, some}
 use Prim.Native.Nat.{ℕ, zero, suc, _+_, _*_, _/_, _%_, _≤_, _<_, zero-le, suc-le-suc}
-use native.Mathlib.Nat.{lt-suc-self, lt-trans, le-antisymm, suc-mul, mul-le-mul-right, not-suc-le-zero, le-of-suc-le-suc, mul-zero, mod-lt, div-lt-iff-lt-mul, le-step, eq-or-lt-of-le}
+use native.Mathlib.Nat.{lt-suc-self, lt-trans, le-antisymm, mul-le-mul-right, not-suc-le-zero, le-of-suc-le-suc, mul-zero, mod-lt, div-lt-iff-lt-mul, le-step, eq-or-lt-of-le}
 use native.Mathlib.Numerals.{add-one}
 use native.Mathlib.Omega.{arith}
 use mathlib.Core.Bool.{Bool, true, false, cond}
@@ -21,7 +21,7 @@ cell t T j n ht hj = digits-lt ht hj
 
 -- row t lies within the table. With it in hand, or in an invariant, omega does the cells: j < n is linear
 pub row : (t T n : ℕ) → t < T → t * n + n ≤ T * n
-row t T n h = omega (arith, mul-le-mul-right n h, suc-mul t n)
+row t T n h = omega (arith, mul-le-mul-right n h)
 
 -- the row and the column of cell i * n + j
 pub cell-row : (i n j : ℕ) → j < n → (i * n + j) / n ≡ i
@@ -64,6 +64,10 @@ pub kept-loop : {S : Type 0} (P : S → Type 0) (n : ℕ) (f : ℕ → S → S) 
 unfolding loop
 kept-loop P zero f s p h = p
 kept-loop P (suc n) f s p h = h n (lt-suc-self n) (loop n f s) (kept-loop P n f s p (λ i l. h i (lt-trans l (lt-suc-self n))))
+
+-- steps that do nothing
+pub loop-still : {S : Type 0} (f : ℕ → S → S) (n : ℕ) (s : S) → ((k : ℕ) → k < n → (x : S) → f k x ≡ x) → loop n f s ≡ s
+loop-still f n s h = kept-loop (λ x. x ≡ s) n f s refl (λ k l x e. h k l x ∙ e)
 
 module _ {A : Type 0} where
   pub length-tab : (f : ℕ → A) (n : ℕ) → length (tab n f) ≡ n

@@ -1,16 +1,17 @@
--- b(x) and pow2_scaled under a shift. b(x) grows by k (`exponent-shift`) and says where the leading bit is (`exponent-range`). pow2_scaled x j is the shift by j wherever the result is a value of
+-- b(x) and pow2_scaled under a shift. b(x) grows by k (`exponent-shift`) and says where the leading bit is (`lead`, `exponent-range`). pow2_scaled x j is the shift by j wherever the result is a value of
 -- the format: that is, where x's last bit stays a unit or more and x stays below 2 ^ 1024 (`scaled-moves`). So scaling by the power of two of a number that is shifted too gives the same
 -- float (`same-scaled`), and one number scaled by 2 ^ j and by 2 ^ (j + k) gives a float and its shift (`scaled-copy`). Assumes nothing.
-use mathlib.Core.Path.{_≡_, refl, sym, ap, _∙_, subst}
+use mathlib.Core.Path.{_≡_, refl, sym, ap, _∙_, subst, subst₂}
 use mathlib.Core.Logic.{inl, inr}
 use Prim.Native.Nat.{ℕ, zero, suc, _+_, _-_, _*_, _%_, _^_, _≤_, _<_}
-use native.Mathlib.Nat.{le-trans, le-of-eq, lt-of-le-of-lt, lt-irrefl, lt-suc-self, mul-assoc, mul-pos, mul-le-mul-right, le-of-mul-le-mul-right, eq-of-mul-eq-mul-right, pow-succ'}
+use native.Mathlib.Nat.{le-trans, le-of-eq, lt-of-le-of-lt, lt-irrefl, lt-suc-self, mul-assoc, mul-right-comm, mul-pos, mul-le-mul-right, le-of-mul-le-mul-right, mul-lt-mul-of-pos-right, lt-of-mul-lt-mul-right, eq-of-mul-eq-mul-right, pow-succ'}
 use native.Mathlib.Omega.{arith}
 use mathlib.Core.Bool.{Bool}
 use lib.Dec.{T}
 use lib.IntN.{ℤ, pos, negℤ, _+ℤ_}
 use lib.Pow.{pow-add, pow-pos, pow-lt}
 use lib.Ieee.{Float, nan, inf, fin, binary64, up, down, size, fits}
+use lib.Ieee.Digits.{size-lt, size-reaches}
 use lib.Ieee.Exact.{HasValue}
 use lib.Ieee.Fits.{down-pos}
 use lib.Ieee.Positive.{first-pos}
@@ -18,12 +19,13 @@ use Rattle.leaves.specs.Numbers.{isFinite}
 use Rattle.leaves.specs.Scaling.{binaryExponent, pow2Scaled}
 use Rattle.leaves.specs.Shift.{shift}
 use Rattle.leaves.proofs.Whole.{le-or-lt, over, under, plus, same, over-neg, under-neg, up-is, down-is}
-use Rattle.leaves.proofs.Laws.{fits→room, room→fits, digits-in, size-pos, room-move}
+use Rattle.leaves.proofs.Laws.{fits→room, room→fits, digits-in, size-pos, pow-back, room-move}
 use Rattle.leaves.proofs.Scale.{scaled-exact}
 use Rattle.leaves.proofs.Shift.{shift-shift, shift-value, isFinite-shift}
 use Rattle.leaves.proofs.Rounding.{in-place}
-use Rattle.leaves.proofs.Units.{U, Val, sign, mag, zero-mag, val-pos, mag-val}
+use Rattle.leaves.proofs.Units.{oneBits, topBits, U, U-is, Val, sign, mag, zero-mag, val-pos, mag-val}
 use Rattle.leaves.proofs.Range.{Range, range-value}
+use Rattle.leaves.proofs.Bounds.{Bounds, Bounded}
 
 -- ---- the last and the leading bit of a value in range
 -- an odd number times 2 ^ a is a multiple of no higher power
@@ -35,9 +37,9 @@ odd-multiple m c a b o h = elim (le-or-lt b a) [ inl l ↦ l | inr l ↦ absurd 
         let e : m ≡ c * 2 ^ (b - suc a) * 2 = eq-of-mul-eq-mul-right (2 ^ a) (pow-pos a) m (c * 2 ^ (b - suc a) * 2) (h ∙ sym (in-place c b (suc a) l) ∙ ap (λ (z : ℕ). c * 2 ^ (b - suc a) * z) (pow-succ' 2 a) ∙ sym (mul-assoc (c * 2 ^ (b - suc a)) 2 (2 ^ a))) in
         omega arith
 
-pub record Bits (g h : ℕ) (m : ℕ) (e : ℤ) : Type 0 where
-  pub last : g + under e ≤ over e + 1074
-  pub leading : size m + over e + 1074 ≤ suc h + under e
+record Bits (g h : ℕ) (m : ℕ) (e : ℤ) : Type 0 where
+  last : g + under e ≤ over e + 1074
+  leading : size m + over e + 1074 ≤ suc h + under e
 
 range-bits : {g L : ℕ} (h : ℕ) (s : Bool) (m : ℕ) (e : ℤ) → Range g L (2 ^ h) (fin s (suc m) e) → Bits g h (suc m) e
 unfolding U
@@ -51,7 +53,7 @@ range-bits {g} h s m e r =
     }
 
 -- ---- a shift either way
-module _ {g L : ℕ} (h : ℕ) (x : Float) (r : Range g L (2 ^ h) x) (j : ℤ) (low : under j ≤ g + over j) (high : h + over j ≤ 2097 + under j) where
+module _ {g L : ℕ} (h : ℕ) (x : Float) (r : Range g L (2 ^ h) x) (j : ℤ) (low : under j ≤ g + over j) (high : h + over j ≤ topBits + under j) where
   pub fits-move : T (fits binary64 (shift j x))
   unfolding shift isFinite
   fits-move = go x r
@@ -63,7 +65,7 @@ module _ {g L : ℕ} (h : ℕ) (x : Float) (r : Range g L (2 ^ h) x) (j : ℤ) (
       go (fin s (suc m) e) r =
           let b = range-bits h s m e r in
           let q = fits→room s m e (r .fit) in
-          room→fits s m (e +ℤ j) (room-move e j q (omega (arith, b .last)) (omega (arith, b .leading)))
+          room→fits s m (e +ℤ j) (room-move e j q (omega arith) (omega arith))
 
   finite-move : T (isFinite (shift j x))
   finite-move = rw (isFinite-shift j x) (r .finite)
@@ -96,7 +98,7 @@ module _ {g L : ℕ} (h : ℕ) (x : Float) (r : Range g L (2 ^ h) x) (j : ℤ) (
   pub scaled-moves : pow2Scaled x j ≡ shift j x
   scaled-moves = scaled-exact x j (r .fit) fits-move
 
--- a zero is its own shift
+-- a zero is its own shift, and stays what it is however it is scaled
 pub shift-null : (k : ℤ) (x : Float) → T (fits binary64 x) → T (isFinite x) → mag x ≡ 0 → shift k x ≡ x
 unfolding shift isFinite
 shift-null k nan t f z = absurd f
@@ -104,30 +106,72 @@ shift-null k (inf s) t f z = absurd f
 shift-null k (fin s zero e) t f z = refl
 shift-null k (fin s (suc m) e) t f z = absurd (lt-irrefl 0 (rw z at (val-pos s m e (sign (fin s (suc m) e)) (mag (fin s (suc m) e)) (mag-val (fin s (suc m) e) t f))))
 
+pub zero-scaled : (x : Float) (j : ℤ) → T (fits binary64 x) → T (isFinite x) → mag x ≡ 0 → pow2Scaled x j ≡ x
+zero-scaled x j t f z = let e = shift-null j x t f z in scaled-exact x j t (rw e t) ∙ e
+
 -- ---- b(x)
 pub exponent-shift : (k : ℤ) (x : Float) → T (isFinite x) → 0 < mag x → binaryExponent (shift k x) ≡ binaryExponent x +ℤ k
-unfolding binaryExponent shift isFinite over under
+unfolding binaryExponent shift isFinite
 exponent-shift k nan f p = absurd f
 exponent-shift k (inf s) f p = absurd f
 exponent-shift k (fin s zero e) f p = absurd (lt-irrefl 0 (rw (zero-mag s e) at p))
 exponent-shift k (fin s (suc m) e) f p = let z = pos (size (suc m) - 1) in same (z +ℤ (e +ℤ k)) (z +ℤ e +ℤ k) (omega (arith, plus z (e +ℤ k), plus e k, plus z e, plus (z +ℤ e) k))
 
--- a value from 2 ^ g to 2 ^ h units has an exponent from g - 1074 to h - 1074
-pub exponent-range : {g L : ℕ} (h : ℕ) (x : Float) → Range g L (2 ^ h) x → 0 < mag x → (g + under (binaryExponent x) ≤ over (binaryExponent x) + 1074) × (over (binaryExponent x) + 1074 ≤ h + under (binaryExponent x))
-unfolding binaryExponent isFinite over under
-exponent-range h nan r p = absurd (r .finite)
-exponent-range h (inf s) r p = absurd (r .finite)
-exponent-range h (fin s zero e) r p = absurd (lt-irrefl 0 (rw (zero-mag s e) at p))
-exponent-range h (fin s (suc m) e) r p =
-    let z = pos (size (suc m) - 1) in
-    let b = range-bits h s m e r in
-    (omega (arith, plus z e, b .last, size-pos m), omega (arith, plus z e, b .leading, size-pos m))
+-- by the leading bit: x has 2 ^ (b(x) + oneBits) units at least, and less than twice as many
+pub lead : (x : Float) → T (isFinite x) → Val x (sign x) (mag x) → 0 < mag x
+    → (2 ^ (oneBits + over (binaryExponent x)) ≤ mag x * 2 ^ under (binaryExponent x)) × (mag x * 2 ^ under (binaryExponent x) < 2 ^ (suc oneBits + over (binaryExponent x)))
+unfolding binaryExponent isFinite
+lead nan f v p = absurd f
+lead (inf s) f v p = absurd f
+lead (fin s zero e) f v p = absurd (lt-irrefl 0 (subst (λ (z : ℕ). 0 < z) (zero-mag s e) p))
+lead (fin s (suc m) e) f v p =
+    let a = size (suc m) - 1 in
+    let b = pos a +ℤ e in
+    let w : suc m * 2 ^ (over e + oneBits) ≡ mag (fin s (suc m) e) * 2 ^ under e =
+    ap (λ (z : ℕ). suc m * z) (pow-add 2 (over e) oneBits) ∙ sym (mul-assoc (suc m) (2 ^ over e) (2 ^ oneBits)) ∙ (rw (up-is e, down-is e, U-is) at (v .1)) in
+    let k = places a e (over b) (under b) (unfold over under in omega (arith, plus (pos a) e)) in (
+      least (suc m) a (over e + oneBits) (under e) (mag (fin s (suc m) e)) (under b) (oneBits + over b) (k .0) w (size-reaches (suc m) a (omega (arith, size-pos m))),
+      most (suc m) (suc a) (over e + oneBits) (under e) (mag (fin s (suc m) e)) (under b) (suc oneBits + over b) (k .1) w (subst (λ (z : ℕ). suc m < 2 ^ z) (again (size (suc m)) (size-pos m)) (size-lt (suc m))),
+    )
+  where
+    again : (n : ℕ) → 0 < n → n ≡ suc (n - 1)
+    again n h = omega arith
+
+    places : (a : ℕ) (e : ℤ) (o u : ℕ) → o + under e ≡ a + over e + u → (oneBits + o + under e ≡ a + (over e + oneBits) + u) × (suc oneBits + o + under e ≡ suc a + (over e + oneBits) + u)
+    places a e o u h = (omega arith, omega arith)
+
+    -- n / 2 ^ e, which is m * 2 ^ g, in place
+    moved : (m a g e n u o : ℕ) → o + e ≡ a + g + u → m * 2 ^ g ≡ n * 2 ^ e → (2 ^ o * 2 ^ e ≡ 2 ^ a * 2 ^ g * 2 ^ u) × (m * 2 ^ g * 2 ^ u ≡ n * 2 ^ u * 2 ^ e)
+    moved m a g e n u o i w = (sym (pow-add 2 o e) ∙ ap (λ (z : ℕ). 2 ^ z) i ∙ pow-add 2 (a + g) u ∙ ap (λ (z : ℕ). z * 2 ^ u) (pow-add 2 a g), ap (λ (z : ℕ). z * 2 ^ u) w ∙ mul-right-comm n (2 ^ e) (2 ^ u))
+
+    least : (m a g e n u o : ℕ) → o + e ≡ a + g + u → m * 2 ^ g ≡ n * 2 ^ e → 2 ^ a ≤ m → 2 ^ o ≤ n * 2 ^ u
+    least m a g e n u o i w l = let q = moved m a g e n u o i w in le-of-mul-le-mul-right {k = 2 ^ e} (le-trans (le-of-eq (q .0)) (le-trans (mul-le-mul-right (2 ^ u) (mul-le-mul-right (2 ^ g) l)) (le-of-eq (q .1)))) (pow-pos e)
+
+    most : (m a g e n u o : ℕ) → o + e ≡ a + g + u → m * 2 ^ g ≡ n * 2 ^ e → m < 2 ^ a → n * 2 ^ u < 2 ^ o
+    most m a g e n u o i w l = let q = moved m a g e n u o i w in lt-of-mul-lt-mul-right (2 ^ e) (subst₂ _<_ (q .1) (sym (q .0)) (mul-lt-mul-of-pos-right (mul-lt-mul-of-pos-right l (pow-pos g)) (pow-pos u)))
+
+-- so a value from 2 ^ least to 2 ^ most units has an exponent from least - oneBits to most - oneBits
+pub exponent-range : (b : Bounds) (x : Float) → Bounded b x → 0 < mag x → (b .least + under (binaryExponent x) ≤ over (binaryExponent x) + oneBits) × (over (binaryExponent x) + oneBits ≤ b .most + under (binaryExponent x))
+exponent-range b x r p =
+    let o = over (binaryExponent x) in
+    let u = under (binaryExponent x) in
+    let q = lead x (r .finite) (range-value r) p in
+    let low = pow-back (b .least + u) (suc oneBits + o) (lt-of-le-of-lt (le-trans (le-of-eq (pow-add 2 (b .least) u)) (mul-le-mul-right (2 ^ u) (r .least p))) (q .1)) in
+    let high = pow-back (oneBits + o) (suc (b .most + u)) (lt-of-le-of-lt (le-trans (q .0) (le-trans (mul-le-mul-right (2 ^ u) (r .most)) (le-of-eq (sym (pow-add 2 (b .most) u))))) (pow-lt (lt-suc-self (b .most + u)))) in
+    (omega arith, omega arith)
+
+-- of a zero, 0
+pub exponent-null : (x : Float) → Val x (sign x) (mag x) → mag x ≡ 0 → binaryExponent x ≡ pos 0
+unfolding binaryExponent
+exponent-null nan v z = absurd v
+exponent-null (inf s) v z = absurd v
+exponent-null (fin s zero e) v z = refl
+exponent-null (fin s (suc m) e) v z = absurd (lt-irrefl 0 (rw z at (val-pos s m e (sign (fin s (suc m) e)) (mag (fin s (suc m) e)) v)))
 
 -- ---- two scalings
 -- by the power of two of A, d and A shifted alike: the same float
 pub same-scaled : (k : ℤ) (d A : Float) → T (fits binary64 d) → T (fits binary64 (shift k d)) → T (fits binary64 (shift (negℤ (binaryExponent A)) d)) → T (isFinite A) → 0 < mag A
     → pow2Scaled (shift k d) (negℤ (binaryExponent (shift k A))) ≡ pow2Scaled d (negℤ (binaryExponent A))
-unfolding over under
 same-scaled k d A td tk tb f p =
     let b = binaryExponent A in
     let back : k +ℤ negℤ (b +ℤ k) ≡ negℤ b = same (k +ℤ negℤ (b +ℤ k)) (negℤ b) (omega (arith, plus k (negℤ (b +ℤ k)), plus b k, over-neg b, under-neg b, over-neg (b +ℤ k), under-neg (b +ℤ k))) in

@@ -1,10 +1,11 @@
 -- `Range g L B x`: x is a finite value of binary64, a multiple of 2 ^ g units, zero or of L units at least, and of B units at most. A unit is 2 ^ -1074, so 2 ^ n units are
 -- 2 ^ (n - 1074). The grain g and the least size L stand apart: a difference keeps its operands' grain and loses their size. Here is how a range is known: from a wider one, from the
 -- value's size, from a test that computes, of a count, and of a fraction that is rounded. Assumes nothing.
-use mathlib.Core.Path.{_≡_, sym, ap, _∙_, subst}
+use mathlib.Core.Path.{_≡_, sym, ap, _∙_}
 use mathlib.Core.Logic.{_⊎_, inl, inr}
 use Prim.Native.Nat.{ℕ, _+_, _-_, _*_, _^_, _≤_, _<_, zero-le}
-use native.Mathlib.Nat.{le-trans, le-of-eq, le-of-lt, lt-of-lt-of-le, lt-of-le-of-lt, lt-irrefl, eq-zero-or-pos, zero-mul, one-mul, mul-one, mul-pos, mul-le-mul-right}
+use native.Mathlib.Nat.{le-trans, le-of-eq, le-of-lt, lt-of-lt-of-le, lt-of-le-of-lt, lt-irrefl, eq-zero-or-pos, zero-mul, mul-one, mul-pos, mul-le-mul-right, sub-add-cancel}
+use native.Mathlib.Omega.{arith}
 use mathlib.Core.Bool.{Bool, true, false, _&&_, _||_}
 use lib.Dec.{leb→le, eqb→eq, T, leb, eqb, lit<}
 use lib.IntN.{pos}
@@ -15,7 +16,7 @@ use lib.Ieee.Fits.{and-l, and-r, neg-fits, ofInt-fits}
 use mir.Facts.{or-yes}
 use Rattle.leaves.specs.Numbers.{zero⁺, count, isFinite, abs}
 use Rattle.leaves.proofs.Rounding.{near, Held, Grained, near-most, near-least, near-grain, held-small, held-grain, in-place}
-use Rattle.leaves.proofs.Units.{U, U-pos, zero-mag, U-is, Top, Val, val-of, rounded, sign, mag, val-mag, val-finite, mag-val, mag-held, mag-neg, rounded-fits, rounded-val}
+use Rattle.leaves.proofs.Units.{fractionBits, U, U-pos, zero-mag, U-is, Top, Val, val-of, rounded, sign, mag, val-mag, val-finite, mag-val, mag-held, mag-neg, rounded-fits, rounded-val}
 
 pub record Range (g L B : ℕ) (x : Float) : Type 0 where
   pub fit : T (fits binary64 x)
@@ -51,8 +52,8 @@ range-grain {g} {x = x} r = record {
 }
   where
     go : (r .count ≡ 0) ⊎ (0 < r .count) → 0 < mag x → 2 ^ g ≤ mag x
-    go (inl z) p = absurd (lt-irrefl 0 (subst (λ (n : ℕ). 0 < n) (r .grain ∙ ap (λ (n : ℕ). n * 2 ^ g) z ∙ zero-mul (2 ^ g)) p))
-    go (inr q) p = le-trans (le-of-eq (sym (one-mul (2 ^ g)))) (le-trans (mul-le-mul-right (2 ^ g) q) (le-of-eq (sym (r .grain))))
+    go (inl z) p = absurd (let e = ap (λ (n : ℕ). n * 2 ^ g) z in omega arith)
+    go (inr q) p = let l = mul-le-mul-right (2 ^ g) q in omega arith
 
 -- ---- the sign
 finite-neg : (x : Float) → T (isFinite x) → T (isFinite (neg x))
@@ -88,25 +89,25 @@ pub range-zero : (g L B : ℕ) → Range g L B zero⁺
 unfolding fits isFinite
 range-zero g L B = range-null zero⁺ tt tt (zero-mag false (pos 0)) g L B
 
--- ---- by the size: 2 ^ (g + 52) units and more are a multiple of 2 ^ g
-pub range-size : (g B : ℕ) (x : Float) → T (fits binary64 x) → T (isFinite x) → (mag x ≡ 0) ⊎ (2 ^ (g + 52) ≤ mag x) → mag x ≤ B → Range g (2 ^ (g + 52)) B x
-range-size g B x t f (inl z) h = range-null x t f z g (2 ^ (g + 52)) B
-range-size g B x t f (inr l) h = let c = held-grain g (mag x) (mag-held x t f .0) l in record { fit = t; finite = f; count = c .0; grain = c .1; least = λ p. l; most = h }
+-- ---- by the size: 2 ^ l units and more are a multiple of 2 ^ (l - fractionBits)
+pub range-size : (l B : ℕ) (x : Float) → fractionBits ≤ l → T (fits binary64 x) → T (isFinite x) → (mag x ≡ 0) ⊎ (2 ^ l ≤ mag x) → mag x ≤ B → Range (l - fractionBits) (2 ^ l) B x
+range-size l B x e t f (inl z) h = range-null x t f z (l - fractionBits) (2 ^ l) B
+range-size l B x e t f (inr p) h = let c = held-grain (l - fractionBits) (mag x) (mag-held x t f .0) (rw (sub-add-cancel e) p) in record { fit = t; finite = f; count = c .0; grain = c .1; least = λ q. p; most = h }
 
-pub range-sized : (g h : ℕ) (x : Float) → T (sized (g + 52) h x) → Range g (2 ^ (g + 52)) (2 ^ h) x
+pub range-sized : (l h : ℕ) (x : Float) → fractionBits ≤ l → T (sized l h x) → Range (l - fractionBits) (2 ^ l) (2 ^ h) x
 unfolding sized
-range-sized g h x t =
+range-sized l h x e t =
     let a : Bool = fits binary64 x in
     let b : Bool = isFinite x in
-    let c : Bool = eqb (mag x) 0 || leb (2 ^ (g + 52)) (mag x) in
+    let c : Bool = eqb (mag x) 0 || leb (2 ^ l) (mag x) in
     let d : Bool = leb (mag x) (2 ^ h) in
     let u = and-l (a && b && c) d t in
-    range-size g (2 ^ h) x (and-l a b (and-l (a && b) c u)) (and-r a b (and-l (a && b) c u)) (go (or-yes (eqb (mag x) 0) (leb (2 ^ (g + 52)) (mag x)) (and-r (a && b) c u)))
+    range-size l (2 ^ h) x e (and-l a b (and-l (a && b) c u)) (and-r a b (and-l (a && b) c u)) (go (or-yes (eqb (mag x) 0) (leb (2 ^ l) (mag x)) (and-r (a && b) c u)))
     (leb→le (mag x) (2 ^ h) (and-r (a && b && c) d t))
   where
-    go : T (eqb (mag x) 0) ⊎ T (leb (2 ^ (g + 52)) (mag x)) → (mag x ≡ 0) ⊎ (2 ^ (g + 52) ≤ mag x)
+    go : T (eqb (mag x) 0) ⊎ T (leb (2 ^ l) (mag x)) → (mag x ≡ 0) ⊎ (2 ^ l ≤ mag x)
     go (inl z) = inl (eqb→eq (mag x) 0 z)
-    go (inr l) = inr (leb→le (2 ^ (g + 52)) (mag x) l)
+    go (inr p) = inr (leb→le (2 ^ l) (mag x) p)
 
 -- every finite value of the format, of at most B units
 pub range-most : (x : Float) {B : ℕ} → T (fits binary64 x) → T (isFinite x) → mag x ≤ B → Range 0 1 B x

@@ -12,15 +12,13 @@ use lib.Ieee.{Float, nan, inf, fin, binary64, fits, lt, size, up, down, toBits, 
 use lib.Ieee.Bits.{ofBits-toBits}
 use lib.Ieee.Exact.{HasValue}
 use Rattle.leaves.specs.Numbers.{zero⁺}
-use Rattle.leaves.specs.Shift.{shift}
 use Rattle.leaves.specs.Root.{sticky, halfExponent, radicand, sqrt}
 use Rattle.leaves.proofs.Whole.{over, under, one-side, plus, minus, up-is, down-is}
 use Rattle.leaves.proofs.Laws.{Room, fits→room, room→fits, bits-at, place, digits-in, digits-out, size-pos, leading}
 use Rattle.leaves.proofs.Zero.{no, zero-not-above}
 use Rattle.leaves.proofs.Exponent.{units-are, size-shift}
-use Rattle.leaves.proofs.Sqrts.{halved, whole, g, M, radicand-is, Rounded, digits-of, result-room}
-use Rattle.leaves.proofs.SqrtLaws.{eights-value}
-use Rattle.leaves.proofs.Guessed.{eights}
+use Rattle.leaves.proofs.Eighths.{Rounded, eights-value}
+use Rattle.leaves.proofs.Sqrts.{halved, g, M, radicand-is, digits-of, places, root-room, sqrt-is}
 
 -- ---- the values above 0 that are finite
 pub data Place : Float → Type 0 where
@@ -45,9 +43,9 @@ module _ (m : ℕ) (e : ℤ) (r : Room (suc m) e) where
   Q-in =
       let s = size-pos m in
       let b : 2 ^ (size (suc m) - 1) * 2 ^ (53 - size (suc m)) ≤ Q = mul-le-mul-right (2 ^ (53 - size (suc m))) (leading m) in
-      let i : size (suc m) - 1 + (53 - size (suc m)) ≡ 52 = omega (arith, r .digits, s) in
+      let i : size (suc m) - 1 + (53 - size (suc m)) ≡ 52 = omega arith in
       let c : 2 ^ (size (suc m) - 1) * 2 ^ (53 - size (suc m)) ≡ 2 ^ 52 = sym (pow-add 2 (size (suc m) - 1) (53 - size (suc m))) ∙ ap (λ (j : ℕ). 2 ^ j) i in
-      (le-trans (le-of-eq (sym c)) b, digits-out (suc m) (53 - size (suc m)) 53 (omega (arith, r .digits)))
+      (le-trans (le-of-eq (sym c)) b, digits-out (suc m) (53 - size (suc m)) 53 (omega arith))
 
   bits-are : toBits binary64 (fin false (suc m) e) ≡ 0 + (size (suc m) + place e - 53) * 2 ^ 52 + suc m * 2 ^ place e / 2 ^ (size (suc m) + place e - 53)
   bits-are =
@@ -58,22 +56,22 @@ module _ (m : ℕ) (e : ℤ) (r : Room (suc m) e) where
   bits-small h =
       let k = size (suc m) + place e - 53 in
       let a : suc m * 2 ^ place e / 2 ^ k < 2 ^ 52 = lt-of-le-of-lt (div-le-self (suc m * 2 ^ place e) (2 ^ k)) (digits-out (suc m) (place e) 52 h) in
-      let z : k ≡ 0 = omega (arith, h) in
-      omega (arith, bits-are, a, z)
+      let z : k ≡ 0 = omega arith in
+      omega (arith, bits-are)
 
   bits-normal : 53 ≤ size (suc m) + place e → toBits binary64 (fin false (suc m) e) ≡ (size (suc m) + place e - 53) * 2 ^ 52 + Q
   bits-normal h =
       let k = size (suc m) + place e - 53 in
-      let i : place e ≡ 53 - size (suc m) + k = omega (arith, h, r .digits) in
+      let i : place e ≡ 53 - size (suc m) + k = omega arith in
       let n : suc m * 2 ^ place e ≡ Q * 2 ^ k = ap (λ (j : ℕ). suc m * 2 ^ j) i ∙ ap (λ (x : ℕ). suc m * x) (pow-add 2 (53 - size (suc m)) k) ∙ sym (mul-assoc (suc m) (2 ^ (53 - size (suc m))) (2 ^ k)) in
       let q : suc m * 2 ^ place e / 2 ^ k ≡ Q = ap (λ (x : ℕ). x / 2 ^ k) n ∙ mul-div-cancel Q (pow-pos k) in
-      omega (arith, bits-are, q)
+      omega (arith, bits-are)
 
 -- ---- the whole number whose root is taken
 two-less : (t : ℕ) → t < 2 → 2 ^ (1 - t) ≡ 2 - t
 two-less zero h = refl
 two-less (suc zero) h = refl
-two-less (suc (suc t)) h = absurd (omega (arith, h))
+two-less (suc (suc t)) h = absurd (omega arith)
 
 -- the digits and the field
 parted : (b z q : ℕ) → 53 ≤ z → 2 ^ 52 ≤ q → q < 2 ^ 53 → b ≡ (z - 53) * 2 ^ 52 + q → (b / 2 ^ 52 ≡ z - 52) × (b % 2 ^ 52 + 2 ^ 52 ≡ q)
@@ -87,7 +85,7 @@ module _ (m : ℕ) (e : ℤ) (r : Room (suc m) e) (b : ℕ) (is-b : b ≡ toBits
   F = b / 2 ^ 52
 
   tall : 53 ≤ size (suc m) + place e
-  tall = lt-of-not-le (λ (i : size (suc m) + place e ≤ 52). let s = bits-small m e r i in omega (arith, is-b, s, normal))
+  tall = lt-of-not-le (λ (i : size (suc m) + place e ≤ 52). let s = bits-small m e r i in omega arith)
 
   halves : (F ≡ size (suc m) + place e - 52) × (b % 2 ^ 52 + 2 ^ 52 ≡ Q m e r)
   halves = let q = Q-in m e r in parted b (size (suc m) + place e) (Q m e r) tall (q .0) (q .1) (is-b ∙ bits-normal m e r tall)
@@ -95,7 +93,7 @@ module _ (m : ℕ) (e : ℤ) (r : Room (suc m) e) (b : ℕ) (is-b : b ≡ toBits
   shift-is : over (g m e r) ≡ 53 - size (suc m) + (1 - F % 2)
   unfolding over under
   shift-is =
-      omega (arith, halves .0, tall, whole m e r, halved m e r, minus (pos 52) h, minus (pos 52 -ℤ h) h, plus e (pos 52 -ℤ h -ℤ h), one-side (g m e r), one-side h, r .low, r .digits)
+      omega (arith, halves .0, halved m e r, minus (pos 52) h, minus (pos 52 -ℤ h) h, plus e (pos 52 -ℤ h -ℤ h), one-side (g m e r))
 
   abbrev N : ℕ
   N = (b % 2 ^ 52 + 2 ^ 52) * (2 - F % 2)
@@ -109,58 +107,48 @@ module _ (m : ℕ) (e : ℤ) (r : Room (suc m) e) (b : ℕ) (is-b : b ≡ toBits
 
   -- ---- the root of x, by a p of 53 digits that is its rounded digits
   module _ (p : ℕ) (digits : (2 ^ 52 ≤ p) × (p < 2 ^ 53)) (same : ofInt binary64 (pos (8 * p)) ≡ ofInt binary64 (pos (sticky (N * 2 ^ 56)))) where
-    d : Rounded (round binary64 false (sticky (radicand (suc m) e)) 1)
+    abbrev d : Rounded (round binary64 false (sticky (radicand (suc m) e)) 1)
     d = digits-of m e r
 
     abbrev E : ℤ
-    E = d .e +ℤ (h -ℤ pos 55)
+    E = d .e +ℤ places m e r
 
     eight-is : round binary64 false (8 * p) 1 ≡ fin false (suc (d .m)) (d .e)
     unfolding ofInt
     eight-is = same ∙ ap (λ (k : ℕ). round binary64 false (sticky k) 1) (ap (λ (k : ℕ). k * 2 ^ 56) radicand-bits ∙ sym (radicand-is m e r)) ∙ d .is
-
-    value : HasValue (round binary64 false (8 * p) 1) false (p * 8) 1
-    value = rw (eights p digits) (eights-value p (le-of-lt (digits .1)))
 
     under-0 : under (d .e) ≡ 0
     under-0 = omega (arith, d .low, d .room .digits, one-side (d .e))
 
     product : suc (d .m) * 2 ^ over (d .e) ≡ p * 8
     product =
-        let v : suc (d .m) * up (d .e) * 1 ≡ p * 8 * down (d .e) = subst (λ (x : Float). HasValue x false (p * 8) 1) eight-is value .1 in
+        let v : suc (d .m) * up (d .e) * 1 ≡ p * 8 * down (d .e) = subst (λ (x : Float). HasValue x false (p * 8) 1) eight-is (eights-value p digits) .1 in
         let o : down (d .e) ≡ 1 = down-is (d .e) ∙ ap (λ (k : ℕ). 2 ^ k) under-0 in
         let w : suc (d .m) * 2 ^ over (d .e) * 1 ≡ p * 8 * 1 = rw (← up-is (d .e)) (v ∙ ap (λ (k : ℕ). p * 8 * k) o) in
-        omega (arith, w)
+        omega arith
 
     size-is : size (suc (d .m)) + over (d .e) ≡ 56
-    size-is = let a = digits-in (d .m) (over (d .e)) 56 (rw product (omega (arith, digits))) in omega (arith, a, d .low, under-0)
+    size-is = let a = digits-in (d .m) (over (d .e)) 56 (rw product (omega arith)) in omega (arith, d .low)
 
     Q-is : suc (d .m) * 2 ^ (53 - size (suc (d .m))) ≡ p
     Q-is =
         let j = 53 - size (suc (d .m)) in
         let i : over (d .e) ≡ j + 3 = omega (arith, size-is, d .room .digits) in
         let a : suc (d .m) * 2 ^ j * 8 ≡ p * 8 = mul-assoc (suc (d .m)) (2 ^ j) 8 ∙ ap (λ (x : ℕ). suc (d .m) * x) (sym (pow-add 2 j 3)) ∙ ap (λ (k : ℕ). suc (d .m) * 2 ^ k) (sym i) ∙ product in
-        omega (arith, a)
-
-    room : Room (suc (d .m)) E
-    room = result-room m e r d
-
-    sqrt-is : sqrt (fin false (suc m) e) ≡ fin false (suc (d .m)) E
-    unfolding sqrt shift
-    sqrt-is = ap (shift (h -ℤ pos 55)) (d .is)
+        omega arith
 
     field-of-root : size (suc (d .m)) + place E ≡ (F + 1023) / 2 + 52
     unfolding over under
-    field-of-root = omega (arith, halves .0, tall, halved m e r, size-is, under-0, plus (d .e) (h -ℤ pos 55), minus h (pos 55), one-side E, one-side h, room .low, r .low)
+    field-of-root = omega (arith, halves .0, halved m e r, size-is, under-0, plus (d .e) (h -ℤ pos 55), minus h (pos 55))
 
     root-bits : toBits binary64 (fin false (suc (d .m)) E) ≡ ((F + 1023) / 2 - 1) * 2 ^ 52 + p
     root-bits =
         let f = field-of-root in
-        let b = bits-normal (d .m) E room (omega (arith, f)) in
-        omega (arith, b, f, Q-is)
+        let b = bits-normal (d .m) E (root-room m e r) (omega arith) in
+        omega (arith, Q-is)
 
     pub root-is : (y : Float) → T (fits binary64 y) → (c : ℕ) → c ≡ toBits binary64 y → c / 2 ^ 52 ≡ (F + 1023) / 2 → p ≡ c % 2 ^ 52 + 2 ^ 52 → y ≡ sqrt (fin false (suc m) e)
     root-is y t c is-c f q =
         let w = fin false (suc (d .m)) E in
-        let s : toBits binary64 y ≡ toBits binary64 w = omega (arith, is-c, f, q, root-bits) in
-        sym (ofBits-toBits binary64 y t) ∙ ap (ofBits binary64) s ∙ ofBits-toBits binary64 w (room→fits false (d .m) E room) ∙ sym sqrt-is
+        let s : toBits binary64 y ≡ toBits binary64 w = omega (arith, root-bits) in
+        sym (ofBits-toBits binary64 y t) ∙ ap (ofBits binary64) s ∙ ofBits-toBits binary64 w (room→fits false (d .m) E (root-room m e r)) ∙ sym (sqrt-is m e r)

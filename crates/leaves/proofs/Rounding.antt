@@ -50,7 +50,6 @@ error-at Ordering·lt q r u n c e l = let h = leb-true (r * 2) u (ap isLe c) in 
 error-at Ordering·eq q r u n c e l =
     let h = eqb-true (r * 2) u (ap isEq c) in
     let up : (q + q % 2) * u ≤ (q + 1) * u = mul-le-mul-right u (omega arith) in
-    let down : q * u ≤ (q + q % 2) * u = mul-le-mul-right u (omega arith) in
     (omega arith, omega arith)
 error-at Ordering·gt q r u n c e l = let h = leb-false (r * 2) u (ap isLe c) in (omega arith, omega arith)
 
@@ -81,7 +80,7 @@ pub in-place : (q j k : ℕ) → k ≤ j → q * 2 ^ (j - k) * 2 ^ k ≡ q * 2 ^
 in-place q j k h = mul-assoc q (2 ^ (j - k)) (2 ^ k) ∙ ap (λ (z : ℕ). q * z) (sym (pow-add 2 (j - k) k) ∙ ap (λ (z : ℕ). 2 ^ z) (back j k h))
 
 in-steps : (q j k d : ℕ) → k ≤ j → q * 2 ^ j * d ≡ q * 2 ^ (j - k) * (d * 2 ^ k)
-in-steps q j k d h = ap (λ (z : ℕ). z * d) (sym (in-place q j k h)) ∙ mul-assoc (q * 2 ^ (j - k)) (2 ^ k) d ∙ ap (λ (z : ℕ). q * 2 ^ (j - k) * z) (mul-comm (2 ^ k) d)
+in-steps q j k d h = let e = ap (λ (z : ℕ). z * d) (in-place q j k h) in omega arith
 
 -- fewer zeros than are dropped: the number is below all that drop so many
 short : (q j k : ℕ) → q < 2 ^ 53 → j < k → q * 2 ^ j < 2 ^ (52 + k)
@@ -144,7 +143,6 @@ doubled-fine g n d h = go (le-or-lt d (2 * n)) (eq-zero-or-pos g)
 
 near-at : (c n d k : ℕ) → (0 < k → 2 ^ (52 + k) * d ≤ n) → 2 * (c * (d * 2 ^ k)) ≤ 2 * n + d * 2 ^ k → 2 * n ≤ 2 * (c * (d * 2 ^ k)) + d * 2 ^ k → Near (c * 2 ^ k) n d
 near-at c n d zero s a b =
-    let e : c * 1 * d ≡ c * (d * 1) = omega arith in
     record { above = omega arith; below = omega arith; doubled = doubled-fine (c * 1) n d (omega arith); halved = omega arith }
 near-at c n d (suc k) s a b =
     let z : 2 ^ 52 * 2 ^ suc k * d ≤ n = subst (λ (x : ℕ). x * d ≤ n) (pow-add 2 52 (suc k)) (s (zero-lt-suc k)) in

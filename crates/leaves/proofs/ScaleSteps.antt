@@ -1,19 +1,41 @@
--- The scaling by powers of two as the code does it: the step of its recursion that is not the last (`scale-step`; `scale-last` of Scale is the last), and what a product with a power of two
+-- The scaling by powers of two as the code does it: its steps, of which the last (`scale-last`) is a power that is not cut and each other one (`scale-step`) a power that is, and what a product with a power of two
 -- and a scaling make of a number m * 2 ^ e, by its room. Assumes nothing.
 use mathlib.Core.Path.{_≡_, refl, sym, ap, _∙_}
-use Prim.Native.Nat.{ℕ, zero, suc, _-_, _/_, _%_, _≤_}
+use Prim.Native.Nat.{ℕ, zero, suc, _-_, _/_, _%_, _≤_, min}
 use native.Mathlib.Omega.{arith}
 use mathlib.Core.Bool.{Bool, true, false, cond}
 use lib.Dec.{ltb}
 use lib.IntN.{ℤ, pos, negsuc, _+ℤ_, _-ℤ_}
 use lib.Ieee.{Float, fin, binary64, mul}
-use borrow.Author.Tests.{ltb-true}
+use borrow.Author.Tests.{ltb-true, ltb-false}
 use Rattle.leaves.specs.Shift.{shift}
 use Rattle.leaves.specs.Scaling.{pow2, times, pow2Scaled, cut}
 use Rattle.leaves.specs.Loops.{loop}
 use Rattle.leaves.proofs.Whole.{over, under, minus, same}
 use Rattle.leaves.proofs.Laws.{room→fits, Room, mul-pow2}
-use Rattle.leaves.proofs.Scale.{scaled-exact}
+use Rattle.leaves.proofs.Scale.{scaled-once, scaled-exact}
+
+-- ---- k cut to -1022..1023
+pub record Cut (k r : ℤ) : Type 0 where
+  pub top : over r ≡ min (over k) 1023
+  pub bottom : under r ≡ min (under k) 1022
+
+pub cut-range : (k : ℤ) → Cut k (cut k)
+unfolding cut over under
+cut-range (pos n) = go (ltb 1023 n) refl
+  where
+    go : (t : Bool) → ltb 1023 n ≡ t → Cut (pos n) (cond t (pos 1023) (pos n))
+    go true e = omega (arith, ltb-true 1023 n e)
+    go false e = omega (arith, ltb-false 1023 n e)
+cut-range (negsuc n) = go (ltb 1021 n) refl
+  where
+    go : (t : Bool) → ltb 1021 n ≡ t → Cut (negsuc n) (cond t (negsuc 1021) (negsuc n))
+    go true e = omega (arith, ltb-true 1021 n e)
+    go false e = omega (arith, ltb-false 1021 n e)
+
+-- the last step
+pub scale-last : (x : Float) (k : ℤ) → cut k ≡ k → mul binary64 x (pow2 k) ≡ pow2Scaled x k
+scale-last x k h = sym (scaled-once x k (omega (arith, cut-range k .top, ap over h)) (omega (arith, cut-range k .bottom, ap under h)))
 
 -- one more in front
 times-front : (n : ℕ) (y x : Float) → times (suc n) y x ≡ times n y (mul binary64 x y)

@@ -2,7 +2,7 @@
 -- through neg, abs, min and max, for every value and every k. Assumes nothing.
 use mathlib.Core.Path.{_≡_, refl, sym, ap, ap₂, _∙_}
 use Prim.Native.Nat.{ℕ, zero, suc, _+_, _*_, _<_}
-use native.Mathlib.Nat.{le-of-eq, lt-of-lt-of-le, lt-of-le-of-lt, zero-mul, mul-assoc, mul-pos, add-mul, mul-lt-mul-of-pos-right, lt-of-mul-lt-mul-right, eq-of-mul-eq-mul-right}
+use native.Mathlib.Nat.{le-of-eq, lt-of-lt-of-le, lt-of-le-of-lt, zero-mul, mul-pos, add-mul, mul-lt-mul-of-pos-right, lt-of-mul-lt-mul-right, eq-of-mul-eq-mul-right}
 use native.Mathlib.Omega.{arith}
 use mathlib.Core.Bool.{Bool, true, false, _&&_, _||_, Bool·beq, cond}
 use lib.IntN.{ℤ, pos, negℤ, _+ℤ_, +ℤ-idr, +ℤ-assoc, +ℤ-invl}
@@ -75,7 +75,7 @@ shift-fin k s (suc m) e = refl
 
 pub expo-value : (k : ℤ) (m : ℕ) (e : ℤ) → m * up (expo k m e) * (down e * down k) ≡ m * up e * (up k * down (expo k m e))
 expo-value k zero e = simp zero-mul
-expo-value k (suc m) e = rw (mul-assoc (suc m) (up (e +ℤ k)) (down e * down k), up-down e k, mul-assoc (up e) (up k) (down (e +ℤ k)), ← mul-assoc (suc m) (up e) (up k * down (e +ℤ k)))
+expo-value k (suc m) e = let h = ap (λ (z : ℕ). suc m * z) (up-down e k) in omega arith
 
 times-value : (n d c dk m uk d' a : ℕ) → 0 < d → n * (d * dk) ≡ m * (uk * d') → m * c ≡ a * d → n * (c * dk) ≡ a * uk * d'
 times-value n d c dk m uk d' a D p q =
@@ -146,7 +146,7 @@ module _ (k : ℤ) (m : ℕ) (e : ℤ) (n : ℕ) (d : ℤ) where
   unfolding before after
   right =
       let h = sides (n * up (expo k n d)) (down (expo k m e)) (down e) (down d) (down k) (n * up d) (up k) (down (expo k n d)) (expo-value k n d) in
-      omega (arith, h)
+      omega arith
 
 both-shift : (k : ℤ) (x y : Float) → (lt (shift k x) (shift k y) ≡ lt x y) × (eq (shift k x) (shift k y) ≡ eq x y)
 unfolding lt eq shift

@@ -5,7 +5,7 @@ use Prim.Native.Nat.{ℕ, zero, suc, _+_, _*_, _^_, _<_}
 use mathlib.Core.Bool.{Bool, true, false, cond}
 use lib.Dec.{ltb, eqb}
 use lib.IntN.{ℤ}
-use lib.Ieee.{Float, nan, inf, fin, binary64, up, down, unlike, odd, units, round, sum, add, mul, div, ofInt, lt}
+use lib.Ieee.{Float, nan, inf, fin, binary64, up, down, unlike, odd, units, round, add, mul, div, ofInt, lt}
 use lib.Ieee.Fits.{round-is}
 use Rattle.leaves.specs.Numbers.{_⊕_, _⊗_, _⊘_, count, zero⁺, abs}
 use Rattle.leaves.specs.Loops.{sumTo}
@@ -40,7 +40,7 @@ same-signs s t e = subst (λ (u : Bool). unlike s u ≡ false) e (self s)
     self false = refl
 
 pub sign-add : (x y : Float) → sign x ≡ false → sign y ≡ false → sign (x ⊕ y) ≡ false
-unfolding sign add sum
+unfolding sign add
 sign-add nan y p q = refl
 sign-add (inf s) nan p q = refl
 sign-add (inf true) (inf t) p q = no refl p

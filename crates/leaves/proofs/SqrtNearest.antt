@@ -11,22 +11,24 @@ use native.Mathlib.Nat.{le-refl, le-trans, le-of-eq, le-of-lt, lt-of-lt-of-le, l
 use native.Mathlib.Omega.{arith}
 use mathlib.Core.Bool.{true, false}
 use lib.Dec.{T, lit<}
-use lib.IntN.{ℤ, pos, _+ℤ_, _-ℤ_}
+use lib.IntN.{ℤ, pos, _-ℤ_}
 use lib.Pow.{pow-add, pow-pos}
 use lib.Ieee.{Float, nan, inf, fin, binary64, up, down, round, lt, fits}
 use lib.Ieee.Fits.{down-pos}
 use Rattle.leaves.specs.Numbers.{zero⁺, isFinite}
 use Rattle.leaves.specs.Shift.{shift}
 use Rattle.leaves.specs.Root.{sticky, halfExponent, radicand, sqrt}
-use Rattle.leaves.proofs.Whole.{le-or-lt, over, under, plus, minus, one-side, up-is, down-is}
-use Rattle.leaves.proofs.Laws.{fits→room, room→fits, Room, size-under}
+use Rattle.leaves.proofs.Whole.{le-or-lt, over, under, plus, minus, up-is, down-is}
+use Rattle.leaves.proofs.Laws.{fits→room, Room, size-under}
 use Rattle.leaves.proofs.Zero.{no, is-below, not-above, zero-not-above}
 use Rattle.leaves.proofs.Shift.{shift-value}
-use Rattle.leaves.proofs.Sqrts.{halved, whole, g, radicand-is, radicand-in, digits-of, result-room}
-use Rattle.leaves.proofs.SqrtLaws.{eighth, sqrt-near, sqrt-shift}
+use Rattle.leaves.proofs.Sqrts.{halved, whole, g, radicand-is, radicand-in, places, sqrt-fits}
+use Rattle.leaves.proofs.Eighths.{eighth}
+use Rattle.leaves.proofs.SqrtLaws.{sqrt-near, sqrt-shift}
 use Rattle.leaves.proofs.Rounding.{Held, held-pow, held-grain}
-use Rattle.leaves.proofs.Units.{U, zero-mag, Val, sign, mag, val-mag, val-pos, val-finite, fin-val, mag-held, val-of}
+use Rattle.leaves.proofs.Units.{fractionBits, U, zero-mag, Val, sign, mag, val-mag, val-pos, val-finite, fin-val, mag-held, val-of}
 use Rattle.leaves.proofs.Range.{Range, range-size, range-value}
+use Rattle.leaves.proofs.Bounds.{Bounds, rootOf}
 use Rattle.leaves.proofs.Operations.{Moved, pow-le-U, U-le-pow}
 
 -- ---- a tie would make m * 2 ^ E, with m odd, the square of twice an odd number: then m is that odd number's square
@@ -52,9 +54,6 @@ no-tie m (suc (suc E)) r o h l e = go (even-power E)
 -- ---- in whole numbers: n is the radicand, q its root to the nearest in units of 4, t = 2 ^ p
 module _ (n q p w : ℕ) (least : 2 ^ 52 ≤ q) (large : 2 ^ 108 ≤ n)
     (lo : 4 * ((2 * q - 1) * (2 * q - 1)) < n) (hi : n < 4 * ((2 * q + 1) * (2 * q + 1))) (e : n * (2 ^ p * 2 ^ p) ≡ 16 * w) where
-  scale : (a : ℕ) → 4 * (a * a) * (2 ^ p * 2 ^ p) ≡ 4 * (a * 2 ^ p * (a * 2 ^ p))
-  scale a = omega arith
-
   squares-pos : 0 < 2 ^ p * 2 ^ p
   squares-pos = mul-pos (pow-pos p) (pow-pos p)
 
@@ -62,13 +61,13 @@ module _ (n q p w : ℕ) (least : 2 ^ 52 ≤ q) (large : 2 ^ 108 ≤ n)
   below-root a h =
       let k : 4 * (a * a) < n = lt-of-le-of-lt (let f = mul-le-mul h h in omega arith) lo in
       let l = mul-lt-mul-of-pos-right k squares-pos in
-      omega (arith, scale a, e, l)
+      omega arith
 
   above-root : (a : ℕ) → 2 * q + 1 ≤ a → 4 * w < a * 2 ^ p * (a * 2 ^ p)
   above-root a h =
       let k : n < 4 * (a * a) = lt-of-lt-of-le hi (let f = mul-le-mul h h in omega arith) in
       let l = mul-lt-mul-of-pos-right k squares-pos in
-      omega (arith, scale a, e, l)
+      omega arith
 
   squared : (a b : ℕ) → a ≤ b → b * b < 4 * w → a * a < 4 * w
   squared a b h k = lt-of-le-of-lt (mul-le-mul h h) k
@@ -86,9 +85,8 @@ module _ (n q p w : ℕ) (least : 2 ^ 52 ≤ q) (large : 2 ^ 108 ≤ n)
           squared (u + q * 2 ^ p) ((2 ^ 52 + q) * 2 ^ p) (omega arith) (below-root (2 ^ 52 + q) (omega arith))
       go (inr l) (inl z) =
           let k : u + q * 2 ^ p + 1 ≤ 2 ^ 53 * 2 ^ p = let f = ap (λ (j : ℕ). j * 2 ^ p) z in omega arith in
-          let f = mul-le-mul k k in
           let d = mul-le-mul-right (2 ^ p * 2 ^ p) large in
-          lt-of-lt-of-le (let j = u + q * 2 ^ p in strict j (2 ^ 53 * 2 ^ p) k) (omega (arith, e, d))
+          lt-of-lt-of-le (strict (u + q * 2 ^ p) (2 ^ 53 * 2 ^ p) k) (omega arith)
         where
           strict : (a b : ℕ) → a + 1 ≤ b → a * a < b * b
           strict a b h = let f = mul-le-mul h h in omega arith
@@ -117,6 +115,16 @@ module _ (n q p w : ℕ) (least : 2 ^ 52 ≤ q) (large : 2 ^ 108 ≤ n)
       squares-down : (a b w : ℕ) → b * 2 ^ 52 ≤ a → 4 * w ≤ b * b → w * 2 ^ 106 ≤ a * a
       squares-down a b w h k = let f = mul-le-mul h h in omega arith
 
+-- ---- what is to be shown of a value x above zero
+pub record Nearest (x : Float) : Type 0 where
+  pub fit : T (fits binary64 (sqrt x))
+  pub finite : T (isFinite (sqrt x))
+  pub plus : sign (sqrt x) ≡ false
+  pub above : (u : ℕ) → Held u → u < mag (sqrt x) → (u + mag (sqrt x)) * (u + mag (sqrt x)) < 4 * (mag x * U)
+  pub below : (u : ℕ) → Held u → mag (sqrt x) < u → 4 * (mag x * U) < (u + mag (sqrt x)) * (u + mag (sqrt x))
+  pub at-most : mag (sqrt x) * (2 ^ 53 - 1) * (mag (sqrt x) * (2 ^ 53 - 1)) ≤ mag x * U * 2 ^ 106
+  pub at-least : mag x * U * 2 ^ 106 ≤ mag (sqrt x) * (2 ^ 53 + 1) * (mag (sqrt x) * (2 ^ 53 + 1))
+
 -- ---- the root of x = (suc m) * 2 ^ e: n, q and p of the definition
 twos : (a u p : ℕ) → 2 ^ (a + 56 + u + (p + p)) ≡ 2 ^ a * 2 ^ 56 * 2 ^ u * (2 ^ p * 2 ^ p)
 twos a u p = pow-add 2 (a + 56 + u) (p + p) ∙ ap₂ _*_ (pow-add 2 (a + 56) u ∙ ap (λ (z : ℕ). z * 2 ^ u) (pow-add 2 a 56)) (pow-add 2 p p)
@@ -143,7 +151,7 @@ module _ (m : ℕ) (e : ℤ) (t : T (fits binary64 (fin false (suc m) e))) where
   room = fits→room false m e t
 
   abbrev k : ℤ
-  k = halfExponent (suc m) e -ℤ pos 55
+  k = places m e room
 
   abbrev n : ℕ
   n = radicand (suc m) e
@@ -154,24 +162,23 @@ module _ (m : ℕ) (e : ℤ) (t : T (fits binary64 (fin false (suc m) e))) where
   abbrev p : ℕ
   p = over k + 1077 - under k
 
-  places : over (g m e room) + 56 + under e + (p + p) ≡ 4 + (over e + 1074 + 1074)
+  exponents : over (g m e room) + 56 + under e + (p + p) ≡ 4 + (over e + 1074 + 1074)
   unfolding over under
-  places =
+  exponents =
       let h = halfExponent (suc m) e in
-      omega (arith, whole m e room, halved m e room, minus h (pos 55), one-side (h -ℤ pos 55), minus (pos 52) h, minus (pos 52 -ℤ h) h, plus e (pos 52 -ℤ h -ℤ h))
+      omega (arith, whole m e room, halved m e room, minus h (pos 55), minus (pos 52) h, minus (pos 52 -ℤ h) h, plus e (pos 52 -ℤ h -ℤ h))
 
   -- V is q * 2 ^ p units
   root-val : Val (sqrt (fin false (suc m) e)) false (q * 2 ^ p)
   unfolding sqrt U
   root-val =
       let x = round binary64 false (sticky n) 1 in
-      let h = halfExponent (suc m) e in
       let f : 2 ^ over k * 2 ^ 1077 ≡ 2 ^ p * 2 ^ under k = sym (pow-add 2 (over k) 1077) ∙ ap (λ (z : ℕ). 2 ^ z) deep ∙ pow-add 2 p (under k) in
       val-of (shift k x) false (q * 8 * up k) (1 * down k) (q * 2 ^ p) (mul-pos (lit< tt) (down-pos k)) (shift-value k x false (q * 8) 1 (sqrt-near m e t .value))
       (ap (λ (z : ℕ). q * 8 * z * 2 ^ 1074) (up-is k) ∙ regroup q (2 ^ over k) (2 ^ 1074) ∙ ap (λ (z : ℕ). q * z) f ∙ sym (mul-assoc q (2 ^ p) (2 ^ under k)) ∙ ap (λ (z : ℕ). q * 2 ^ p * z) (sym (down-is k) ∙ sym (one-mul (down k))))
     where
       deep : over k + 1077 ≡ p + under k
-      deep = unfold over under in omega (arith, halved m e room, minus (halfExponent (suc m) e) (pos 55), one-side k)
+      deep = unfold over under in omega (arith, halved m e room, minus (halfExponent (suc m) e) (pos 55))
 
       regroup : (q o l : ℕ) → q * 8 * o * l ≡ q * (o * (8 * l))
       regroup q o l = omega arith
@@ -180,7 +187,7 @@ module _ (m : ℕ) (e : ℤ) (t : T (fits binary64 (fin false (suc m) e))) where
   root-of : (w : ℕ) → Val (fin false (suc m) e) false w → n * (2 ^ p * 2 ^ p) ≡ 16 * (w * U)
   root-of w v =
       gathered n (suc m) (2 ^ over (g m e room)) (2 ^ 56) (2 ^ under e) (2 ^ p * 2 ^ p) (2 ^ over e) w U (pow-pos (under e)) (radicand-is m e room) (rw (up-is e, down-is e) at (v .1))
-      (sym (twos (over (g m e room)) (under e) p) ∙ ap (λ (z : ℕ). 2 ^ z) places ∙ tops (over e))
+      (sym (twos (over (g m e room)) (under e) p) ∙ ap (λ (z : ℕ). 2 ^ z) exponents ∙ tops (over e))
 
   few : suc m < 2 ^ 53
   few = size-under (suc m) 53 (room .digits)
@@ -191,51 +198,40 @@ module _ (m : ℕ) (e : ℤ) (t : T (fits binary64 (fin false (suc m) e))) where
   low-side : 4 * ((2 * q - 1) * (2 * q - 1)) < n
   low-side =
       let c = sqrt-near m e t in
-      let l : 4 * ((2 * q - 1) * (2 * q - 1)) ≤ n = let f = middle-below q (lt-of-lt-of-le (lit< tt) (c .digits .0)) in omega (arith, c .near .low) in
+      let l : 4 * ((2 * q - 1) * (2 * q - 1)) ≤ n = let f = middle-below q (lt-of-lt-of-le (lit< tt) (c .digits .0)) in omega arith in
       elim (eq-or-lt-of-le l) [
-        | inl z ↦ absurd (no-tie (suc m) (over (g m e room) + 56) (q - 1) (room .odd) few (omega (arith, c .digits)) (sym odd-times ∙ sym z ∙ ap (λ (z : ℕ). 4 * (z * z)) (omega (arith, c .digits))))
+        | inl z ↦ absurd (no-tie (suc m) (over (g m e room) + 56) (q - 1) (room .odd) few (omega arith) (sym odd-times ∙ sym z ∙ ap (λ (z : ℕ). 4 * (z * z)) (omega arith)))
         | inr h ↦ h
       ]
 
   high-side : n < 4 * ((2 * q + 1) * (2 * q + 1))
   high-side =
       let c = sqrt-near m e t in
-      let l : n ≤ 4 * ((2 * q + 1) * (2 * q + 1)) = omega (arith, c .near .high) in
+      let l : n ≤ 4 * ((2 * q + 1) * (2 * q + 1)) = omega arith in
       elim (eq-or-lt-of-le l) [
-        | inl z ↦ absurd (no-tie (suc m) (over (g m e room) + 56) q (room .odd) few (omega (arith, c .digits)) (sym odd-times ∙ z))
+        | inl z ↦ absurd (no-tie (suc m) (over (g m e room) + 56) q (room .odd) few (omega arith) (sym odd-times ∙ z))
         | inr h ↦ h
       ]
 
+  root-nearest : Nearest (fin false (suc m) e)
+  root-nearest =
+      let x = fin false (suc m) e in
+      let w = mag x * U in
+      let s = val-mag (sqrt x) false (q * 2 ^ p) root-val in
+      let least = sqrt-near m e t .digits .0 in
+      let large = radicand-in m e room .0 in
+      let is = root-of (mag x) (fin-val false (suc m) e t) in
+      record {
+        fit = sqrt-fits m e room;
+        finite = val-finite (sqrt x) false (q * 2 ^ p) root-val;
+        plus = s .0;
+        above = rw (s .1) (under-nearest n q p w least large low-side high-side is);
+        below = rw (s .1) (over-nearest n q p w least large low-side high-side is);
+        at-most = rw (s .1) (error-below n q p w least large low-side high-side is);
+        at-least = rw (s .1) (error-above n q p w least large low-side high-side is);
+      }
+
 -- ---- the theorem
-pub record Nearest (x : Float) : Type 0 where
-  pub fit : T (fits binary64 (sqrt x))
-  pub finite : T (isFinite (sqrt x))
-  pub plus : sign (sqrt x) ≡ false
-  pub above : (u : ℕ) → Held u → u < mag (sqrt x) → (u + mag (sqrt x)) * (u + mag (sqrt x)) < 4 * (mag x * U)
-  pub below : (u : ℕ) → Held u → mag (sqrt x) < u → 4 * (mag x * U) < (u + mag (sqrt x)) * (u + mag (sqrt x))
-  pub at-most : mag (sqrt x) * (2 ^ 53 - 1) * (mag (sqrt x) * (2 ^ 53 - 1)) ≤ mag x * U * 2 ^ 106
-  pub at-least : mag x * U * 2 ^ 106 ≤ mag (sqrt x) * (2 ^ 53 + 1) * (mag (sqrt x) * (2 ^ 53 + 1))
-
-root-nearest : (m : ℕ) (e : ℤ) → T (fits binary64 (fin false (suc m) e)) → Nearest (fin false (suc m) e)
-root-nearest m e t =
-    let x = fin false (suc m) e in
-    let v = root-val m e t in
-    let s = val-mag (sqrt x) false (q m e t * 2 ^ p m e t) v in
-    let c = sqrt-near m e t in
-    let at = root-of m e t (mag x) (fin-val false (suc m) e t) in
-    record {
-      fit = fits-root m e (fits→room false m e t);
-      finite = val-finite (sqrt x) false (q m e t * 2 ^ p m e t) v;
-      plus = s .0;
-      above = rw (s .1) (under-nearest (n m e t) (q m e t) (p m e t) (mag x * U) (c .digits .0) (radicand-in m e (fits→room false m e t) .0) (low-side m e t) (high-side m e t) at);
-      below = rw (s .1) (over-nearest (n m e t) (q m e t) (p m e t) (mag x * U) (c .digits .0) (radicand-in m e (fits→room false m e t) .0) (low-side m e t) (high-side m e t) at);
-      at-most = rw (s .1) (error-below (n m e t) (q m e t) (p m e t) (mag x * U) (c .digits .0) (radicand-in m e (fits→room false m e t) .0) (low-side m e t) (high-side m e t) at);
-      at-least = rw (s .1) (error-above (n m e t) (q m e t) (p m e t) (mag x * U) (c .digits .0) (radicand-in m e (fits→room false m e t) .0) (low-side m e t) (high-side m e t) at);
-    }
-  where
-    fits-root : (m : ℕ) (e : ℤ) (r : Room (suc m) e) → T (fits binary64 (sqrt (fin false (suc m) e)))
-    fits-root m e r = unfold sqrt shift in let d = digits-of m e r in subst (λ (z : Float). T (fits binary64 (shift (halfExponent (suc m) e -ℤ pos 55) z))) (sym (d .is)) (room→fits false (d .m) (d .e +ℤ (halfExponent (suc m) e -ℤ pos 55)) (result-room m e r d))
-
 -- of a finite value above zero
 pub nearest-of : (x : Float) → T (fits binary64 x) → T (isFinite x) → lt zero⁺ x ≡ true → Nearest x
 unfolding isFinite
@@ -262,22 +258,24 @@ module _ {x : Float} (r : Nearest x) (u : ℕ) (H : Held u) where
   root-most h = elim (le-or-lt (mag (sqrt x)) u) [ inl l ↦ l | inr l ↦ absurd (let a = r .above u H l in let v = mag (sqrt x) in let k : 2 * u ≤ u + v = (omega arith) in let f = mul-le-mul k k in omega arith) ]
 
 -- ---- its range, and its copy
-range-sqrt : {g₁ L₁ B₁ : ℕ} (x : Float) → Range g₁ L₁ B₁ x → lt x zero⁺ ≡ false → (g h : ℕ) → 2 ^ (g + 52) * 2 ^ (g + 52) ≤ L₁ * U → B₁ * U ≤ 2 ^ h * 2 ^ h → Range g (2 ^ (g + 52)) (2 ^ h) (sqrt x)
+range-sqrt : {g₁ L₁ B₁ : ℕ} (x : Float) → Range g₁ L₁ B₁ x → lt x zero⁺ ≡ false → (l h : ℕ) → fractionBits ≤ l → 2 ^ l * 2 ^ l ≤ L₁ * U → B₁ * U ≤ 2 ^ h * 2 ^ h → Range (l - fractionBits) (2 ^ l) (2 ^ h) (sqrt x)
 unfolding isFinite
-range-sqrt nan r n g h a b = absurd (r .finite)
-range-sqrt (inf s) r n g h a b = absurd (r .finite)
-range-sqrt (fin s zero e) r n g h a b = unfold sqrt in
-    range-size g (2 ^ h) (fin s zero e) (r .fit) (r .finite) (inl (zero-mag s e)) (rw (zero-mag s e) zero-le)
-range-sqrt (fin true (suc m) e) r n g h a b = no (is-below m e) n
-range-sqrt (fin false (suc m) e) r n g h a b =
-    let x = fin false (suc m) e in
-    let q = root-nearest m e (r .fit) in
-    let p : 0 < mag x = val-pos false m e (sign x) (mag x) (range-value r) in
-    range-size g (2 ^ h) (sqrt x) (q .fit) (q .finite) (inr (root-least q (2 ^ (g + 52)) (held-pow (g + 52)) (le-trans a (mul-le-mul-right U (r .least p)))))
+range-sqrt nan r n l h e a b = absurd (r .finite)
+range-sqrt (inf s) r n l h e a b = absurd (r .finite)
+range-sqrt (fin s zero i) r n l h e a b = unfold sqrt in
+    range-size l (2 ^ h) (fin s zero i) e (r .fit) (r .finite) (inl (zero-mag s i)) (rw (zero-mag s i) zero-le)
+range-sqrt (fin true (suc m) i) r n l h e a b = no (is-below m i) n
+range-sqrt (fin false (suc m) i) r n l h e a b =
+    let x = fin false (suc m) i in
+    let q = root-nearest m i (r .fit) in
+    let p : 0 < mag x = val-pos false m i (sign x) (mag x) (range-value r) in
+    range-size l (2 ^ h) (sqrt x) e (q .fit) (q .finite) (inr (root-least q (2 ^ l) (held-pow l) (le-trans a (mul-le-mul-right U (r .least p)))))
     (root-most q (2 ^ h) (held-pow h) (le-trans (mul-le-mul-right U (r .most)) b))
 
-pub moved-sqrt : {k g₁ l₁ h₁ : ℕ} {x x' : Float} → Moved (k + k) g₁ l₁ h₁ x x' → lt x zero⁺ ≡ false → (g h : ℕ) → g + 52 + (g + 52) ≤ l₁ + 1074 → h₁ + 1074 ≤ h + h → Moved k g (g + 52) h (sqrt x) (sqrt x')
-moved-sqrt {k} {l₁ = l₁} {h₁} {x} r n g h eg eh = record {
-  range = range-sqrt x (r .range) n g h (pow-le-U (g + 52) (g + 52) l₁ eg) (U-le-pow h₁ h h eh);
-  copy = ap sqrt (r .copy) ∙ sqrt-shift x (pos k);
-}
+pub moved-sqrt : {k : ℕ} {b : Bounds} {x x' : Float} → Moved (k + k) b x x' → lt x zero⁺ ≡ false → Moved k (rootOf b) (sqrt x) (sqrt x')
+moved-sqrt {k} {b} {x} r n =
+    let d = rootOf b in
+    record {
+      range = range-sqrt x (r .range) n (d .least) (d .most) (omega arith) (pow-le-U (d .least) (d .least) (b .least) (omega arith)) (U-le-pow (b .most) (d .most) (d .most) (omega arith));
+      copy = ap sqrt (r .copy) ∙ sqrt-shift x (pos k);
+    }

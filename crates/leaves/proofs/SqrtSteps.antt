@@ -9,12 +9,11 @@ use lib.IntN.{ℤ, pos, _+ℤ_, _-ℤ_}
 use lib.Ieee.{fin, binary64, lt, round, up, down, toUnsigned}
 use lib.Ieee.Fits.{down-pos}
 use Rattle.leaves.specs.Scaling.{pow2Scaled}
-use Rattle.leaves.specs.Shift.{shift}
 use Rattle.leaves.specs.Root.{sticky, halfExponent, radicand, sqrt}
 use Rattle.leaves.proofs.Whole.{over, up-is, down-is}
 use Rattle.leaves.proofs.Laws.{Room}
 use Rattle.leaves.proofs.ScaleSteps.{scaled-fin}
-use Rattle.leaves.proofs.Sqrts.{whole, g, M, M-lt, digits-of, result-room}
+use Rattle.leaves.proofs.Sqrts.{whole, g, M, M-lt, digits-of, places, root-room, sqrt-is}
 
 module _ (m : ℕ) (e : ℤ) (r : Room (suc m) e) where
   g-room : Room (suc m) (g m e r)
@@ -39,5 +38,6 @@ module _ (m : ℕ) (e : ℤ) (r : Room (suc m) e) where
   below64 = rw (down-g, up-is) (lt→ltb (suc m * 2 ^ over (g m e r) * 1) (1 * 2 ^ 64 * 1) (omega (arith, M-lt m e r)))
 
   pub last : pow2Scaled (round binary64 false (sticky (radicand (suc m) e)) 1) (halfExponent (suc m) e -ℤ pos 55) ≡ sqrt (fin false (suc m) e)
-  unfolding sqrt shift
-  last = rw (digits-of m e r .is) (scaled-fin false (digits-of m e r .m) (digits-of m e r .e) (digits-of m e r .e +ℤ (halfExponent (suc m) e -ℤ pos 55)) (halfExponent (suc m) e -ℤ pos 55) (digits-of m e r .room) (result-room m e r (digits-of m e r)) refl)
+  last =
+      let d = digits-of m e r in
+      rw (d .is, sqrt-is m e r) (scaled-fin false (d .m) (d .e) (d .e +ℤ places m e r) (places m e r) (d .room) (root-room m e r) refl)

@@ -4,7 +4,7 @@
 use mathlib.Core.Path.{_≡_, sym, ap₂, _∙_, subst}
 use mathlib.Core.Logic.{inl, inr}
 use Prim.Native.Nat.{ℕ, zero, suc, _+_, _*_, _^_, _≤_, _<_}
-use native.Mathlib.Nat.{le-refl, le-trans, le-of-eq, le-of-lt, le-of-suc-le-suc, lt-of-le-of-lt, lt-trans, lt-suc-self, eq-or-lt-of-le, not-suc-le-zero, mul-one, suc-mul, mul-le-mul-left, mul-le-mul-right}
+use native.Mathlib.Nat.{le-refl, le-trans, le-of-eq, le-of-lt, le-of-suc-le-suc, lt-of-le-of-lt, lt-trans, lt-suc-self, eq-or-lt-of-le, not-suc-le-zero, suc-mul, mul-le-mul-right, le-mul-of-pos-right}
 use native.Mathlib.Omega.{arith}
 use mathlib.Core.Bool.{Bool, true, false, cond}
 use lib.Dec.{ltb}
@@ -18,18 +18,22 @@ use Rattle.leaves.specs.Shift.{shift}
 use Rattle.leaves.proofs.Shift.{shift-zero⁺, abs-shift, larger-shift}
 use Rattle.leaves.proofs.Loops.{kept-loop, amax-ext}
 use Rattle.leaves.proofs.Rounding.{Held, held-times, held-up}
-use Rattle.leaves.proofs.Units.{Finite, zero-val, zero-mag, Top, pow-under-Top, Val, mag, mag-val, mag-abs, abs-val, lt-val}
+use Rattle.leaves.proofs.Units.{topBits, fractionBits, Finite, zero-val, zero-mag, Top, pow-under-Top, Val, mag, mag-val, mag-abs, abs-val, lt-val}
 use Rattle.leaves.proofs.Range.{Range, range-weaken, range-abs, range-zero}
+use Rattle.leaves.proofs.Bounds.{Bounds, Bounded, zero-bounded, sumOf}
 use Rattle.leaves.proofs.Operations.{Moved, range-add, add-copy}
 
--- ---- a sum under way, and its copy: m terms so far
-pub record Part (k g h m : ℕ) (x x' : Float) : Type 0 where
-  pub range : Range g (2 ^ g) (m * 2 ^ h) x
+-- ---- a sum under way, and its copy: m terms so far, each in the bounds b
+pub record Part (k : ℕ) (b : Bounds) (m : ℕ) (x x' : Float) : Type 0 where
+  pub range : Range (b .grain) (2 ^ b .grain) (m * 2 ^ b .most) x
   pub copy : x' ≡ shift (pos k) x
 
-module _ (k g h M c : ℕ) (S : M ≤ 2 ^ c) (C : c ≤ 52) (O : c + h + k ≤ 2097) where
+module _ (k : ℕ) (b : Bounds) (M c : ℕ) (S : M ≤ 2 ^ c) (C : c ≤ fractionBits) (O : sumOf c b .most + k ≤ topBits) where
+  abbrev h : ℕ
+  h = b .most
+
   held : (m : ℕ) → m ≤ M → Held (m * 2 ^ h)
-  held m e = held-times m h (lt-of-le-of-lt (le-trans e (le-trans S (pow-mono C))) (pow-lt {i = 52} {j = 53} (le-refl 53)))
+  held m e = held-times m h (lt-of-le-of-lt (le-trans e (le-trans S (pow-mono C))) (pow-lt {i = fractionBits} {j = 53} (le-refl 53)))
 
   most : (m : ℕ) → m ≤ M → m * 2 ^ h ≤ 2 ^ (c + h)
   most m e = le-trans (mul-le-mul-right (2 ^ h) (le-trans e S)) (le-of-eq (sym (pow-add 2 c h)))
@@ -37,26 +41,26 @@ module _ (k g h M c : ℕ) (S : M ≤ 2 ^ c) (C : c ≤ 52) (O : c + h + k ≤ 2
   under-way : (m : ℕ) → m ≤ M → m * 2 ^ h * 2 ^ k < Top
   under-way m e = lt-of-le-of-lt (le-trans (mul-le-mul-right (2 ^ k) (most m e)) (le-of-eq (sym (pow-add 2 (c + h) k)))) (pow-under-Top (c + h + k) O)
 
-  pub part-zero : Part k g h 0 zero⁺ zero⁺
-  part-zero = record { range = range-zero g (2 ^ g) (0 * 2 ^ h); copy = sym (shift-zero⁺ (pos k)) }
+  pub part-zero : Part k b 0 zero⁺ zero⁺
+  part-zero = record { range = range-zero (b .grain) (2 ^ b .grain) (0 * 2 ^ h); copy = sym (shift-zero⁺ (pos k)) }
 
-  pub part-add : {m l : ℕ} {s s' x x' : Float} → suc m ≤ M → Part k g h m s s' → Moved k g l h x x' → Part k g h (suc m) (s ⊕ x) (s' ⊕ x')
+  pub part-add : {m : ℕ} {s s' x x' : Float} → suc m ≤ M → Part k b m s s' → Moved k b x x' → Part k b (suc m) (s ⊕ x) (s' ⊕ x')
   part-add {m} e p u =
       let B = suc m * 2 ^ h in
       let o = under-way (suc m) e in
-      let b : m * 2 ^ h + 2 ^ h ≤ B = le-of-eq (sym (suc-mul m (2 ^ h))) in
+      let r : m * 2 ^ h + 2 ^ h ≤ B = le-of-eq (sym (suc-mul m (2 ^ h))) in
       record {
-        range = range-add (p .range) (u .range) B b (held (suc m) e) (lt-of-le-of-lt (le-trans (le-of-eq (sym (mul-one B))) (mul-le-mul-left B (pow-pos k))) o);
-        copy = ap₂ _⊕_ (p .copy) (u .copy) ∙ add-copy (p .range) (u .range) k (B * 2 ^ k) (mul-le-mul-right (2 ^ k) b) (held-up B k (held (suc m) e)) o;
+        range = range-add (p .range) (u .range) B r (held (suc m) e) (lt-of-le-of-lt (le-mul-of-pos-right B (pow-pos k)) o);
+        copy = ap₂ _⊕_ (p .copy) (u .copy) ∙ add-copy (p .range) (u .range) k (B * 2 ^ k) (mul-le-mul-right (2 ^ k) r) (held-up B k (held (suc m) e)) o;
       }
 
   -- a turn that adds nothing
-  pub part-more : {m m' : ℕ} {s s' : Float} → m ≤ m' → Part k g h m s s' → Part k g h m' s s'
-  part-more {m' = m'} e p = record { range = range-weaken (2 ^ g) (m' * 2 ^ h) (le-refl (2 ^ g)) (mul-le-mul-right (2 ^ h) e) (p .range); copy = p .copy }
+  pub part-more : {m m' : ℕ} {s s' : Float} → m ≤ m' → Part k b m s s' → Part k b m' s s'
+  part-more {m' = m'} e p = record { range = range-weaken (2 ^ b .grain) (m' * 2 ^ h) (le-refl (2 ^ b .grain)) (mul-le-mul-right (2 ^ h) e) (p .range); copy = p .copy }
 
   -- a loop of n turns that each add d terms at most
-  pub part-loop : (n d : ℕ) (f f' : ℕ → Float → Float) → ((i m : ℕ) (s s' : Float) → i < n → m + d ≤ M → Part k g h m s s' → Part k g h (m + d) (f i s) (f' i s'))
-      → (m : ℕ) (s s' : Float) → m + n * d ≤ M → Part k g h m s s' → Part k g h (m + n * d) (loop n f s) (loop n f' s')
+  pub part-loop : (n d : ℕ) (f f' : ℕ → Float → Float) → ((i m : ℕ) (s s' : Float) → i < n → m + d ≤ M → Part k b m s s' → Part k b (m + d) (f i s) (f' i s'))
+      → (m : ℕ) (s s' : Float) → m + n * d ≤ M → Part k b m s s' → Part k b (m + n * d) (loop n f s) (loop n f' s')
   unfolding loop
   part-loop zero d f f' each m s s' e p = part-more (omega arith) p
   part-loop (suc n) d f f' each m s s' e p =
@@ -64,16 +68,16 @@ module _ (k g h M c : ℕ) (S : M ≤ 2 ^ c) (C : c ≤ 52) (O : c + h + k ≤ 2
       (each n (m + n * d) (loop n f s) (loop n f' s') (lt-suc-self n) (omega arith)
       (part-loop n d f f' (λ i m s s' l. each i m s s' (lt-trans l (lt-suc-self n))) m s s' (omega arith) p))
 
-  pub part-moved : {m : ℕ} {s s' : Float} → m ≤ M → Part k g h m s s' → Moved k g g (c + h) s s'
-  part-moved {m} e p = record { range = range-weaken (2 ^ g) (2 ^ (c + h)) (le-refl (2 ^ g)) (most m e) (p .range); copy = p .copy }
+  pub part-moved : {m : ℕ} {s s' : Float} → m ≤ M → Part k b m s s' → Moved k (sumOf c b) s s'
+  part-moved {m} e p = record { range = range-weaken (2 ^ b .grain) (2 ^ (c + h)) (le-refl (2 ^ b .grain)) (most m e) (p .range); copy = p .copy }
 
-  part-sum : (l n : ℕ) (u u' : ℕ → Float) → n ≤ M → ((t : ℕ) → t < n → Moved k g l h (u t) (u' t)) → Part k g h n (sumTo n u) (sumTo n u')
+  part-sum : (n : ℕ) (u u' : ℕ → Float) → n ≤ M → ((t : ℕ) → t < n → Moved k b (u t) (u' t)) → Part k b n (sumTo n u) (sumTo n u')
   unfolding sumTo loop
-  part-sum l zero u u' e each = part-zero
-  part-sum l (suc n) u u' e each = part-add e (part-sum l n u u' (le-trans (le-of-lt (lt-suc-self n)) e) (λ t i. each t (lt-trans i (lt-suc-self n)))) (each n (lt-suc-self n))
+  part-sum zero u u' e each = part-zero
+  part-sum (suc n) u u' e each = part-add e (part-sum n u u' (le-trans (le-of-lt (lt-suc-self n)) e) (λ t i. each t (lt-trans i (lt-suc-self n)))) (each n (lt-suc-self n))
 
-  pub moved-sum : (l : ℕ) (u u' : ℕ → Float) → ((t : ℕ) → t < M → Moved k g l h (u t) (u' t)) → Moved k g g (c + h) (sumTo M u) (sumTo M u')
-  moved-sum l u u' each = part-moved (le-refl M) (part-sum l M u u' (le-refl M) each)
+  pub moved-sum : (u u' : ℕ → Float) → ((t : ℕ) → t < M → Moved k b (u t) (u' t)) → Moved k (sumOf c b) (sumTo M u) (sumTo M u')
+  moved-sum u u' each = part-moved (le-refl M) (part-sum M u u' (le-refl M) each)
 
 -- ---- the largest size
 amax-shift : (k : ℤ) (n : ℕ) (f : ℕ → Float) → amaxTo n (λ t. shift k (f t)) ≡ shift k (amaxTo n f)
@@ -90,9 +94,9 @@ amax-one P n f z h = kept-loop P n (λ t m. larger m (abs (f t))) zero⁺ z (λ 
     go m x true p q = q
     go m x false p q = p
 
-pub moved-amax : {k g l h : ℕ} (n : ℕ) (u u' : ℕ → Float) → ((t : ℕ) → t < n → Moved k g l h (u t) (u' t)) → Moved k g l h (amaxTo n u) (amaxTo n u')
-moved-amax {k} {g} {l} {h} n u u' each = record {
-  range = amax-one (Range g (2 ^ l) (2 ^ h)) n u (range-zero g (2 ^ l) (2 ^ h)) (λ t i. range-abs (each t i .range));
+pub moved-amax : {k : ℕ} {b : Bounds} (n : ℕ) (u u' : ℕ → Float) → ((t : ℕ) → t < n → Moved k b (u t) (u' t)) → Moved k b (amaxTo n u) (amaxTo n u')
+moved-amax {k} {b} n u u' each = record {
+  range = amax-one (Bounded b) n u (zero-bounded b) (λ t i. range-abs (each t i .range));
   copy = amax-ext n u' (λ t. shift (pos k) (u t)) (λ t i. each t i .copy) ∙ amax-shift (pos k) n u;
 }
 

@@ -4,7 +4,7 @@
 use mathlib.Core.Path.{_≡_, refl, sym, ap, _∙_, subst}
 use mathlib.Core.Logic.{_⊎_, inl, inr}
 use Prim.Native.Nat.{ℕ, zero, suc, _+_, _*_, _/_, _^_, _≤_, _<_}
-use native.Mathlib.Nat.{mul-comm, eq-zero-or-pos, le-trans, le-of-eq, lt-of-le-of-lt, zero-lt-suc, zero-mul, mul-one, mul-assoc, mul-right-comm, mul-pos, mul-le-mul-left, mul-lt-mul-of-pos-right, mul-div-cancel}
+use native.Mathlib.Nat.{eq-zero-or-pos, le-of-eq, lt-of-le-of-lt, zero-lt-suc, zero-mul, mul-one, mul-pos, mul-lt-mul-of-pos-right, le-mul-of-pos-right, mul-div-cancel}
 use native.Mathlib.Omega.{arith}
 use mathlib.Core.Bool.{Bool, true, false, not, _&&_, _||_, Bool·beq, cond}
 use lib.Dec.{T, ltb, eqb, lit<}
@@ -24,12 +24,22 @@ use Rattle.leaves.proofs.Shift.{shift-value, below-scaled, level-scaled
 use Rattle.leaves.proofs.Rounding.{near, Held, Grained, held-small, held-times, near-scale, round-near}
 
 -- ---- definitions
+-- the format in units: 1 is 2 ^ oneBits of them, and the largest power of two 2 ^ topBits; behind a leading bit stand fractionBits more
+abbrev pub oneBits : ℕ
+oneBits = 1074
+
+abbrev pub topBits : ℕ
+topBits = oneBits + 1023
+
+abbrev pub fractionBits : ℕ
+fractionBits = 52
+
 -- 1 is U units, and from Top units on a result is an infinity. Both stay shut: they are too large to compute with
 unfoldable pub U : ℕ
-U = 2 ^ 1074
+U = 2 ^ oneBits
 
 unfoldable pub Top : ℕ
-Top = 2 ^ 2098
+Top = 2 ^ suc topBits
 
 abbrev pub Val : Float → Bool → ℕ → Type 0
 Val x s u = HasValue x s u U
@@ -61,7 +71,7 @@ pub U-is : U ≡ 2 ^ 1074
 unfolding U
 U-is = refl
 
-pub pow-under-Top : (h : ℕ) → h ≤ 2097 → 2 ^ h < Top
+pub pow-under-Top : (h : ℕ) → h ≤ topBits → 2 ^ h < Top
 unfolding Top
 pow-under-Top h l = lt-of-le-of-lt (pow-mono l) (lit< tt)
 
@@ -97,12 +107,12 @@ val-of x s a c u C v h = value-same x s a c u U C v h
 pub val-unique : (x y : Float) (s : Bool) (u : ℕ) → T (fits binary64 x) → T (fits binary64 y) → Val x s u → Val y s u → x ≡ y
 val-unique x y s u p q v w = value-unique binary64 x y s u U U-pos p q v w
 
--- a finite value of the format: its digits and the zeros after them
-pub record Units (x : Float) : Type 0 where
-  pub count : ℕ
-  pub val : Val x (sign x) count
-  pub held : Held count
-  pub below : count < Top
+-- a finite value of the format is a number of units that has at most 53 digits with zeros after them
+record Units (x : Float) : Type 0 where
+  count : ℕ
+  val : Val x (sign x) count
+  held : Held count
+  below : count < Top
 
 units-of : (x : Float) → T (fits binary64 x) → T (isFinite x) → Units x
 unfolding sign isFinite Top U
@@ -116,7 +126,7 @@ units-of (fin s (suc m) e) t f =
       count = suc m * 2 ^ j;
       val = (refl, in-units (suc m) e (r .low));
       held = held-times (suc m) j (size-under (suc m) 53 (r .digits));
-      below = digits-out (suc m) j 2098 (omega (arith, r .low, r .high));
+      below = digits-out (suc m) j 2098 (omega arith);
     }
 
 pub mag-val : (x : Float) → T (fits binary64 x) → T (isFinite x) → Val x (sign x) (mag x)
@@ -164,10 +174,10 @@ neg-val (fin t m e) s u v = (ap not (v .0), v .1)
 -- ---- comparisons
 -- a side of a comparison, in units
 pub one-side-of : (m : ℕ) (e d : ℤ) (a : ℕ) → m * up e * U ≡ a * down e → m * up e * down d * U ≡ a * (down e * down d)
-one-side-of m e d a v = mul-right-comm (m * up e) (down d) U ∙ ap (λ (z : ℕ). z * down d) v ∙ mul-assoc a (down e) (down d)
+one-side-of m e d a v = let h = ap (λ (z : ℕ). z * down d) v in omega arith
 
 pub other-side-of : (n : ℕ) (e d : ℤ) (b : ℕ) → n * up d * U ≡ b * down d → n * up d * down e * U ≡ b * (down e * down d)
-other-side-of n e d b w = one-side-of n d e b w ∙ ap (λ (z : ℕ). b * z) (mul-comm (down d) (down e))
+other-side-of n e d b w = let h = one-side-of n d e b w in omega arith
 
 both-val : (x y : Float) (s t : Bool) (a b : ℕ) → Val x s a → Val y t b → (lt x y ≡ below s a t b) × (eq x y ≡ level s a t b)
 unfolding lt eq
@@ -222,7 +232,7 @@ fits-shift k (fin r (suc m) e) s u t v h =
     rw (pow-add 2 (over e + 1074) k, pow-add 2 (over e) 1074, pow-add 2 2098 (under e), ← up-is e, ← down-is e)
     (raised (suc m) u (2 ^ k) (down e) (up e) (2 ^ 1074) (v .1) h (down-pos e)) in
     let g = digits-in m (over e + 1074 + k) (2098 + under e) l in
-    room→fits r m (e +ℤ pos k) (room-move e (pos k) q (omega (arith, q .low)) (omega (arith, g)))
+    room→fits r m (e +ℤ pos k) (room-move e (pos k) q (omega arith) (omega arith))
 
 -- ---- n / d units, rounded
 pub rounded-fits : (s : Bool) (n d : ℕ) → T (fits binary64 (rounded s n d))
@@ -255,6 +265,6 @@ rounded-shift s n d t D c o =
     let g = near n d in
     let e : near (n * 2 ^ t) d ≡ g * 2 ^ t = near-scale n d t D c in
     let o' : g * 2 ^ t < Top = rw e at o in
-    let v = rounded-val s n d D (lt-of-le-of-lt (le-trans (le-of-eq (sym (mul-one g))) (mul-le-mul-left g (pow-pos t))) o') in
+    let v = rounded-val s n d D (lt-of-le-of-lt (le-mul-of-pos-right g (pow-pos t)) o') in
     val-unique (rounded s (n * 2 ^ t) d) (shift (pos t) (rounded s n d)) s (g * 2 ^ t) (rounded-fits s (n * 2 ^ t) d) (fits-shift t (rounded s n d) s g (rounded-fits s n d) v o')
     (rw e at (rounded-val s (n * 2 ^ t) d D o)) (val-shift t (rounded s n d) s g v)

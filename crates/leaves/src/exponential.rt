@@ -1,6 +1,6 @@
 // Document 01's stand-ins for exp and exp_m1.
 ghost use mathlib.Core.Path.{_≡_};
-ghost use Prim.Native.Nat.{_≤_, _+_};
+ghost use Prim.Native.Nat.{_<_, _+_, _^_};
 ghost use Rattle.leaves.specs.Numbers as Numbers;
 ghost use Rattle.leaves.specs.Exp as Exp;
 ghost use Rattle.leaves.specs.Inner as Inner;
@@ -15,7 +15,7 @@ const L: f64 = 1.90821492927058770002e-10;
 
 // p = 1 + (r * p) / m, for m from n + d down to 1 + d, from p = 1.
 fn horner(r: f64, n: u32, d: u32) -> f64
-    requires { ⌜ n + d ≤ 1000 ⌝ }
+    requires { ⌜ n + d < 2 ^ 32 ⌝ }
     ensures { λ p. ⌜ p ≡ Exp.horner r d n Numbers.one ⌝ }
 {
     let mut p = 1.0;

@@ -9,21 +9,26 @@ ghost use Rattle.leaves.specs.Root as Root;
 use crate::scaling::binary_exponent;
 use crate::scaling::pow2_scaled;
 
-// 2^52, the digit of a normal number that its bits leave out.
-const HIDDEN: u64 = 0x10_0000_0000_0000;
+// 2^28, 2^52 and 2^53. A normal number's digits are from 2^52 to 2^53; its bits leave the first out.
+const TWO_28: u64 = 0x1000_0000;
+
+const TWO_52: u64 = 0x10_0000_0000_0000;
+
+const TWO_53: u64 = 0x20_0000_0000_0000;
 
 // About sqrt(x), for a normal x above 0: nearly always the nearest float. Nothing is promised.
 // With x = z * 4^k and the root r of a near square, z = r^2 + d, the root of x is 2^k times
 // r + d / (2 r) * (1 - v + 2 v^2 - 5 v^3 ..), where v = d / (2 r)^2 and the numbers are Catalan's.
+// z, from 2^25 to 2^27, has the digits of x and its exponent's last bit; the exponent's other bits make 2^k.
 // Near 1 every other root lies next to the middle of two floats: there r is a power of two, and d and d / (2 r) are exact.
 fn near_root(x: f64) -> f64 {
     if x > 0.0 {
         let bits = f64::to_bits(x);
-        let digits = bits % 0x20_0000_0000_0000;
+        let digits = bits % TWO_53;
         let i = (digits + 0x2000_0000_0000) / 0x4000_0000_0000;
         let z = f64::from_bits(digits + 0x4180_0000_0000_0000);
-        let power = bits / 0x20_0000_0000_0000 % 1024 + 0x1f3;
-        let scale = f64::from_bits(power * HIDDEN);
+        let power = bits / TWO_53 % 1024 + 0x1f3;
+        let scale = f64::from_bits(power * TWO_52);
         let r = f64::from_bits(squares::root(i));
         let y = f64::from_bits(squares::half_reciprocal(i));
         let d = z - f64::from_bits(squares::square(i));
@@ -59,17 +64,17 @@ fn rest_over(n: u64, high: u64, low: u64) -> Rest
     }
     let first = n - square;
     let cross = 2 * high * low;
-    if first >= 0x2000_0000 || first * 0x1000_0000 < cross {
+    if first >= 0x2000_0000 || first * TWO_28 < cross {
         return unknown;
     }
-    let second = first * 0x1000_0000 - cross;
+    let second = first * TWO_28 - cross;
     let last = low * low;
-    if second >= 0x8_0000_0000 || second * 0x1000_0000 < last {
+    if second >= 0x8_0000_0000 || second * TWO_28 < last {
         return unknown;
     }
     Rest {
         known: true,
-        over: second * 0x1000_0000 - last,
+        over: second * TWO_28 - last,
     }
 }
 
@@ -79,14 +84,14 @@ fn is_nearest(n: u64, p: u64) -> bool
     requires { ⌜ (2 ^ 52 ≤ n) × (n < 2 ^ 54) ⌝ }
     ensures { λ r. ⌜ (r ≡ true → (2 ^ 52 ≤ p) × (p < 2 ^ 53) × (ofInt binary64 (pos (8 * p)) ≡ ofInt binary64 (pos (Root.sticky (n * 2 ^ 56))))) ⌝ }
 {
-    if p < HIDDEN {
+    if p < TWO_52 {
         return false;
     }
-    if p >= 0x20_0000_0000_0000 {
+    if p >= TWO_53 {
         return false;
     }
     let g = 4 * p - 2;
-    let rest = rest_over(n, g / 0x1000_0000, g % 0x1000_0000);
+    let rest = rest_over(n, g / TWO_28, g % TWO_28);
     let over = rest.over;
     if rest.known {
         if 0 < over {
@@ -107,11 +112,11 @@ fn is_root(x: f64, guess: f64) -> bool
     if guess > 0.0 {
         let b = f64::to_bits(x);
         let g = f64::to_bits(guess);
-        let e = b / HIDDEN;
+        let e = b / TWO_52;
         if 0 < e {
-            if g / HIDDEN == (e + 1023) / 2 {
-                let n = (b % HIDDEN + HIDDEN) * (2 - e % 2);
-                if is_nearest(n, g % HIDDEN + HIDDEN) {
+            if g / TWO_52 == (e + 1023) / 2 {
+                let n = (b % TWO_52 + TWO_52) * (2 - e % 2);
+                if is_nearest(n, g % TWO_52 + TWO_52) {
                     return true;
                 }
             }
@@ -132,9 +137,9 @@ fn root_digits(n: u64) -> u64
     let mut rem: u64 = 0;
     let mut i: usize = 0;
     while i < 55 {
-        let next = rem * 4 + rest / 0x10_0000_0000_0000;
+        let next = rem * 4 + rest / TWO_52;
         let trial = root * 4 + 1;
-        rest = rest % 0x10_0000_0000_0000 * 4;
+        rest = rest % TWO_52 * 4;
         if next < trial {
             rem = next;
             root = root * 2;

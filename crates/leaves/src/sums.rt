@@ -1,6 +1,5 @@
 // The sum and the largest size of a slice's numbers, and of those of one column of a matrix stored row by row.
 ghost use mathlib.Core.Path.{_≡_};
-ghost use Prim.Native.Nat.{ℕ, _+_, _*_};
 ghost use lib.ListN.{length};
 ghost use Rattle.leaves.specs.Loops as Loops;
 use crate::numbers::abs;
@@ -40,7 +39,7 @@ fn column_length(len: usize, n: usize, j: usize) -> usize
 }
 
 pub fn sum_column(xs: &[f64], n: usize, j: usize) -> f64
-    ensures { λ r. ⌜ r ≡ Loops.sumTo (Loops.columnLength (length (now (xs .entry))) n j) (λ (t : ℕ). Loops.nth (now (xs .entry)) (t * n + j)) ⌝ }
+    ensures { λ r. ⌜ r ≡ Loops.sumTo (Loops.columnLength (length (now (xs .entry))) n j) (Loops.column (now (xs .entry)) n j) ⌝ }
 {
     let rows = column_length(xs.len(), n, j);
     let mut s = 0.0;
@@ -53,7 +52,7 @@ pub fn sum_column(xs: &[f64], n: usize, j: usize) -> f64
 }
 
 pub fn amax_column(xs: &[f64], n: usize, j: usize) -> f64
-    ensures { λ r. ⌜ r ≡ Loops.amaxTo (Loops.columnLength (length (now (xs .entry))) n j) (λ (t : ℕ). Loops.nth (now (xs .entry)) (t * n + j)) ⌝ }
+    ensures { λ r. ⌜ r ≡ Loops.amaxTo (Loops.columnLength (length (now (xs .entry))) n j) (Loops.column (now (xs .entry)) n j) ⌝ }
 {
     let rows = column_length(xs.len(), n, j);
     let mut m = 0.0;

@@ -1,5 +1,5 @@
 -- Two matrices with the same entries, within m rows and n columns, are alike in all that is looked for, summed or decomposed. So a stored matrix
--- stands for the function that it stores. Assumes nothing.
+-- stands for the function that it stores. And the decomposition, by its two tests (`decompose-is`, `decompose-cases`). Assumes nothing.
 use mathlib.Core.Path.{_≡_, refl, sym, ap, _∙_}
 use mathlib.Core.Bool.{Bool, true, false, not, true≢false}
 use mathlib.Core.List.{List}

@@ -3,7 +3,7 @@ use mathlib.Core.Path.{_≡_, refl, sym, ap, _∙_, subst}
 use mathlib.Core.Logic.{_⊎_, inl, inr}
 use mathlib.Core.Bool.{Bool, true, false}
 use Prim.Native.Nat.{ℕ, _+_, _-_, _*_, _^_, _≤_, _<_}
-use native.Mathlib.Nat.{le-trans, le-of-lt, lt-of-le-of-lt, mul-le-mul-left, mul-le-mul-right, le-of-mul-le-mul-right, lt-of-mul-lt-mul-right, mul-lt-mul-of-pos-right, mul-pos, mul-zero, mul-comm, mul-mul-mul-comm, le-of-eq}
+use native.Mathlib.Nat.{le-trans, le-of-lt, lt-of-le-of-lt, mul-le-mul, mul-le-mul-left, mul-le-mul-right, le-of-mul-le-mul-right, lt-of-mul-lt-mul-right, mul-lt-mul-of-pos-right, mul-pos, mul-zero, mul-comm, mul-mul-mul-comm, le-of-eq}
 use native.Mathlib.Omega.{arith}
 use lib.Dec.{T, lit≤, lit<}
 use lib.IntN.{pos}
@@ -18,7 +18,7 @@ use Rattle.leaves.proofs.Arithmetic.{add-rounded, mul-rounded, div-rounded}
 use Rattle.leaves.proofs.Signs.{same-signs}
 use Rattle.leaves.proofs.SqrtNearest.{Nearest, nearest-of}
 use Rattle.matrix.specs.Rotation.{cosine}
-use Rattle.matrix.proofs.Squares.{Close, InCircle, square-mono, square-back, half-u, t-c, circle}
+use Rattle.matrix.proofs.Squares.{Close, InCircle, square-back, half-u, t-c, circle}
 
 -- ---- units
 pub near-close : (n d : ℕ) → 0 < d → Close (near n d) n d
@@ -30,15 +30,15 @@ near-under n d b D h = lt-of-mul-lt-mul-right d (lt-of-le-of-lt (near-error n d 
 pub mul-val : (x y : Float) (s t : Bool) (a b : ℕ) → Val x s a → Val y t b → 2 * (a * b) < Top * U → Val (x ⊗ y) (unlike s t) (near (a * b) U)
 mul-val x y s t a b v w h = rw (mul-rounded x y s t a b v w) (rounded-val (unlike s t) (a * b) U U-pos (near-under (a * b) U Top U-pos h))
 
-pub U-big : 1073741824 ≤ U
+pub U-big : 2 ^ 30 ≤ U
 unfolding U
 U-big = lit≤ tt
 
-pub Top-big : U * 1099511627776 < Top
+Top-big : U * 2 ^ 40 < Top
 unfolding U Top
 Top-big = lit< tt
 
-Top-small : Top * U * 4398046511104 ≤ U * U * (U * U)
+Top-small : Top * U * 2 ^ 42 ≤ U * U * (U * U)
 unfolding U Top
 Top-small = lit≤ tt
 
@@ -71,7 +71,7 @@ module _ (t : Float) (σ : Bool) (n : ℕ) (v : Val t σ n) where
       at-inf = unfold sqrt div in refl
 
       few : (s : ℕ) → s ≤ 1 → InCircle U 0 s
-      few s h = let a = square-mono h in let b = square-mono U-big in omega arith
+      few s h = let a = mul-le-mul h h in let b = mul-le-mul U-big U-big in omega arith
 
   -- where it does not: w is t² + 1, of W units
   module _ (w : Float) (Z W : ℕ) (cz : Close Z (n * n) U) (cw : Close W (Z + U) 1) (vw : Val w false W) (under : W < Top) (fw : T (fits binary64 w)) where
@@ -91,20 +91,20 @@ module _ (t : Float) (σ : Bool) (n : ℕ) (v : Val t σ n) where
     mag-w : mag w ≡ W
     mag-w = val-mag w false W vw .1
 
-    cu : U * W * 65536 ≤ R * R * 65537
+    cu : U * W * 2 ^ 16 ≤ R * R * (2 ^ 16 + 1)
     unfolding R
     cu =
         let r = mag (sqrt w) in
         let a = le-trans (rw mag-w at (root .at-least)) (le-of-eq (mul-mul-mul-comm r (2 ^ 53 + 1) r (2 ^ 53 + 1))) in
-        ratio (U * W) (r * r) ((2 ^ 53 + 1) * (2 ^ 53 + 1)) (2 ^ 106) 65536 65537 (le-trans (le-of-eq (ap (λ (z : ℕ). z * 2 ^ 106) (mul-comm U W))) a) (lit≤ tt) (lit< tt)
+        ratio (U * W) (r * r) ((2 ^ 53 + 1) * (2 ^ 53 + 1)) (2 ^ 106) (2 ^ 16) (2 ^ 16 + 1) (le-trans (le-of-eq (ap (λ (z : ℕ). z * 2 ^ 106) (mul-comm U W))) a) (lit≤ tt) (lit< tt)
 
-    small : R * 1048576 ≤ U * U
+    small : R * 2 ^ 20 ≤ U * U
     unfolding R
     small =
         let r = mag (sqrt w) in
         let b : r * r * 1 ≤ W * U * 2 =
         ratio (r * r) (W * U) (2 ^ 106) ((2 ^ 53 - 1) * (2 ^ 53 - 1)) 1 2 (le-trans (le-of-eq (mul-mul-mul-comm r r (2 ^ 53 - 1) (2 ^ 53 - 1))) (rw mag-w at (root .at-most))) (lit≤ tt) (lit< tt) in
-        square-back (r * 1048576) (U * U) (let c = mul-le-mul-right U (le-of-lt under) in omega (arith, Top-small))
+        square-back (r * 2 ^ 20) (U * U) (let c = mul-le-mul-right U (le-of-lt under) in omega (arith, Top-small))
 
     half : U ≤ 2 * R
     half = half-u U n Z W R U-big cz cw cu

@@ -1,5 +1,5 @@
--- What stands in each row and column of a stored matrix in which two numbers of every row, or of every column, are replaced (`lines-all`) or turned (`columns-at`,
--- `turned-rows-at`). Assumes nothing.
+-- What stands in each row and column of a stored matrix in which two numbers of every row, or of every column, are replaced (`lines-all`) or turned (`turnedRow`,
+-- `lines-turned`, `columns-at`). Assumes nothing.
 use mathlib.Core.Path.{_≡_, refl, sym, ap, _∙_}
 use mathlib.Core.Logic.{_⊎_, inl, inr, _≢_}
 use mathlib.Core.Bool.{Bool, true, false, cond}
@@ -15,11 +15,20 @@ use Rattle.leaves.specs.Numbers.{_⊕_, _⊖_, _⊗_}
 use Rattle.leaves.specs.Loops.{loop, nth}
 use Rattle.leaves.proofs.Loops.{cell, cell-row, cell-col}
 use Rattle.matrix.specs.Matrix.{at}
-use Rattle.matrix.specs.Rotation.{turn, turnColumns, turnRows}
-use Rattle.matrix.proofs.Rows.{turnedRow}
+use Rattle.matrix.specs.Rotation.{turn, turnColumns}
 
-pub turned-same : (c s : Float) (p q j : ℕ) (f g : ℕ → Float) → f p ≡ g p → f q ≡ g q → f j ≡ g j → turnedRow c s p q f j ≡ turnedRow c s p q g j
-turned-same c s p q j f g ep eq ej = λ i. cond (eqb j p) (c ⊗ ep i ⊖ s ⊗ eq i) (cond (eqb j q) (s ⊗ ep i ⊕ c ⊗ eq i) (ej i))
+-- ---- a row two of whose numbers are turned
+abbrev pub turnedRow : Float → Float → ℕ → ℕ → (ℕ → Float) → ℕ → Float
+turnedRow c s p q row j = cond (eqb j p) (c ⊗ row p ⊖ s ⊗ row q) (cond (eqb j q) (s ⊗ row p ⊕ c ⊗ row q) (row j))
+
+pub turned-p : (c s : Float) (p q : ℕ) (row : ℕ → Float) (j : ℕ) → j ≡ p → turnedRow c s p q row j ≡ c ⊗ row p ⊖ s ⊗ row q
+turned-p c s p q row j e = rw (eq-eqb j p e)
+
+pub turned-q : (c s : Float) (p q : ℕ) → p < q → (row : ℕ → Float) (j : ℕ) → j ≡ q → turnedRow c s p q row j ≡ s ⊗ row p ⊕ c ⊗ row q
+turned-q c s p q pq row j e = rw (ne-eqb j p (λ d. ne-of-lt pq (sym d ∙ e)), eq-eqb j q e)
+
+pub turned-other : (c s : Float) (p q : ℕ) (row : ℕ → Float) (j : ℕ) → (j ≢ p) × (j ≢ q) → turnedRow c s p q row j ≡ row j
+turned-other c s p q row j d = rw (ne-eqb j p (d .0), ne-eqb j q (d .1))
 
 -- ---- a list with two numbers replaced
 pub two-set : (l : List Float) (a b k : ℕ) (x y : Float) → a < length l → b < length l → a ≢ b → getD (set (set l a x) b y) k nan ≡ cond (eqb k a) x (cond (eqb k b) y (getD l k nan))
@@ -45,14 +54,8 @@ pub record Lines (n : ℕ) (index : ℕ → ℕ → ℕ) : Type 0 where
 abbrev pub inRows : ℕ → ℕ → ℕ → ℕ
 inRows n k j = k * n + j
 
-abbrev pub inColumns : ℕ → ℕ → ℕ → ℕ
-inColumns n k j = j * n + k
-
 pub row-lines : (n : ℕ) → Lines n (inRows n)
 row-lines n = record { inside = λ k j hk hj. cell k n j n hk hj; apart = λ k j i m hk hj hi hm e. (same-row n i k j m hj hm e, same-column n i k j m hj hm e) }
-
-column-lines : (n : ℕ) → Lines n (inColumns n)
-column-lines n = record { inside = λ k j hk hj. cell j n k n hj hk; apart = λ k j i m hk hj hi hm e. (same-column n m j k i hk hi e, same-row n m j k i hk hi e) }
 
 -- ---- numbers p and q of every line replaced, line by line
 module _ (n : ℕ) (index : ℕ → ℕ → ℕ) (lines : Lines n index) (p q : ℕ) (pq : p < q) (qn : q < n) where
@@ -120,14 +123,14 @@ module _ (n : ℕ) (index : ℕ → ℕ → ℕ) (lines : Lines n index) (p q : 
     abbrev at-q : List Float → ℕ → Float
     at-q v k = s ⊗ nth v (index k p) ⊕ c ⊗ nth v (index k q)
 
-    lines-turned : Replaced v₀ at-p at-q n (loop n (λ k. turn c s (index k p) (index k q)) v₀)
+    pub lines-turned : Replaced v₀ at-p at-q n (loop n (λ k. turn c s (index k p) (index k q)) v₀)
     unfolding turn
     lines-turned = lines-all v₀ at-p at-q kept n (le-refl n) len₀
       where
         kept : (m : ℕ) (v : List Float) → m < n → Replaced v₀ at-p at-q m v → (at-p v m ≡ at-p v₀ m) × (at-q v m ≡ at-q v₀ m)
         kept m v hm H = let x = H .left m p hm pn (le-refl m) in let y = H .left m q hm qn (le-refl m) in ((λ t. c ⊗ x t ⊖ s ⊗ y t), (λ t. s ⊗ x t ⊕ c ⊗ y t))
 
--- ---- columns p and q turned: two numbers of every row. Rows p and q turned: two numbers of every column.
+-- ---- columns p and q turned: two numbers of every row
 module _ (c s : Float) (n p q : ℕ) (pq : p < q) (qn : q < n) (v : List Float) (len : length v ≡ n * n) where
   pub length-columns : length (turnColumns n p q c s v) ≡ n * n
   unfolding turnColumns
@@ -136,11 +139,3 @@ module _ (c s : Float) (n p q : ℕ) (pq : p < q) (qn : q < n) (v : List Float) 
   pub columns-at : (i j : ℕ) → i < n → j < n → at (turnColumns n p q c s v) n i j ≡ turnedRow c s p q (at v n i) j
   unfolding turnColumns
   columns-at i j hi hj = lines-turned n (inRows n) (row-lines n) p q pq qn c s v len .done i j hi hj hi
-
-  pub length-turned-rows : length (turnRows n p q c s v) ≡ n * n
-  unfolding turnRows
-  length-turned-rows = lines-turned n (inColumns n) (column-lines n) p q pq qn c s v len .len
-
-  pub turned-rows-at : (i j : ℕ) → i < n → j < n → at (turnRows n p q c s v) n i j ≡ turnedRow c s p q (λ r. at v n r j) i
-  unfolding turnRows
-  turned-rows-at i j hi hj = lines-turned n (inColumns n) (column-lines n) p q pq qn c s v len .done j i hj hi hj

@@ -7,7 +7,7 @@ use mathlib.Core.Bool.{Bool, true, false, cond, true≢false}
 use Prim.Native.Nat.{ℕ, zero, suc, _*_, _≤_, _<_}
 use native.Mathlib.Nat.{mul-comm, zero-mul, eq-zero-or-pos, eq-or-lt-of-le, le-of-suc-le-suc, le-refl, le-of-eq, le-trans, lt-of-le-of-lt, mul-le-mul-right}
 use native.Mathlib.Omega.{arith}
-use lib.Dec.{T, ltb, eqb}
+use lib.Dec.{T, ltb, eqb, lit≤}
 use lib.IntN.{pos}
 use lib.Ieee.{Float, fin, eq, binary64, unlike, fits}
 use lib.Ieee.Fits.{add-fits, mul-fits, div-fits}
@@ -18,14 +18,13 @@ use Rattle.leaves.specs.Loops.{loop, sumTo}
 use Rattle.leaves.proofs.Commutative.{product-comm}
 use Rattle.leaves.proofs.Scale.{times-one}
 use Rattle.leaves.proofs.Rounding.{near, Held, held-pow, near-held, near-most}
-use Rattle.leaves.proofs.Units.{Finite, nonzero-pos, U, U-pos, U-is, Top, Val, sign, mag, rounded, zero-val, zero-mag, val-finite, val-unique, mag-val, mag-held, rounded-val}
+use Rattle.leaves.proofs.Units.{Finite, nonzero-pos, U, U-pos, U-is, Top, pow-under-Top, Val, sign, mag, rounded, zero-val, zero-mag, val-finite, val-unique, mag-val, mag-held, rounded-val}
 use Rattle.leaves.proofs.Arithmetic.{sumSign, total, add-rounded, mul-rounded, div-rounded}
 use Rattle.leaves.proofs.Loops.{sum-ext}
 use Rattle.matrix.specs.Matrix.{Matrix, at, rows, identity, product, transpose, symmetrized, divided, amax, allFinite}
 use Rattle.matrix.specs.Jacobi.{start}
 use Rattle.matrix.proofs.Alike.{finite-all}
 use Rattle.matrix.proofs.Stored.{rows-ext, rows-at, amax-finite, amax-entry}
-use Rattle.matrix.proofs.Angle.{Top-big}
 
 -- a result that is x's units, rounded, is x
 by-units : (r x : Float) (s : Bool) (n d : ℕ) → T (fits binary64 r) → Finite x → 0 < d → r ≡ rounded s n d → s ≡ sign x → n ≡ mag x * d → r ≡ x
@@ -50,7 +49,7 @@ zero-times x t =
           (rw (zero-mag s (pos 0), zero-mul (mag x), zero-mul U)),
     )
 
--- not -0
+-- finite and not -0
 abbrev Plain : Float → Type 0
 Plain x = Finite x × ((sign x ≡ false) ⊎ (0 < mag x))
 
@@ -181,4 +180,4 @@ quotients-finite n a fit all nonzero i j hi hj =
     held-U = rw U-is (held-pow 1074)
 
     U-below : U < Top
-    U-below = omega (arith, Top-big, U-pos)
+    U-below = rw U-is (pow-under-Top 1074 (lit≤ tt))

@@ -1,4 +1,4 @@
--- Document 01, "Jacobi": a decomposition found at a limit is found at every larger one, in every bit and count. Assumes nothing.
+-- A test stands before each sweep (document 01, "Jacobi"), so a decomposition found at a limit is found at every larger one, in every bit and count. Assumes nothing.
 use mathlib.Core.Path.{_≡_, refl, sym, ap, _∙_}
 use mathlib.Core.Bool.{Bool, true, false, true≢false}
 use mathlib.Core.List.{List}

@@ -1,23 +1,27 @@
--- The laws that the proofs of the matrices share, and the theorems about the decomposition (Sweeps, LargerLimit, Vectors, Symmetry).
--- loops, stored matrices and searches
-pub mod Steps
+-- The laws that the proofs of the matrices share, and the theorems about the decomposition (Sweeps, Rotations, LargerLimit, Vectors, Symmetry).
+-- stored matrices, their sums, and searches through them
+pub mod SumOver
 pub mod Stored
 pub mod FilledRows
 pub mod First
 pub mod Alike
+-- what the sweeps begin with
+pub mod Identity
 -- one rotation; counts of sweeps and rotations
 pub mod Rotated
+pub mod RotateSteps
+pub mod Cells
+pub mod CellRows
 pub mod Counts
 pub mod Sweeps
+pub mod Rotations
 pub mod LargerLimit
 -- the size of the vectors
 pub mod Squares
 pub mod Angle
 pub mod Turn
 pub mod Rows
-pub mod Cells
 pub mod Vectors
-pub mod Identity
 -- a rotation with V stored column by column and A symmetric
 pub mod Flip
 pub mod Symmetry

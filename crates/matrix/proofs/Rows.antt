@@ -4,28 +4,29 @@ use mathlib.Core.Path.{_≡_, refl, sym, ap, _∙_, subst}
 use mathlib.Core.Logic.{_⊎_, inl, inr, _≢_}
 use mathlib.Core.Bool.{Bool, true, false, cond}
 use Prim.Native.Nat.{ℕ, zero, suc, _+_, _-_, _*_, _^_, _≤_, _<_}
-use native.Mathlib.Nat.{le-refl, le-trans, le-of-eq, le-step, le-of-suc-le-suc, lt-trans, not-suc-le-zero, eq-or-lt-of-le, ne-of-lt, add-sub-of-le, mul-mul-mul-comm, suc-mul, mul-le-mul, mul-le-mul-left, mul-le-mul-right, le-of-mul-le-mul-right, pow-suc, one-le-pow, pow-le-pow-left}
+use native.Mathlib.Nat.{le-trans, le-of-eq, le-of-suc-le-suc, lt-trans, not-suc-le-zero, eq-or-lt-of-le, ne-of-lt, add-zero, add-sub-of-le, mul-mul-mul-comm, suc-mul, mul-le-mul, mul-le-mul-left, mul-le-mul-right, le-of-mul-le-mul-right, pow-suc, one-le-pow, pow-le-pow-left}
 use native.Mathlib.Omega.{arith}
 use lib.Dec.{eqb, lit≤}
 use lib.Pow.{pow-add}
 use lib.Ieee.{Float}
 use borrow.Author.Tests.{eqb-false, eq-eqb, ne-eqb}
 use Rattle.leaves.specs.Numbers.{_⊕_, _⊖_, _⊗_}
+use Rattle.leaves.specs.Loops.{loop}
+use Rattle.leaves.proofs.Loops.{loop-ext, loop-still}
 use Rattle.leaves.proofs.Units.{U, mag}
 use Rattle.matrix.specs.Limits.{maxSide, maxSweeps}
+use Rattle.matrix.proofs.Cells.{turnedRow, turned-p, turned-q, turned-other}
 use Rattle.matrix.proofs.Squares.{slack, square-back}
 use Rattle.matrix.proofs.Angle.{Angle}
 use Rattle.matrix.proofs.Turn.{Limit, Tame, Next, next}
 
 -- ---- sums
 unfoldable pub sum : (ℕ → ℕ) → ℕ → ℕ
-sum f zero = 0
-sum f (suc n) = sum f n + f n
+sum f n = loop n (λ j t. t + f j) 0
 
 sum-same : (f g : ℕ → ℕ) (n : ℕ) → ((j : ℕ) → j < n → f j ≡ g j) → sum f n ≡ sum g n
 unfolding sum
-sum-same f g zero h = refl
-sum-same f g (suc n) h = λ i. sum-same f g n (λ j l. h j (le-step l)) i + h n (le-refl (suc n)) i
+sum-same f g n h = loop-ext n (λ j t. t + f j) (λ j t. t + g j) 0 (λ j l t. ap (λ (x : ℕ). t + x) (h j l))
 
 -- f with 0 at p
 abbrev without : (ℕ → ℕ) → ℕ → ℕ → ℕ
@@ -35,7 +36,7 @@ other : (f : ℕ → ℕ) (p j : ℕ) → j ≢ p → without f p j ≡ f j
 other f p j d = ap (λ (b : Bool). cond b 0 (f j)) (ne-eqb j p d)
 
 sum-without : (f : ℕ → ℕ) (n p : ℕ) → p < n → sum f n ≡ sum (without f p) n + f p
-unfolding sum
+unfolding sum loop
 sum-without f zero p h = absurd (not-suc-le-zero h)
 sum-without f (suc n) p h = go (eq-or-lt-of-le (le-of-suc-le-suc h)) (sum-without f n p)
   where
@@ -50,8 +51,7 @@ sum-without f (suc n) p h = go (eq-or-lt-of-le (le-of-suc-le-suc h)) (sum-withou
 -- all but one are 0
 sum-zero : (n : ℕ) → sum (λ j. 0) n ≡ 0
 unfolding sum
-sum-zero zero = refl
-sum-zero (suc n) = let e = sum-zero n in omega arith
+sum-zero n = loop-still (λ j t. t + 0) n 0 (λ j l t. add-zero t)
 
 pub sum-alone : (f : ℕ → ℕ) (n k : ℕ) → k < n → ((j : ℕ) → j ≢ k → f j ≡ 0) → sum f n ≡ f k
 sum-alone f n k l h = let a = sum-without f n k l in let b = sum-same (without f k) (λ j. 0) n (λ j i. none j) in let c = sum-zero n in omega arith
@@ -100,27 +100,34 @@ good-same n r row row′ h g = record {
   most = subst (λ (k : ℕ). (k + slack) * 256 ^ r ≤ U * U * 2 * 257 ^ r) (sum-same (squares row) (squares row′) n (λ j l. ap (λ (x : Float). mag x * mag x) (h j l))) (g .most);
 }
 
--- at most as many turns as the limits allow: a block of 177 at most doubles the squares
+-- at most as many turns as the limits allow
 abbrev pub mostTurns : ℕ
 mostTurns = maxSweeps * (maxSide * maxSide)
 
-blocks : (k : ℕ) → 257 ^ (k * 177) ≤ 2 ^ k * 256 ^ (k * 177)
+-- as many turns as at most double the squares, and as many such blocks as have all turns in them
+abbrev block : ℕ
+block = 177
+
+abbrev mostBlocks : ℕ
+mostBlocks = 579
+
+blocks : (k : ℕ) → 257 ^ (k * block) ≤ 2 ^ k * 256 ^ (k * block)
 blocks zero = lit≤ tt
 blocks (suc k) =
-    rw (suc-mul k 177, pow-add 257 (k * 177) 177, pow-add 256 (k * 177) 177, pow-suc 2 k)
-    (le-trans (mul-le-mul (blocks k) (lit≤ {m = 257 ^ 177} {n = 2 * 256 ^ 177} tt)) (le-of-eq (mul-mul-mul-comm (2 ^ k) (256 ^ (k * 177)) 2 (256 ^ 177))))
+    rw (suc-mul k block, pow-add 257 (k * block) block, pow-add 256 (k * block) block, pow-suc 2 k)
+    (le-trans (mul-le-mul (blocks k) (lit≤ {m = 257 ^ block} {n = 2 * 256 ^ block} tt)) (le-of-eq (mul-mul-mul-comm (2 ^ k) (256 ^ (k * block)) 2 (256 ^ block))))
 
--- twice the squares' growth, and its root
+-- the root of twice what the squares grow by at most
 unfoldable Most : ℕ
 Most = 2 ^ 290
 
 growth : (r : ℕ) → r ≤ mostTurns → 2 * 257 ^ r ≤ Most * Most * 256 ^ r
 unfolding Most
 growth r h =
-    let k = 579 * 177 - r in
-    let e : r + k ≡ 579 * 177 = add-sub-of-le (le-trans h (lit≤ tt)) in
-    let a : 257 ^ (r + k) ≤ 2 ^ 579 * 256 ^ (r + k) = rw e (blocks 579) in
-    cancel (257 ^ r) (257 ^ k) (2 ^ 579) (256 ^ r) (256 ^ k) (rw (pow-add 257 r k, pow-add 256 r k) at a) (pow-le-pow-left (lit≤ tt) k) (one-le-pow k 256 (lit≤ tt))
+    let k = mostBlocks * block - r in
+    let e : r + k ≡ mostBlocks * block = add-sub-of-le (le-trans h (lit≤ tt)) in
+    let a : 257 ^ (r + k) ≤ 2 ^ mostBlocks * 256 ^ (r + k) = rw e (blocks mostBlocks) in
+    cancel (257 ^ r) (257 ^ k) (2 ^ mostBlocks) (256 ^ r) (256 ^ k) (rw (pow-add 257 r k, pow-add 256 r k) at a) (pow-le-pow-left (lit≤ tt) k) (one-le-pow k 256 (lit≤ tt))
   where
     cancel : (x y z v w : ℕ) → x * y ≤ z * (v * w) → w ≤ y → 0 < w → 2 * x ≤ 2 * z * v
     cancel x y z v w h g W = le-of-mul-le-mul-right {m = 2 * x} {n = 2 * z * v} {k = w} (let f = mul-le-mul-left x g in omega arith) W
@@ -137,9 +144,6 @@ good-small n r row h g j l =
     cancel x t d b u w a g h D = le-of-mul-le-mul-right {m = x * x} {n = u * w * (u * w)} {k = d} (let f = mul-le-mul-left (u * u) h in let e = mul-le-mul-right d a in omega arith) D
 
 -- ---- a turn
-abbrev pub turnedRow : Float → Float → ℕ → ℕ → (ℕ → Float) → ℕ → Float
-turnedRow c s p q row j = cond (eqb j p) (c ⊗ row p ⊖ s ⊗ row q) (cond (eqb j q) (s ⊗ row p ⊕ c ⊗ row q) (row j))
-
 raised : (t t′ d b l : ℕ) → (t′ + slack) * 256 ≤ (t + slack) * 257 → (t + slack) * d ≤ l * b → (t′ + slack) * (d * 256) ≤ l * (b * 257)
 raised t t′ d b l h g = let f = mul-le-mul-right d h in omega arith
 
@@ -170,13 +174,13 @@ good-turned n r p q c s row pq qn a h g = record {
     go j false false t = t
 
     other-j : (j : ℕ) → j ≢ p → j ≢ q → squares row j ≡ squares row′ j
-    other-j j d e = rw (ne-eqb j p d, ne-eqb j q e)
+    other-j j d e = ap (λ (x : Float). mag x * mag x) (sym (turned-other c s p q row j (d, e)))
 
     at-p : squares row′ p ≡ mag (c ⊗ row p ⊖ s ⊗ row q) * mag (c ⊗ row p ⊖ s ⊗ row q)
-    at-p = rw (eq-eqb p p refl)
+    at-p = ap (λ (x : Float). mag x * mag x) (turned-p c s p q row p refl)
 
     at-q : squares row′ q ≡ mag (s ⊗ row p ⊕ c ⊗ row q) * mag (s ⊗ row p ⊕ c ⊗ row q)
-    at-q = rw (ne-eqb q p (λ (d : q ≡ p). ne-of-lt pq (sym d)), eq-eqb q q refl)
+    at-q = ap (λ (x : Float). mag x * mag x) (turned-q c s p q pq row q refl)
 
     shift : (t t′ x y : ℕ) → t′ + x ≡ t + y → x ≤ t → y * 256 ≤ x * 257 + slack → (t′ + slack) * 256 ≤ (t + slack) * 257
     shift t t′ x y e h k = omega arith

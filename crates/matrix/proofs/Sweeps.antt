@@ -1,16 +1,14 @@
--- Document 01, "Jacobi": sweeps ≤ limit, rotations ≤ sweeps × n(n - 1)/2.
--- What every rotation keeps, the vectors and the count of a decomposition have. Assumes nothing.
+-- Document 01, "Jacobi": sweeps ≤ limit; and a decomposition's vectors and count are those of the state after its sweeps. Assumes nothing.
 use mathlib.Core.Path.{_≡_, refl}
 use mathlib.Core.Option.{Option, none, some}
-use Prim.Native.Nat.{ℕ, _-_, _*_, _/_, _≤_, _<_, zero-le}
-use native.Mathlib.Nat.{le-refl, le-of-lt, zero-add}
+use Prim.Native.Nat.{ℕ, _-_, _≤_, _<_, zero-le}
+use native.Mathlib.Nat.{le-refl, le-of-lt}
 use lib.Ieee.{Float}
 use Rattle.leaves.specs.Loops.{loop, firstTo}
 use Rattle.leaves.proofs.Loops.{first-below}
 use Rattle.matrix.specs.Matrix.{Matrix, amax}
 use Rattle.matrix.specs.Rotation.{State}
 use Rattle.matrix.specs.Jacobi.{afterSweeps, stopping, sweptBy, sweeping, start, tolerance, initial, swept, scaledBack, unturned, decompose}
-use Rattle.matrix.proofs.Counts.{pairs, sweeps-keep, AtMost, rotate-count}
 use Rattle.matrix.proofs.Alike.{decompose-cases}
 
 -- ---- sweeping, by what the search for the first sweep that the test forbids finds
@@ -50,7 +48,3 @@ module _ (n : ℕ) (a : Matrix) where
   pub sweeps-bound : (limit : ℕ) → decompose limit n a .sweeps ≤ limit
   unfolding begun
   sweeps-bound limit = decompose-cases (λ d. d .sweeps ≤ limit) limit n a (λ found. unfold unturned in zero-le) (unfold scaledBack swept in sweeping-limit n (tolerance n (begun .matrix)) begun limit)
-
-  pub rotations-bound : (limit : ℕ) → decompose limit n a .rotations ≤ decompose limit n a .sweeps * (n * (n - 1) / 2)
-  unfolding pairs begun
-  rotations-bound limit = rw (decompose-reached limit .1) (rw zero-add at (sweeps-keep n AtMost (rotate-count n) (decompose limit n a .sweeps) 0 begun (le-refl 0)))

@@ -23,8 +23,8 @@ use Rattle.matrix.specs.Inner.{state, turnedBlock, mirrored}
 use Rattle.matrix.proofs.Stored.{rows-at, rows-is}
 use Rattle.matrix.proofs.Rotated.{rotate-cases}
 use Rattle.matrix.proofs.Counts.{row-keeps, rows-keep, sweeps-keep}
-use Rattle.matrix.proofs.Rows.{turnedRow}
-use Rattle.matrix.proofs.Cells.{turned-same, two-set, same-row, same-column, inRows, row-lines, Replaced, lines-all, length-columns, columns-at, length-turned-rows, turned-rows-at}
+use Rattle.matrix.proofs.Cells.{turnedRow, turned-p, turned-q, turned-other, two-set, same-row, same-column, inRows, row-lines, Replaced, lines-all, length-columns, columns-at}
+use Rattle.matrix.proofs.CellRows.{turned-same, length-turned-rows, turned-rows-at}
 
 -- ---- two cells of a stored matrix replaced
 module _ (n : ℕ) (l : List Float) (len : length l ≡ n * n) (i₁ j₁ i₂ j₂ : ℕ) (h₁ : i₁ < n) (k₁ : j₁ < n) (h₂ : i₂ < n) (k₂ : j₂ < n) (d : i₁ ≢ i₂) (x y : Float) where
@@ -68,34 +68,25 @@ module _ (c s : Float) (n p q : ℕ) (pq : p < q) (qn : q < n) where
       go false true e d f g = inr (inl (f refl))
       go false false e d f g = inr (inr (d refl, g refl))
 
-  turned-p : (f : ℕ → Float) (k : ℕ) → k ≡ p → turnedRow c s p q f k ≡ c ⊗ f p ⊖ s ⊗ f q
-  turned-p f k e = rw (eq-eqb k p e)
-
-  turned-q : (f : ℕ → Float) (k : ℕ) → k ≡ q → turnedRow c s p q f k ≡ s ⊗ f p ⊕ c ⊗ f q
-  turned-q f k e = rw (ne-eqb k p (λ d. apart k d e), eq-eqb k q e)
-
-  turned-other : (f : ℕ → Float) (k : ℕ) → (k ≢ p) × (k ≢ q) → turnedRow c s p q f k ≡ f k
-  turned-other f k d = rw (ne-eqb k p (d .0), ne-eqb k q (d .1))
-
   module _ (f : Matrix) where
     -- the columns turned, then the rows
     abbrev twice : Matrix
     twice i j = turnedRow c s p q (λ r. turnedRow c s p q (f r) j) i
 
     row-p : (i j : ℕ) → i ≡ p → (j ≢ p) × (j ≢ q) → twice i j ≡ c ⊗ f p j ⊖ s ⊗ f q j
-    row-p i j e d = turned-p (λ r. turnedRow c s p q (f r) j) i e ∙ (λ t. c ⊗ turned-other (f p) j d t ⊖ s ⊗ turned-other (f q) j d t)
+    row-p i j e d = turned-p c s p q (λ r. turnedRow c s p q (f r) j) i e ∙ (λ t. c ⊗ turned-other c s p q (f p) j d t ⊖ s ⊗ turned-other c s p q (f q) j d t)
 
     row-q : (i j : ℕ) → i ≡ q → (j ≢ p) × (j ≢ q) → twice i j ≡ s ⊗ f p j ⊕ c ⊗ f q j
-    row-q i j e d = turned-q (λ r. turnedRow c s p q (f r) j) i e ∙ (λ t. s ⊗ turned-other (f p) j d t ⊕ c ⊗ turned-other (f q) j d t)
+    row-q i j e d = turned-q c s p q pq (λ r. turnedRow c s p q (f r) j) i e ∙ (λ t. s ⊗ turned-other c s p q (f p) j d t ⊕ c ⊗ turned-other c s p q (f q) j d t)
 
     column-p : (i j : ℕ) → (i ≢ p) × (i ≢ q) → j ≡ p → twice i j ≡ c ⊗ f i p ⊖ s ⊗ f i q
-    column-p i j d e = turned-other (λ r. turnedRow c s p q (f r) j) i d ∙ turned-p (f i) j e
+    column-p i j d e = turned-other c s p q (λ r. turnedRow c s p q (f r) j) i d ∙ turned-p c s p q (f i) j e
 
     column-q : (i j : ℕ) → (i ≢ p) × (i ≢ q) → j ≡ q → twice i j ≡ s ⊗ f i p ⊕ c ⊗ f i q
-    column-q i j d e = turned-other (λ r. turnedRow c s p q (f r) j) i d ∙ turned-q (f i) j e
+    column-q i j d e = turned-other c s p q (λ r. turnedRow c s p q (f r) j) i d ∙ turned-q c s p q pq (f i) j e
 
     aside : (i j : ℕ) → (i ≢ p) × (i ≢ q) → (j ≢ p) × (j ≢ q) → twice i j ≡ f i j
-    aside i j d e = turned-other (λ r. turnedRow c s p q (f r) j) i d ∙ turned-other (f i) j e
+    aside i j d e = turned-other c s p q (λ r. turnedRow c s p q (f r) j) i d ∙ turned-other c s p q (f i) j e
 
     -- of a symmetric matrix, but where p and q meet
     module _ (same : (i j : ℕ) → i < n → j < n → f i j ≡ f j i) where
@@ -199,14 +190,14 @@ module _ (c s : Float) (n p q : ℕ) (pq : p < q) (qn : q < n) where
           at-first n by-rows length-by-rows p p q q pn pn qn qn (ne-of-lt pq) x z i j e g
           ∙ (λ t. c ⊗ flipped p p pn pn t ⊖ s ⊗ flipped p q pn qn t)
           ∙ ap (λ (j : ℕ). c ⊗ turnedRow c s p q (at a n p) j ⊖ s ⊗ turnedRow c s p q (at a n q) j) (sym g)
-          ∙ sym (turned-p (λ r. turnedRow c s p q (at a n r) j) i e)
+          ∙ sym (turned-p c s p q (λ r. turnedRow c s p q (at a n r) j) i e)
 
       corner-q : (i j : ℕ) → j < n → i ≡ q → j ≡ q → at cornered n i j ≡ twice (at a n) i j
       corner-q i j hj e g =
           at-second n by-rows length-by-rows p p q q pn pn qn qn (ne-of-lt pq) x z i j hj e g
           ∙ (λ t. s ⊗ flipped q p qn pn t ⊕ c ⊗ flipped q q qn qn t)
           ∙ ap (λ (j : ℕ). s ⊗ turnedRow c s p q (at a n p) j ⊕ c ⊗ turnedRow c s p q (at a n q) j) (sym g)
-          ∙ sym (turned-q (λ r. turnedRow c s p q (at a n r) j) i e)
+          ∙ sym (turned-q c s p q pq (λ r. turnedRow c s p q (at a n r) j) i e)
 
       no-corner : (i j : ℕ) → i < n → j < n → (i ≡ p → j ≡ p → ⊥) → (i ≡ q → j ≡ q → ⊥) → at cornered n i j ≡ turnedRow c s p q (λ r. at a n r j) i
       no-corner i j hi hj d e = at-neither n by-rows length-by-rows p p q q pn pn qn qn (ne-of-lt pq) x z i j hj d e ∙ by-rows-at i j hi hj
@@ -223,19 +214,19 @@ module _ (c s : Float) (n p q : ℕ) (pq : p < q) (qn : q < n) where
         done-p e (inl g) = by-corner (λ x y. apart j g y) (λ x y. apart i e x) (corner-p i j e g)
         done-p e (inr (inl g)) = zero-pq cornered length-cornered i j e g ∙ sym (zero-pq turned length-turned i j e g)
         done-p e (inr (inr g)) =
-            by-corner (λ x y. g .1 y) (λ x y. g .0 y) (no-corner i j hi hj (λ x y. g .0 y) (λ x y. g .1 y) ∙ turned-p (λ r. at a n r j) i e ∙ sym (row-p (at a n) i j e g))
+            by-corner (λ x y. g .1 y) (λ x y. g .0 y) (no-corner i j hi hj (λ x y. g .0 y) (λ x y. g .1 y) ∙ turned-p c s p q (λ r. at a n r j) i e ∙ sym (row-p (at a n) i j e g))
 
         done-q : i ≡ q → Place j → Done
         done-q e (inl g) = zero-qp cornered length-cornered i j hj e g ∙ sym (zero-qp turned length-turned i j hj e g)
         done-q e (inr (inl g)) = by-corner (λ x y. apart i x e) (λ x y. apart j y g) (corner-q i j hj e g)
         done-q e (inr (inr g)) =
-            by-corner (λ x y. g .1 y) (λ x y. g .0 y) (no-corner i j hi hj (λ x y. g .0 y) (λ x y. g .1 y) ∙ turned-q (λ r. at a n r j) i e ∙ sym (row-q (at a n) i j e g))
+            by-corner (λ x y. g .1 y) (λ x y. g .0 y) (no-corner i j hi hj (λ x y. g .0 y) (λ x y. g .1 y) ∙ turned-q c s p q pq (λ r. at a n r j) i e ∙ sym (row-q (at a n) i j e g))
 
         done-aside : (j ≢ p) × (j ≢ q) → Place i → Done
         done-aside g (inl e) = done-p e (inr (inr g))
         done-aside g (inr (inl e)) = done-q e (inr (inr g))
         done-aside g (inr (inr e)) =
-            by-corner (λ x y. e .0 x) (λ x y. e .1 x) (no-corner i j hi hj (λ x y. e .0 x) (λ x y. e .1 x) ∙ turned-other (λ r. at a n r j) i e ∙ sym (aside (at a n) i j e g))
+            by-corner (λ x y. e .0 x) (λ x y. e .1 x) (no-corner i j hi hj (λ x y. e .0 x) (λ x y. e .1 x) ∙ turned-other c s p q (λ r. at a n r j) i e ∙ sym (aside (at a n) i j e g))
 
       -- then the columns
       mirrored-at : (i j : ℕ) → i < n → j < n → Place j → mirrored n p q blocked i j ≡ at (turnedBoth n p q c s a) n i j
@@ -248,6 +239,9 @@ module _ (c s : Float) (n p q : ℕ) (pq : p < q) (qn : q < n) where
       mirrored-both = sym (rows-is (turnedBoth n p q c s a) n (mirrored n p q blocked) length-both (λ i j hi hj. sym (mirrored-at i j hi hj (place j))))
 
 -- ---- rows p and q copied to the columns, row by row of the matrix
+abbrev pub copied : ℕ → ℕ → ℕ → ℕ → List Float → List Float
+copied n p q k v = set (set v (k * n + p) (at v n p k)) (k * n + q) (at v n q k)
+
 module _ (n p q : ℕ) (pq : p < q) (qn : q < n) (a : List Float) (len : length a ≡ n * n) (meet : at a n p q ≡ at a n q p) where
   abbrev from : ℕ → List Float → ℕ → Float
   from r v k = at v n r k
@@ -270,13 +264,10 @@ module _ (n p q : ℕ) (pq : p < q) (qn : q < n) (a : List Float) (len : length 
       in-q (inl h) = H .left q m qn hm h
       in-q (inr h) = H .done q m qn hm h ∙ rw (ne-eqb m p (λ e. ne-of-lt (lt-trans pq h) (sym e)), ne-eqb m q (λ e. ne-of-lt h (sym e)))
 
-  abbrev pub copied : ℕ → List Float → List Float
-  copied k v = set (set v (k * n + p) (at v n p k)) (k * n + q) (at v n q k)
-
-  pub copied-all : loop n copied a ≡ rows n n (mirrored n p q a)
+  pub copied-all : loop n (copied n p q) a ≡ rows n n (mirrored n p q a)
   copied-all =
       let H = lines-all n (inRows n) (row-lines n) p q pq qn a (from p) (from q) kept n (le-refl n) len in
-      rows-is (loop n copied a) n (mirrored n p q a) (H .len) (λ i j hi hj. H .done i j hi hj hi)
+      rows-is (loop n (copied n p q) a) n (mirrored n p q a) (H .len) (λ i j hi hj. H .done i j hi hj hi)
 
 -- ---- what rotations keep
 abbrev pub Kept : ℕ → ℕ → State → Type 0

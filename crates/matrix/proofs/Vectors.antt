@@ -28,8 +28,8 @@ use Rattle.matrix.proofs.Sweeps.{begun, decompose-reached, sweeps-bound
 use Rattle.matrix.proofs.Squares.{slack}
 use Rattle.matrix.proofs.Angle.{U-big, Angle, angle}
 use Rattle.matrix.proofs.Turn.{Limit, Tame}
-use Rattle.matrix.proofs.Cells.{length-columns, columns-at}
-use Rattle.matrix.proofs.Rows.{sum, sum-alone, Good, mostTurns, turnedRow, good-same, good-small, good-still, good-turned}
+use Rattle.matrix.proofs.Cells.{turnedRow, length-columns, columns-at}
+use Rattle.matrix.proofs.Rows.{sum, sum-alone, Good, mostTurns, good-same, good-small, good-still, good-turned}
 
 -- ---- V after r rotations
 unfoldable Sound : ℕ → ℕ → List Float → Type 0

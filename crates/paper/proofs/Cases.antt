@@ -5,16 +5,15 @@ use mathlib.Core.Bool.{true, false}
 use mathlib.Core.List.{List, [], _∷_, _++_}
 use Prim.Native.Nat.{ℕ}
 use lib.IntN.{pos, negsuc}
-use lib.Ieee.{nan, inf, fin, binary64, add, sub, mul, div, lt, le, eq, ofInt, ofBits, toBits, round, size}
+use lib.Ieee.{nan, inf, fin, binary64, add, sub, mul, div, le, eq, ofInt, ofBits, toBits, round}
 use Rattle.leaves.specs.Numbers.{isFinite, abs, larger}
 use Rattle.leaves.specs.Loops.{loop, sumTo, amaxTo, firstTo, tab, fill}
 use Rattle.leaves.specs.Shift.{shift}
 use Rattle.leaves.specs.Root.{root, sticky, halfExponent, radicand, sqrt}
-use Rattle.matrix.specs.Matrix.{rows, trace, amax, firstEntry, allFinite}
-use Rattle.matrix.specs.Jacobi.{unturned}
+use Rattle.matrix.specs.Matrix.{rows, trace, firstEntry, allFinite}
 use Rattle.estimators.specs.Refusals.{first}
 use Rattle.estimators.specs.Sample.{mean, deviation, gram, covariance, largest, constantAsset}
-use Rattle.estimators.specs.Adjusted.{decompositionOf, base, intensity, shrunk, regularized, adjusted, isAdjusted}
+use Rattle.estimators.specs.Adjusted.{base, intensity, shrunk, regularized, adjusted, isAdjusted}
 use Rattle.estimators.specs.Order.{notFinite, opening, ofGiven, badRegularization, badShrinkage, badEstimate, notTheSample, noCorrelation, noVariance, ofSettings, adjustedOrder}
 use Rattle.estimators.specs.Calls.{settle, adjustedCovariance}
 use Rattle.paper.specs.declared.screen.Shown.the-variants.{Big, Number}
@@ -23,7 +22,7 @@ use Rattle.paper.specs.Screen.{shownAs, shown, shownText, screenText}
 use Rattle.paper.specs.Answer.{refused, bitsText, lineText, linesText, outcome, outcomeText}
 use Rattle.paper.specs.Grammar.{kinds, placeIn, little, starts, taken, sheet}
 use Rattle.paper.specs.Rules.{outline, present, shapeFits, settingsFit, takes, wellFormed, malformed, isQuestion, readPaper}
-use Rattle.paper.specs.Marking.{estimateOf, shrinkageOf, regularizationOf, limitOf, settingsOf, targetOf, asked, columns, answerOf, examined, marking}
+use Rattle.paper.specs.Marking.{estimateOf, shrinkageOf, regularizationOf, settingsOf, asked, columns, answerOf, examined, marking}
 
 -- 01 0200 0200 | 02 000000000000F03F | 02 0000000000000040 | 02 0000000000000840 | 02 0000000000001840 | 0B 00
 abbrev case-6 : List ℕ
@@ -52,7 +51,7 @@ text-6 =
 
 -- what a computed case unfolds
 unfoldable computed : ℕ
-unfolding marking examined readPaper isQuestion sheet kinds taken starts little outline wellFormed shapeFits settingsFit takes present placeIn answerOf columns asked settingsOf estimateOf shrinkageOf regularizationOf targetOf limitOf adjustedCovariance settle first adjustedOrder opening ofGiven ofSettings notFinite badRegularization badShrinkage badEstimate notTheSample noCorrelation noVariance isAdjusted decompositionOf unturned base covariance gram deviation mean largest constantAsset intensity adjusted shrunk regularized rows trace amax firstEntry allFinite loop sumTo amaxTo firstTo tab fill isFinite abs larger sqrt root sticky halfExponent radicand shift add sub mul div lt le eq ofInt ofBits round size outcome outcomeText linesText lineText shownText shown shownAs digits unpadded glyph toBits
+unfolding marking examined readPaper isQuestion sheet kinds taken starts little outline wellFormed shapeFits settingsFit takes present placeIn answerOf columns asked settingsOf estimateOf shrinkageOf regularizationOf adjustedCovariance settle first adjustedOrder opening ofGiven ofSettings notFinite badRegularization badShrinkage badEstimate notTheSample noCorrelation noVariance isAdjusted base covariance gram deviation mean largest constantAsset intensity adjusted shrunk regularized rows trace firstEntry allFinite loop sumTo amaxTo firstTo tab fill isFinite abs larger sqrt root sticky halfExponent radicand shift add sub mul div le eq ofInt ofBits round outcome outcomeText linesText lineText shownText shown shownAs digits unpadded glyph toBits
 computed = 0
 
 pub marking-6 : marking case-6 ≡ text-6

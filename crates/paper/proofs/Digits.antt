@@ -37,7 +37,7 @@ digits-length b zero n = refl
 digits-length b (suc k) n = rw (length-append, digits-length b k (n / b)) (add-one k)
 
 -- the last k of m digits
-pub digits-last : (b m k n : ℕ) → k ≤ m → drop (m - k) (digits b m n) ≡ digits b k n
+digits-last : (b m k n : ℕ) → k ≤ m → drop (m - k) (digits b m n) ≡ digits b k n
 unfolding digits
 digits-last b m zero n h = rw sub-zero (drop-of-length-le (digits b m n) {i = m} (omega (arith, digits-length b m n)))
 digits-last b zero (suc k) n h = absurd (not-suc-le-zero h)

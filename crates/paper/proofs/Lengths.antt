@@ -50,16 +50,17 @@ taken-bytes k (suc m) bs = go (starts k bs) (taken-bytes k m (drop (k .body + 1)
     go false h = omega arith
 
 sheet-bytes : (ks : List Kind) (bs : List ℕ) → length bs ≤ total (map (λ (k : Kind). k .most * (k .body + 1)) ks) + length (sheet ks bs .rest)
-unfolding sheet total map
+unfolding sheet total
 sheet-bytes [] bs = omega arith
 sheet-bytes (k ∷ ks) bs = omega (arith, taken-bytes k (k .most) bs, sheet-bytes ks (taken k (k .most) bs .rest))
 
+-- as many records of each kind as there may be
 abbrev pub maxFile : ℕ
 maxFile = 9840
 
 -- a longer file is no question
 pub too-long : (bs : List ℕ) → maxFile < length bs → readPaper bs ≡ malformed
-unfolding readPaper isQuestion kinds total map
+unfolding readPaper isQuestion kinds total
 too-long bs h = rw (ne-eqb (length (sheet kinds bs .rest)) 0 (λ e. omega (arith, sheet-bytes kinds bs)))
 
 -- ---- a text
@@ -86,11 +87,15 @@ shown-length (Number m u) = simp (length-append, digits-length) (omega (arith, s
     sign true = omega arith
     sign false = omega arith
 
-line-length : (i j : ℕ) (x : Float) → length (lineText i j x) ≤ 86
+-- row, column, bits, screen number, three spaces and a line feed
+abbrev maxLine : ℕ
+maxLine = 86
+
+line-length : (i j : ℕ) (x : Float) → length (lineText i j x) ≤ maxLine
 unfolding lineText
 line-length i j x = simp (length-append, digits-length) (omega (arith, decimal-length i, decimal-length j, shown-length (shown x)))
 
-lines-length : (c k : ℕ) (xs : List Float) → length (linesText c k xs) ≤ 86 * length xs
+lines-length : (c k : ℕ) (xs : List Float) → length (linesText c k xs) ≤ maxLine * length xs
 unfolding linesText
 lines-length c k [] = omega arith
 lines-length c k (x ∷ xs) = rw length-append (omega (arith, line-length (k / c) (k % c) x, lines-length c (suc k) xs))
@@ -171,7 +176,7 @@ answer-entries o r g e =
     let slice = replicate (n * c) zero⁺ in
     let a = asked q o r g slice in
     let blank : length slice ≡ n * c = length-replicate (n * c) zero⁺ in
-    omega (arith, outcome-entries n c (a .answer) (a .slice), asked-length q o r g slice (omega arith), answer-fits o n q c refl (sizes o e .assets-few) refl refl)
+    omega (arith, outcome-entries n c (a .answer) (a .slice), asked-length q o r g slice (omega arith), answer-fits o n q c refl (sizes o e .assets-few) refl)
 
 pub text-length : (paper : List ℕ) → length (marking paper) ≤ maxText
 unfolding marking examined readPaper
@@ -185,12 +190,12 @@ text-length paper = go (isQuestion s) refl
     go false e = outcome-length (refused malformedNumber) (omega arith)
 
 -- what `mark` leaves at the front of a buffer with room is the whole text
-pub whole-text : (paper s v : List ℕ) (n : ℕ) → maxText ≤ length s → out v n ≡ write (out s 0) (marking paper) → (take n v ≡ marking paper) × (n ≡ length (marking paper))
+pub whole-text : (paper s v : List ℕ) (n : ℕ) → maxText ≤ length s → out v n ≡ write (out s 0) (marking paper) → take n v ≡ marking paper
 whole-text paper s v n h e =
     let t = marking paper in
     let w : out v n ≡ out (take 0 s ++ t ++ drop (0 + length t) s) (0 + length t) = e ∙ write-room t s 0 (omega (arith, text-length paper)) in
     let count : n ≡ length t = ap place w ∙ omega arith in
-    (rw (ap buffer w) (take-at t (drop (0 + length t) s) n (sym count)), count)
+    rw (ap buffer w) (take-at t (drop (0 + length t) s) n (sym count))
   where
     place : Out → ℕ
     place (out v n) = n

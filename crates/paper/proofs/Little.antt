@@ -38,7 +38,7 @@ formed-more s at len (suc j) v p f g h = rw sub-one (record {
     scaled v b q f g = omega arith
 
 -- a number of up to 8 bytes
-pub formed-fits : (s : List ℕ) (at len i v : ℕ) → len ≤ 8 → Formed s at len i v → v < 18446744073709551616
+pub formed-fits : (s : List ℕ) (at len i v : ℕ) → len ≤ 8 → Formed s at len i v → v < 2 ^ 64
 formed-fits s at len i v h f = lt-of-lt-of-le (f .small) (pow-le-pow-right {n = 256} (omega arith) {i = len - i} {j = 8} (omega arith))
 
 pub formed-all : (s : List ℕ) (at len i v : ℕ) → i ≤ 0 → Formed s at len i v → v ≡ little (take len (drop at s))

@@ -52,13 +52,13 @@ columns-few q n h = go (eqb q 0)
     go true = h
     go false = omega arith
 
-module _ (o : Outline) (n q c : ℕ) (en : n ≡ assets o) (few : assets o ≤ fileAssets) (eq : q ≡ value o 11) (ec : c ≡ columns q n) where
+module _ (o : Outline) (n q c : ℕ) (en : n ≡ assets o) (few : assets o ≤ fileAssets) (ec : c ≡ columns q n) where
   pub answer-fits : n * c ≤ fileAssets * fileAssets
   answer-fits =
       let h : n ≤ fileAssets = rw en few in
       let k : c ≤ fileAssets = rw ec (columns-few q n h) in
       mul-le-mul h k
 
-  pub answer-is : (r g : List Float) → printed (assets o) c (asked q o r g (take (n * c) (replicate (fileAssets * fileAssets) (ofBits binary64 0)))) ≡ answerOf o r g
+  pub answer-is : q ≡ value o 11 → (r g : List Float) → printed (assets o) c (asked q o r g (take (n * c) (replicate (fileAssets * fileAssets) (ofBits binary64 0)))) ≡ answerOf o r g
   unfolding answerOf ofBits
-  answer-is r g = rw (take-replicate (n * c) (fileAssets * fileAssets) (ofBits binary64 0) answer-fits, ec, eq, en)
+  answer-is eq r g = rw (take-replicate (n * c) (fileAssets * fileAssets) (ofBits binary64 0) answer-fits, ec, eq, en)

@@ -2,7 +2,7 @@
 use mathlib.Core.Path.{_≡_, refl, sym, _∙_, subst}
 use mathlib.Core.Bool.{Bool, true, false, _&&_, _||_, and-eq-true-iff}
 use mathlib.Core.List.{List}
-use Prim.Native.Nat.{ℕ, suc, _+_, _*_, _≤_, _<_}
+use Prim.Native.Nat.{ℕ, suc, _+_, _*_, _^_, _≤_, _<_}
 use native.Mathlib.Nat.{add-zero, mul-le-mul}
 use native.Mathlib.Numerals.{add-one}
 use native.Mathlib.Omega.{arith}
@@ -36,10 +36,10 @@ module _ (o : Outline) (bs : List ℕ) (i n : ℕ) (counted : n + present o (dro
 
 -- ---- T × n and n × n fit
 
-pub product-fits : (t n : ℕ) → t ≤ filePeriods → n ≤ filePeriods → t * n < 18446744073709551616
+pub product-fits : (t n : ℕ) → t ≤ filePeriods → n ≤ filePeriods → t * n < 2 ^ 64
 product-fits t n h k = small (t * n) (mul-le-mul h k)
   where
-    small : (x : ℕ) → x ≤ filePeriods * filePeriods → x < 18446744073709551616
+    small : (x : ℕ) → x ≤ filePeriods * filePeriods → x < 2 ^ 64
     small x h = omega arith
 
 -- ---- how large a question can be

@@ -31,7 +31,7 @@ pub piece-in : (cs : List ℕ) (p : ℕ) → p < length cs → total (take p cs)
 piece-in cs p h = omega (arith, total-more cs p h, total-take cs (p + 1))
 
 -- the numbers of the kind at place p
-pub piece : (cs ns : List ℕ) (p : ℕ) → getD (split cs ns) p [] ≡ take (getD cs p 0) (drop (total (take p cs)) ns)
+piece : (cs ns : List ℕ) (p : ℕ) → getD (split cs ns) p [] ≡ take (getD cs p 0) (drop (total (take p cs)) ns)
 unfolding split total
 piece [] ns p = refl
 piece (c ∷ cs) ns zero = refl

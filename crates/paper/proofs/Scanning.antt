@@ -73,12 +73,12 @@ taken-length k (suc m) bs = go (starts k bs) (taken-length k m (drop (k .body + 
     go false h = omega arith
 
 flatten-length : (ks : List Kind) (bs : List ℕ) → length (flatten (sheet ks bs .lists)) ≤ total (map (λ (k : Kind). k .most) ks)
-unfolding sheet flatten total map
+unfolding sheet flatten total
 flatten-length [] bs = omega arith
 flatten-length (k ∷ ks) bs = let t = taken k (k .most) bs in rw length-append (add-le-add (taken-length k (k .most) bs) (flatten-length ks (t .rest)))
 
 pub numbers-fit : (s : List ℕ) → length (flatten (sheet kinds s .lists)) ≤ maxRecords
-unfolding kinds total map
+unfolding kinds total
 numbers-fit s = flatten-length kinds s
 
 -- ---- the numbers of a file, cut again

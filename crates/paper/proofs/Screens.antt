@@ -76,7 +76,7 @@ of-zero : (s : Bool) (t : ℕ) → ofFields binary64 s 0 t ≡ odd 53 s t 0 1074
 unfolding ofFields
 of-zero s t = refl
 
-of-suc : (s : Bool) (x t : ℕ) → suc x < 2047 → ofFields binary64 s (suc x) t ≡ odd 53 s (4503599627370496 + t) x 1074
+of-suc : (s : Bool) (x t : ℕ) → suc x < 2047 → ofFields binary64 s (suc x) t ≡ odd 53 s (2 ^ 52 + t) x 1074
 unfolding ofFields
 of-suc s x t h = rw (ne-eqb (suc x) 2047 (λ e. omega arith))
 
@@ -96,20 +96,20 @@ shown-large : (s : Bool) (x t : ℕ) → x < 2048 → 1053 < x → shown (ofFiel
 shown-large s zero t h l = absurd (not-suc-le-zero l)
 shown-large s (suc x) t h l = elim (eq-or-lt-of-le (le-of-suc-le-suc h)) [
   | inl e ↦ shown-ones s x t e
-  | inr g ↦ ap shown (of-suc s x t g) ∙ shown-odd s (4503599627370496 + t) x ∙ shown-as-big s (4503599627370496 + t) x 1074 52 (omega arith) (omega arith)
+  | inr g ↦ ap shown (of-suc s x t g) ∙ shown-odd s (2 ^ 52 + t) x ∙ shown-as-big s (2 ^ 52 + t) x 1074 52 (omega arith) (omega arith)
 ]
 
-shown-small : (s : Bool) (x t u : ℕ) → t < 4503599627370496 → x ≤ 1053 → (x ≡ 0 → u ≡ t * 625 / 2 ^ 1070)
-    → ((x ≡ 0 → ⊥) → u ≡ (4503599627370496 + t) * 625 / 2 ^ (1071 - x))
+shown-small : (s : Bool) (x t u : ℕ) → t < 2 ^ 52 → x ≤ 1053 → (x ≡ 0 → u ≡ t * 625 / 2 ^ 1070)
+    → ((x ≡ 0 → ⊥) → u ≡ (2 ^ 52 + t) * 625 / 2 ^ (1071 - x))
     → shown (ofFields binary64 s x t) ≡ Number (not (eqb u 0) && s) u
 shown-small s zero t u h l z n = ap shown (of-zero s t) ∙ shown-odd s t 0 ∙ rw (z refl) (shown-as-number s t 0 1074 53 1070 (omega arith) (omega arith) refl)
 shown-small s (suc x) t u h l z n =
-    ap shown (of-suc s x t (omega arith)) ∙ shown-odd s (4503599627370496 + t) x
-    ∙ rw (n (λ e. omega arith)) (shown-as-number s (4503599627370496 + t) x 1074 53 (1071 - suc x) (omega arith) (omega arith) (omega arith))
+    ap shown (of-suc s x t (omega arith)) ∙ shown-odd s (2 ^ 52 + t) x
+    ∙ rw (n (λ e. omega arith)) (shown-as-number s (2 ^ 52 + t) x 1074 53 (1071 - suc x) (omega arith) (omega arith) (omega arith))
 
 -- ---- the tests of the code, on the bits b of x
 
-fields : (b : ℕ) → ofBits binary64 b ≡ ofFields binary64 (leb 9223372036854775808 b) (b % 9223372036854775808 / 4503599627370496) (b % 4503599627370496)
+fields : (b : ℕ) → ofBits binary64 b ≡ ofFields binary64 (leb (2 ^ 63) b) (b % 2 ^ 63 / 2 ^ 52) (b % 2 ^ 52)
 unfolding ofBits
 fields b = refl
 
@@ -122,25 +122,25 @@ module _ (x : Float) (good : fits binary64 x ≡ true) where
   bits = toBits binary64 x
 
   abbrev exponent : ℕ
-  exponent = bits % 9223372036854775808 / 4503599627370496
+  exponent = bits % 2 ^ 63 / 2 ^ 52
 
   abbrev fraction : ℕ
-  fraction = bits % 4503599627370496
+  fraction = bits % 2 ^ 52
 
-  shown-bits : shown x ≡ shown (ofFields binary64 (leb 9223372036854775808 bits) exponent fraction)
+  shown-bits : shown x ≡ shown (ofFields binary64 (leb (2 ^ 63) bits) exponent fraction)
   shown-bits = ap shown (sym (ofBits-toBits binary64 x (subst T (sym good) tt)) ∙ fields bits)
 
   pub shown-big : 1053 < exponent → Big ≡ shown x
-  shown-big h = sym (shown-bits ∙ shown-large (leb 9223372036854775808 bits) exponent fraction (omega arith) h)
+  shown-big h = sym (shown-bits ∙ shown-large (leb (2 ^ 63) bits) exponent fraction (omega arith) h)
 
   pub shown-units : (u : ℕ) → exponent ≤ 1053 → (exponent ≡ 0 → u ≡ fraction * 625 / 2 ^ 1070)
-      → ((exponent ≡ 0 → ⊥) → u ≡ (4503599627370496 + fraction) * 625 / 2 ^ (1071 - exponent))
-      → shown x ≡ Number (not (eqb u 0) && leb 9223372036854775808 bits) u
-  shown-units u h z n = shown-bits ∙ shown-small (leb 9223372036854775808 bits) exponent fraction u (omega arith) h z n
+      → ((exponent ≡ 0 → ⊥) → u ≡ (2 ^ 52 + fraction) * 625 / 2 ^ (1071 - exponent))
+      → shown x ≡ Number (not (eqb u 0) && leb (2 ^ 63) bits) u
+  shown-units u h z n = shown-bits ∙ shown-small (leb (2 ^ 63) bits) exponent fraction u (omega arith) h z n
 
 -- m * 625 is below 2 ^ 64
-pub units-none : (m d : ℕ) → m < 9007199254740992 → 63 < d → 0 ≡ m * 625 / 2 ^ d
+pub units-none : (m d : ℕ) → m < 2 ^ 53 → 63 < d → 0 ≡ m * 625 / 2 ^ d
 units-none m d h g = sym (div-eq-of-lt (lt-of-lt-of-le (fit m h) (pow-mono g)))
   where
-    fit : (m : ℕ) → m < 9007199254740992 → m * 625 < 2 ^ 64
+    fit : (m : ℕ) → m < 2 ^ 53 → m * 625 < 2 ^ 64
     fit m h = omega arith

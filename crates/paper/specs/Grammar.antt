@@ -15,7 +15,7 @@ fileAssets = 8
 abbrev pub filePeriods : ℕ
 filePeriods = 128
 
--- the most records of a file
+-- the most records of a file: nine of the eleven kinds come once at most
 abbrev pub maxRecords : ℕ
 maxRecords = filePeriods * fileAssets + fileAssets * fileAssets + 9
 

@@ -20,7 +20,7 @@ pub record TookIs (s : List ℕ) (t : Taken) (v : List ℕ) (i : ℕ) (v' : List
   pub rest : drop (r .at) s ≡ t .rest
   pub count : r .count ≡ length (t .bodies)
 
--- the buffer
+-- without the place of the next byte
 abbrev pub buffer : Out → List ℕ
 buffer (out v i) = v
 

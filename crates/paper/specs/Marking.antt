@@ -50,7 +50,7 @@ settingsOf o = record { estimate = estimateOf o; shrinkage = shrinkageOf o; regu
 
 -- ---- the engine's answer
 
--- question q: 0 covariance, 1 weighted mean, 2 James-Stein, 3 Bayes-Stein. A given matrix has side n
+-- question q: 0 covariance, 1 weighted mean, 2 James-Stein, 3 Bayes-Stein. A given matrix has side n. With `elim`, only the call that is asked is computed
 unfoldable pub asked : ℕ → Outline → List Float → List Float → List Float → Answered
 asked q o returns given slice =
     let n = assets o in

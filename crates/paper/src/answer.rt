@@ -55,7 +55,7 @@ fn put_lines(columns: usize, xs: &[f64], out: &mut [u8], from: usize) -> usize
     at
 }
 
-pub fn put_refused(number: u64, out: &mut [u8], at: usize) -> usize
+pub(crate) fn put_refused(number: u64, out: &mut [u8], at: usize) -> usize
     ensures { λ r. ⌜ into (now (out .exit)) r ≡ write (into (now (out .entry)) at) (Answers.outcomeText (Answers.refused number)) ⌝ }
 {
     let a = put_text(b"refused ", out, at);
@@ -73,7 +73,7 @@ fn put_ok(rows: usize, columns: usize, xs: &[f64], out: &mut [u8], at: usize) ->
 }
 
 // The engine's answer, with the answer slice.
-pub fn put_answer(
+pub(crate) fn put_answer(
     answer: Answer,
     rows: usize,
     columns: usize,

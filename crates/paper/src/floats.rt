@@ -1,6 +1,6 @@
 // Floats from the bits that were read.
 ghost use mathlib.Core.Path.{_≡_};
-ghost use Prim.Native.Nat.{ℕ, _≤_, _<_};
+ghost use Prim.Native.Nat.{ℕ, _^_, _≤_, _<_};
 ghost use lib.ListN.{length, getD, take};
 ghost use Rattle.leaves.specs.Numbers as Numbers;
 ghost use Rattle.leaves.specs.Loops.{fill};
@@ -25,7 +25,7 @@ fn fill_floats(bits: &[u64], to: &mut [f64])
 
 // Where the numbers of the kind at place p begin.
 fn start(counts: [u64; KINDS], p: usize) -> usize
-    requires { ⌜ (p ≤ length counts) × (total counts < 18446744073709551616) ⌝ }
+    requires { ⌜ (p ≤ length counts) × (total counts < 2 ^ 64) ⌝ }
     ensures { λ r. ⌜ r ≡ total (take p counts) ⌝ }
 {
     let mut s = 0;
@@ -38,7 +38,7 @@ fn start(counts: [u64; KINDS], p: usize) -> usize
 }
 
 // Fills the front of `to` with the numbers of a kind, and answers how many there are.
-pub fn floats(counts: [u64; KINDS], numbers: &[u64], kind: u8, to: &mut [f64]) -> usize
+pub(crate) fn floats(counts: [u64; KINDS], numbers: &[u64], kind: u8, to: &mut [f64]) -> usize
     requires { ⌜ (total counts ≤ length (now numbers)) × (placeIn kinds kind < length kinds) × (getD counts (placeIn kinds kind) 0 ≤ length (now to)) ⌝ }
     ensures { λ r. ⌜ FilledWith (Marking.floats (split counts (now (numbers .entry))) kind) (now (to .entry)) (now (to .exit)) r ⌝ }
 {

@@ -5,22 +5,22 @@ ghost use lib.ListN.{length, getD};
 ghost use Rattle.paper.specs.Grammar as Grammar;
 
 // The most assets and periods of a file.
-pub const FILE_ASSETS: usize = 8;
+pub(crate) const FILE_ASSETS: usize = 8;
 
-pub const FILE_PERIODS: usize = 128;
+pub(crate) const FILE_PERIODS: usize = 128;
 
 // The most returns and the most given entries of a file.
-pub const RETURNS: usize = FILE_PERIODS * FILE_ASSETS;
+pub(crate) const RETURNS: usize = FILE_PERIODS * FILE_ASSETS;
 
-pub const ENTRIES: usize = FILE_ASSETS * FILE_ASSETS;
+pub(crate) const ENTRIES: usize = FILE_ASSETS * FILE_ASSETS;
 
-// How many kinds there are, and the most records of a file.
-pub const KINDS: usize = 11;
+// How many kinds there are, and the most records of a file: all kinds but two come once at most.
+pub(crate) const KINDS: usize = 11;
 
-pub const RECORDS: usize = RETURNS + ENTRIES + 9;
+pub(crate) const RECORDS: usize = RETURNS + ENTRIES + KINDS - 2;
 
 // A kind's byte, the length of its body, and how many records of it a file may have.
-pub struct Kind {
+pub(crate) struct Kind {
     pub byte: u8,
     pub body: usize,
     pub most: usize,
@@ -32,7 +32,7 @@ const BODIES: [usize; KINDS] = [4, 8, 8, 8, 1, 8, 0, 8, 8, 1, 1];
 
 const MOSTS: [usize; KINDS] = [1, RETURNS, 1, 1, 1, 1, 1, 1, ENTRIES, 1, 1];
 
-pub fn kind_at(i: usize) -> Kind
+pub(crate) fn kind_at(i: usize) -> Kind
     requires { ⌜ i < length Grammar.kinds ⌝ }
     ensures { λ r. ⌜ r ≡ getD Grammar.kinds i Grammar.missing ⌝ }
 {
@@ -44,7 +44,7 @@ pub fn kind_at(i: usize) -> Kind
 }
 
 // Where the kind of a byte stands; behind all others where there is no such kind.
-pub fn place(byte: u8) -> usize
+pub(crate) fn place(byte: u8) -> usize
     ensures { λ r. ⌜ r ≡ Grammar.placeIn Grammar.kinds byte ⌝ }
 {
     let mut i = 0;

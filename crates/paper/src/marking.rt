@@ -82,7 +82,7 @@ fn answer(o: Outline, returns: &[f64], given: &[f64], out: &mut [u8]) -> usize
 }
 
 // A question, read: its outline and its numbers.
-pub fn examine(o: Outline, numbers: &[u64], out: &mut [u8]) -> usize
+pub(crate) fn examine(o: Outline, numbers: &[u64], out: &mut [u8]) -> usize
     requires { ⌜ (total (o .counts) ≤ length (now numbers)) × (Rules.wellFormed o ≡ true) ⌝ }
     ensures { λ r. ⌜ into (now (out .exit)) r ≡ write (into (now (out .entry)) 0) (outcomeText (Marking.answerOf o (Marking.floats (split (o .counts) (now (numbers .entry))) 2) (Marking.floats (split (o .counts) (now (numbers .entry))) 9))) ⌝ }
 {

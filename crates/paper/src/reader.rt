@@ -71,7 +71,7 @@ fn put_number(out: &mut [u64], at: usize, v: u64) -> usize
 }
 
 // The place in the file after the records of a kind, the place for the next number, and how many records there were.
-pub struct Took {
+pub(crate) struct Took {
     pub at: usize,
     pub next: usize,
     pub count: usize,
@@ -98,7 +98,7 @@ fn take_kind(file: &[u8], from: usize, k: Kind, numbers: &mut [u64], to: usize) 
 }
 
 // The place after the records of all kinds, and the outline of what was read.
-pub struct Scanned {
+pub(crate) struct Scanned {
     pub end: usize,
     pub outline: Outline,
 }
@@ -125,13 +125,13 @@ fn scan(file: &[u8], numbers: &mut [u64]) -> Scanned
 }
 
 // Whether a file is a question, and its outline.
-pub struct Parsed {
+pub(crate) struct Parsed {
     pub ok: bool,
     pub outline: Outline,
 }
 
 // Reads a file. The bodies go to the front of the numbers, in the order of the file.
-pub fn read(file: &[u8], numbers: &mut [u64; RECORDS]) -> Parsed
+pub(crate) fn read(file: &[u8], numbers: &mut [u64; RECORDS]) -> Parsed
     ensures { λ r. ⌜ ReadIs (now (file .entry)) (now (numbers .entry)) (now (numbers .exit)) r ⌝ }
 {
     let s = scan(file, numbers);

@@ -9,7 +9,7 @@ use crate::kinds::KINDS;
 use crate::kinds::place;
 
 // Of each kind, in the order of the file, how many records there are and the first body, 0 where there is none.
-pub struct Outline {
+pub(crate) struct Outline {
     pub counts: [u64; KINDS],
     pub firsts: [u64; KINDS],
 }
@@ -29,26 +29,26 @@ fn count(o: Outline, kind: u8) -> u64
     entry(counts, kind)
 }
 
-pub fn has(o: Outline, kind: u8) -> bool
+pub(crate) fn has(o: Outline, kind: u8) -> bool
     ensures { λ r. ⌜ r ≡ Rules.has o kind ⌝ }
 {
     count(o, kind) != 0
 }
 
-pub fn value(o: Outline, kind: u8) -> u64
+pub(crate) fn value(o: Outline, kind: u8) -> u64
     ensures { λ r. ⌜ r ≡ Rules.value o kind ⌝ }
 {
     let firsts = o.firsts;
     entry(firsts, kind)
 }
 
-pub fn assets(o: Outline) -> u64
+pub(crate) fn assets(o: Outline) -> u64
     ensures { λ r. ⌜ r ≡ Rules.assets o ⌝ }
 {
     value(o, 1) % 65536
 }
 
-pub fn periods(o: Outline) -> u64
+pub(crate) fn periods(o: Outline) -> u64
     ensures { λ r. ⌜ r ≡ Rules.periods o ⌝ }
 {
     value(o, 1) / 65536
@@ -135,7 +135,7 @@ fn takes(q: u64, o: Outline) -> bool
     present(o, &SETTINGS) == present(o, &LIMIT)
 }
 
-pub fn well_formed(o: Outline) -> bool
+pub(crate) fn well_formed(o: Outline) -> bool
     ensures { λ r. ⌜ r ≡ Rules.wellFormed o ⌝ }
 {
     if !shape_fits(o) {

@@ -10,7 +10,7 @@ use crate::text::put_decimal;
 use crate::text::put_digits;
 use crate::text::put_text;
 
-pub enum Shown {
+pub(crate) enum Shown {
     Big,
     // How many ten-thousandths, and whether a minus stands before them.
     Number { minus: bool, units: u64 },
@@ -18,7 +18,7 @@ pub enum Shown {
 
 // The ten-thousandths in m * 2^(-shift - 4), truncated.
 fn units(m: u64, shift: u64) -> u64
-    requires { ⌜ m < 9007199254740992 ⌝ }
+    requires { ⌜ m < 2 ^ 53 ⌝ }
     ensures { λ r. ⌜ r ≡ m * 625 / 2 ^ shift ⌝ }
 {
     if shift > 63 { 0 } else { m * 625 >> shift }
@@ -69,7 +69,7 @@ fn put_shown(s: Shown, out: &mut [u8], at: usize) -> usize
     }
 }
 
-pub fn put_screen(x: f64, out: &mut [u8], at: usize) -> usize
+pub(crate) fn put_screen(x: f64, out: &mut [u8], at: usize) -> usize
     ensures { λ r. ⌜ into (now (out .exit)) r ≡ write (into (now (out .entry)) at) (Screen.screenText x) ⌝ }
 {
     put_shown(show(x), out, at)

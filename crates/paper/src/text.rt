@@ -9,7 +9,7 @@ ghost use Rattle.paper.specs.Text.{out as into, write};
 // No number of 64 bits has more decimal digits: the definitions' `maxDigits`.
 const DIGITS: usize = 20;
 
-pub fn put(out: &mut [u8], at: usize, b: u8) -> usize
+pub(crate) fn put(out: &mut [u8], at: usize, b: u8) -> usize
     ensures { λ r. ⌜ into (now (out .exit)) r ≡ write (into (now (out .entry)) at) (b ∷ []) ⌝ }
 {
     if at < out.len() {
@@ -20,7 +20,7 @@ pub fn put(out: &mut [u8], at: usize, b: u8) -> usize
     }
 }
 
-pub fn put_text(text: &[u8], out: &mut [u8], from: usize) -> usize
+pub(crate) fn put_text(text: &[u8], out: &mut [u8], from: usize) -> usize
     ensures { λ r. ⌜ into (now (out .exit)) r ≡ write (into (now (out .entry)) from) (now (text .entry)) ⌝ }
 {
     let mut at = from;
@@ -72,7 +72,7 @@ fn significant(text: &[u8]) -> usize
 }
 
 // The last k digits of n.
-pub fn put_digits(base: u64, k: usize, n: u64, out: &mut [u8], at: usize) -> usize
+pub(crate) fn put_digits(base: u64, k: usize, n: u64, out: &mut [u8], at: usize) -> usize
     requires { ⌜ (0 < base) × (base ≤ 16) × (k ≤ Text.maxDigits) ⌝ }
     ensures { λ r. ⌜ into (now (out .exit)) r ≡ write (into (now (out .entry)) at) (Text.digits base k n) ⌝ }
 {
@@ -83,7 +83,7 @@ pub fn put_digits(base: u64, k: usize, n: u64, out: &mut [u8], at: usize) -> usi
 }
 
 // n in decimal, and one byte after it.
-pub fn put_decimal(n: u64, after: u8, out: &mut [u8], at: usize) -> usize
+pub(crate) fn put_decimal(n: u64, after: u8, out: &mut [u8], at: usize) -> usize
     ensures { λ r. ⌜ into (now (out .exit)) r ≡ write (into (now (out .entry)) at) (Text.decimal n ++ (after ∷ [])) ⌝ }
 {
     let mut text = [0u8; DIGITS];

@@ -1,6 +1,5 @@
 // The float leaves with C linkage, each as it stands in `leaves`.
 ghost use mathlib.Core.Path.{_≡_};
-ghost use Prim.Native.Nat.{ℕ, _+_, _*_};
 ghost use lib.ListN.{length};
 ghost use Rattle.leaves.specs.Numbers as Numbers;
 ghost use Rattle.leaves.specs.Loops as Loops;
@@ -30,17 +29,17 @@ pub extern "C" fn leaf_signum(x: f64) -> f64
 }
 
 #[no_mangle]
-pub extern "C" fn leaf_larger(m: f64, x: f64) -> f64
-    ensures { λ r. ⌜ r ≡ Numbers.larger m x ⌝ }
+pub extern "C" fn leaf_larger(first: f64, second: f64) -> f64
+    ensures { λ r. ⌜ r ≡ Numbers.larger first second ⌝ }
 {
-    leaves::numbers::larger(m, x)
+    leaves::numbers::larger(first, second)
 }
 
 #[no_mangle]
-pub extern "C" fn leaf_smaller(m: f64, x: f64) -> f64
-    ensures { λ r. ⌜ r ≡ Numbers.smaller m x ⌝ }
+pub extern "C" fn leaf_smaller(first: f64, second: f64) -> f64
+    ensures { λ r. ⌜ r ≡ Numbers.smaller first second ⌝ }
 {
-    leaves::numbers::smaller(m, x)
+    leaves::numbers::smaller(first, second)
 }
 
 #[no_mangle]
@@ -58,10 +57,10 @@ pub extern "C" fn leaf_max0(y: f64) -> f64
 }
 
 #[no_mangle]
-pub extern "C" fn leaf_clamp01(x: f64) -> f64
-    ensures { λ r. ⌜ r ≡ Numbers.clamp01 x ⌝ }
+pub extern "C" fn leaf_clamp01(y: f64) -> f64
+    ensures { λ r. ⌜ r ≡ Numbers.clamp01 y ⌝ }
 {
-    leaves::numbers::clamp01(x)
+    leaves::numbers::clamp01(y)
 }
 
 #[no_mangle]
@@ -115,14 +114,14 @@ pub extern "C" fn leaf_amax(xs: &[f64]) -> f64
 
 #[no_mangle]
 pub extern "C" fn leaf_sum_column(xs: &[f64], n: usize, j: usize) -> f64
-    ensures { λ r. ⌜ r ≡ Loops.sumTo (Loops.columnLength (length (now (xs .entry))) n j) (λ (t : ℕ). Loops.nth (now (xs .entry)) (t * n + j)) ⌝ }
+    ensures { λ r. ⌜ r ≡ Loops.sumTo (Loops.columnLength (length (now (xs .entry))) n j) (Loops.column (now (xs .entry)) n j) ⌝ }
 {
     leaves::sums::sum_column(xs, n, j)
 }
 
 #[no_mangle]
 pub extern "C" fn leaf_amax_column(xs: &[f64], n: usize, j: usize) -> f64
-    ensures { λ r. ⌜ r ≡ Loops.amaxTo (Loops.columnLength (length (now (xs .entry))) n j) (λ (t : ℕ). Loops.nth (now (xs .entry)) (t * n + j)) ⌝ }
+    ensures { λ r. ⌜ r ≡ Loops.amaxTo (Loops.columnLength (length (now (xs .entry))) n j) (Loops.column (now (xs .entry)) n j) ⌝ }
 {
     leaves::sums::amax_column(xs, n, j)
 }

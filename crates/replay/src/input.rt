@@ -21,7 +21,7 @@ pub(crate) fn whole() -> usize {
     word() as usize
 }
 
-// A kind, or 99 where there is none.
+// A call's number, a kind or the number of a stored refusal: all are below 99, which stands for anything larger.
 pub(crate) fn kind() -> u32 {
     let k = word();
     if k < 99 { k as u32 } else { 99 }

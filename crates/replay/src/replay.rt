@@ -2,7 +2,7 @@
 use crate::input;
 use capi::calls;
 
-pub struct Outcome {
+pub(crate) struct Outcome {
     pub number: u32,
     pub same: bool,
 }
@@ -11,6 +11,9 @@ pub struct Outcome {
 const MOST_RETURNS: usize = 260;
 
 const MOST_ENTRIES: usize = 84;
+
+// What every lent slice of numbers holds before a call. The stored answers were made with it.
+const UNTOUCHED: f64 = 7.5;
 
 // The same bits, or NaN both: equal numbers have the same bits but for the sign of a zero.
 fn same(x: f64, y: f64) -> bool {
@@ -177,7 +180,7 @@ fn made(
 }
 
 fn compared(returns: &[f64], assets: usize, periods: usize, answer: &mut [f64]) -> Outcome {
-    let mut numbers = [7.5; 2];
+    let mut numbers = [UNTOUCHED; 2];
     let mut wholes = [7; 2];
     let number = made(returns, assets, periods, answer, &mut numbers, &mut wholes);
     let report = same_report(number, &numbers, &wholes);
@@ -188,13 +191,12 @@ fn compared(returns: &[f64], assets: usize, periods: usize, answer: &mut [f64]) 
     }
 }
 
-// The answer slice holds 7.5 everywhere before the call.
 fn asked(returns: &mut [f64]) -> Outcome {
     input::fill(returns);
     let assets = input::whole();
     let periods = input::whole();
     let n = input::length(MOST_ENTRIES);
-    let mut answer = [7.5; MOST_ENTRIES];
+    let mut answer = [UNTOUCHED; MOST_ENTRIES];
     compared(returns, assets, periods, &mut answer[..n])
 }
 

@@ -2,7 +2,7 @@
 ghost use Prim.Native.Nat.{_<_};
 use libc::STDOUT_FILENO;
 
-// A place for answers, one for each refusal of a call, and the last for all other numbers.
+// A place for answers, one for each refusal of a call, and the last for all other numbers: it is printed as 15, which no call answers.
 pub(crate) const PLACES: usize = 16;
 
 fn place(number: u32) -> usize

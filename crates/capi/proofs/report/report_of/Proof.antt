@@ -36,7 +36,7 @@ reported-requires-4 : tie.Need-reported-requires-4
 reported-requires-4 c κs = search needs
 
 returns : tie.Need-returns
-unfolding reportOf ofBits
+unfolding reportOf
 returns c = rw (c .before .before .answer .given .1) (c .refused .ensures)
 
 returns-2 : tie.Need-returns-2
@@ -52,7 +52,7 @@ unfolding reportOf ofBits
 returns-4 c = rw (c .before .enum-told .given .1) (c .reported3 .ensures)
 
 returns-5 : tie.Need-returns-5
-unfolding reportOf ofBits
+unfolding reportOf
 returns-5 c = rw (c .before .before .answer4 .given .1) (c .reported4 .ensures)
 
 pub report-of-spec : {M : Type 1} → statement M

@@ -1,12 +1,12 @@
 -- `estimators::base::put_base` meets its contract, by the cases of the estimate.
 use mathlib.Core.Path.{sym, ap, _∙_}
-use lib.ListN.{length}
 use lib.Ieee.{Float}
 use Rattle.matrix.specs.Matrix.{at, rows}
-use Rattle.matrix.proofs.Stored.{length-rows, whole}
+use Rattle.matrix.proofs.Stored.{whole}
 use Rattle.estimators.specs.Weighted.{weightedCovariance}
 use Rattle.estimators.specs.Adjusted.{base}
 use borrow.Author.Needs.{needs}
+use Rattle.estimators.proofs.Lent.{rows-long}
 use Rattle.estimators.proofs.base.put_base.Statement.{statement}
 use Rattle.estimators.proofs.base.put_base.Tie as tie
 
@@ -14,13 +14,13 @@ enum-told : tie.Need-enum-told
 enum-told c = search needs
 
 copy-requires : tie.Need-copy-requires
-copy-requires c κs = let h = c .before .before .before .before .before .before .before .pre in ap length (h .4) ∙ length-rows _ _ _ ∙ sym (h .6)
+copy-requires c κs = let h = c .before .before .before .before .before .before .before .pre in rows-long _ _ _ (h .4) ∙ sym (h .6)
 
 enum-told-2 : tie.Need-enum-told-2
 enum-told-2 c = search needs
 
 copy-requires-2 : tie.Need-copy-requires-2
-copy-requires-2 c κs = let h = c .before .before .before .before .before .before .before .pre in h .5 ∙ sym (h .6)
+copy-requires-2 c κs = search needs
 
 enum-known-estimate : tie.Need-enum-known-estimate
 enum-known-estimate c = search needs
@@ -29,19 +29,19 @@ log-decay-requires : tie.Need-log-decay-requires
 log-decay-requires c κs = search needs
 
 covariance-requires : tie.Need-covariance-requires
-covariance-requires c κs = let h = c .before .before .before .before .before .before .before .before .before .pre in (h .0, h .1, h .2, h .3, h .6)
+covariance-requires c κs = search needs
 
 enum-told-3 : tie.Need-enum-told-3
 enum-told-3 c = search needs
 
 semicovariance-requires : tie.Need-semicovariance-requires
-semicovariance-requires c κs = let h = c .before .before .before .before .before .before .before .pre in (h .0, h .1, h .2, h .6)
+semicovariance-requires c κs = search needs
 
 enum-known-estimate-2 : tie.Need-enum-known-estimate-2
 enum-known-estimate-2 c = search needs
 
 semicovariance-below-requires : tie.Need-semicovariance-below-requires
-semicovariance-below-requires c κs = let h = c .before .before .before .before .before .before .before .before .pre in (h .0, h .1, h .6)
+semicovariance-below-requires c κs = search needs
 
 same-length : tie.Need-same-length
 same-length c = search needs

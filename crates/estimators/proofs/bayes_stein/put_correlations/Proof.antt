@@ -70,7 +70,7 @@ loop-again c =
     (λ t. sym (entry-at (a .covariance .now) (a .n) (l .k)) t ⊘ nth (a .volatilities .now) (l .k / a .n) ⊘ nth (a .volatilities .now) (l .k % a .n))
 
 same-length : tie.Need-same-length Inv-loop μ-loop
-same-length c = c .before .loop .inv .len
+same-length c = search needs
 
 returns : tie.Need-returns Inv-loop μ-loop
 returns c = let a = c .before .before .args in filled-rows (correlationBy (nth (a .volatilities .now)) (at (a .covariance .now) (a .n))) (a .n) (c .before .loop .inv) (c .loop-test .left) (search needs)

@@ -63,7 +63,7 @@ loop-again c =
     filled-more (l .inv) (omega arith) (omega arith) (ap (λ (x : Float). x ⊕ a .intensity ⊗ a .target) (c .pow2-scaled .ensures ∙ ap (λ (z : ℤ). pow2Scaled ((one ⊖ a .intensity) ⊗ nth (a .means .now) (l .i)) z) k))
 
 same-length : tie.Need-same-length Inv-loop μ-loop
-same-length c = c .before .loop .inv .len
+same-length c = search needs
 
 returns : tie.Need-returns Inv-loop μ-loop
 returns c = filled-whole (c .before .loop .inv) (omega arith) refl

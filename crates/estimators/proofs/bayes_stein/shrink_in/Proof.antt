@@ -3,11 +3,9 @@ use mathlib.Core.Path.{_≡_, sym, ap, _∙_}
 use mathlib.Core.List.{List, _∷_}
 use Prim.Native.Nat.{ℕ}
 use lib.IntN.{ℤ}
-use lib.ListN.{length}
 use lib.Ieee.{Float}
 use borrow.Author.Needs.{needs}
 use Rattle.leaves.specs.Loops.{tab, nth}
-use Rattle.leaves.proofs.Loops.{length-tab}
 use Rattle.matrix.specs.Matrix.{at, rows}
 use Rattle.matrix.specs.Jacobi.{Decomposition, decompose}
 use Rattle.estimators.specs.Exponents.{exponentAt}
@@ -26,6 +24,7 @@ use Rattle.estimators.specs.declared.checks.Check.{Check}
 use Rattle.estimators.specs.declared.checks.Check.the-variants.{Passes, Refuses}
 use Rattle.estimators.proofs.Firsts.{first-then}
 use Rattle.estimators.proofs.Opened.{settle-refused, settle-accepted}
+use Rattle.estimators.proofs.Lent.{tab-long}
 use Rattle.estimators.proofs.bayes_stein.shrink_in.Statement.{statement}
 use Rattle.estimators.proofs.bayes_stein.shrink_in.Tie as tie
 
@@ -135,7 +134,7 @@ pull-requires : tie.Need-pull-requires
 pull-requires c κs =
     let k = c .before .before .before .before .before .before .before .before .before .before .before .before .before .before .before .before .before .before .before .before .before in
     let p = k .before .before .before .before .before .before .before .before .before .before .before .pre in
-    (p .1, p .3, ap length (k .correlate .ensures .0) ∙ length-tab _ _, p .5, p .6, search (needs, p .10), search (needs, p .11))
+    (p .1, p .3, tab-long _ _ _ (k .correlate .ensures .0), p .5, p .6, search (needs, p .10), search (needs, p .11))
 
 put-pulled-requires : tie.Need-put-pulled-requires
 put-pulled-requires c κs = let p = c .before .before .before .before .before .before .before .before .before .before .before .before .before .before .before .before .before .before .before .before .before .before .before .before .before .before .before .before .before .before .before .before .before .before .pre in (p .3 ∙ sym (p .12), p .5 ∙ sym (p .12), p .6)
@@ -144,7 +143,7 @@ same-length-7 : tie.Need-same-length-7
 same-length-7 c =
     let k = c .before .before .before .before .before .before .before .before .before .before .before .before .before .before .before .before .before .before .before .before .before .before .before .before .before .before in
     let s = k .before .before .before .before .before .before .before .before .before .before .before in
-    ap length (k .correlate .ensures .0) ∙ length-tab (volatility (at (s .args .covariance .now) (s .args .n))) (s .args .n) ∙ sym (s .pre .8)
+    tab-long _ _ _ (k .correlate .ensures .0) ∙ sym (s .pre .8)
 
 same-length-8 : tie.Need-same-length-8
 same-length-8 c = search needs

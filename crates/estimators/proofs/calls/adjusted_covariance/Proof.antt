@@ -1,16 +1,16 @@
 -- `estimators::calls::adjusted_covariance` meets its contract: the shape is looked at, then the rest in as much of the slice as the answer fills.
 use mathlib.Core.Path.{sym, ap, _∙_}
+use Prim.Native.Nat.{_*_, _≤_}
 use lib.ListN.{length}
 use lib.Seq.{length-take-le}
-use Prim.Native.Nat.{_*_}
-use mir.Facts.{fits-below}
-use Rattle.matrix.proofs.Counts.{square-most}
 use Rattle.estimators.specs.Order.{opening, ofGiven, ofSettings, adjustedOrder}
+use Rattle.estimators.specs.Shapes.{Shaped}
 use Rattle.estimators.specs.Checks.{checked}
 use Rattle.estimators.specs.Calls.{adjustedCovariance}
 use Rattle.estimators.proofs.Opened.{shape-refuses, shape-fits}
 use Rattle.estimators.proofs.Shapes.{shape-passes}
 use borrow.Author.Needs.{needs}
+use Rattle.estimators.proofs.Lent.{square-fits}
 use Rattle.estimators.proofs.calls.adjusted_covariance.Statement.{statement}
 use Rattle.estimators.proofs.calls.adjusted_covariance.Tie as tie
 
@@ -29,20 +29,21 @@ returns c =
 enum-told : tie.Need-enum-told
 enum-told c = search needs
 
+-- what the check of the shape lets pass
+shape : (c : tie.After-enum-told) → let a = c .before .before .before .before .before .before .args in Shaped (length (a .returns .now)) (a .n) (a .periods) × (a .n * a .n ≤ length (a .answer .now))
+shape c = shape-passes _ _ _ _ _ (ap checked (c .enum-told .given .1)) (c .before .before .check-shape .ensures)
+
 mul-size : tie.Need-mul-size
-mul-size c = let a = c .before .before .before .before .before .before .args in let shape = shape-passes (length (a .returns .now)) (a .n) (a .periods) (a .n * a .n) (length (a .answer .now)) (ap checked (c .enum-told .given .1)) (c .before .before .check-shape .ensures) .0 in fits-below tt (square-most (shape .1))
+mul-size c = square-fits _ (shape c .0 .1)
 
 slice-relend-prefix-adjusted-covariance : tie.Need-slice-relend-prefix-adjusted-covariance
-slice-relend-prefix-adjusted-covariance c = let a = c .before .before .before .before .before .before .args in shape-passes (length (a .returns .now)) (a .n) (a .periods) (a .n * a .n) (length (a .answer .now)) (ap checked (c .enum-told .given .1)) (c .before .before .check-shape .ensures) .1
+slice-relend-prefix-adjusted-covariance c = shape c .1
 
 slice-aggregate-adjusted-covariance : tie.Need-slice-aggregate-adjusted-covariance
-slice-aggregate-adjusted-covariance c = let a = c .before .before .before .before .before .before .before .args in sym (length-take-le _ _ (shape-passes (length (a .returns .now)) (a .n) (a .periods) (a .n * a .n) (length (a .answer .now)) (ap checked (c .before .enum-told .given .1)) (c .before .before .before .check-shape .ensures) .1))
+slice-aggregate-adjusted-covariance c = sym (length-take-le _ _ (shape (c .before) .1))
 
 adjusted-covariance-requires : tie.Need-adjusted-covariance-requires
-adjusted-covariance-requires c κs =
-    let a = c .before .before .before .before .before .before .before .args in
-    let shape = shape-passes (length (a .returns .now)) (a .n) (a .periods) (a .n * a .n) (length (a .answer .now)) (ap checked (c .before .enum-told .given .1)) (c .before .before .before .check-shape .ensures) in
-    (shape .0, length-take-le _ _ (shape .1))
+adjusted-covariance-requires c κs = let s = shape (c .before) in (s .0, length-take-le _ _ (s .1))
 
 same-length : tie.Need-same-length
 same-length c = search needs
@@ -51,8 +52,8 @@ returns-2 : tie.Need-returns-2
 unfolding adjustedCovariance adjustedOrder opening ofSettings ofGiven
 returns-2 c =
     let a = c .before .before .before .before .before .before .before .before .before .before .args in
-    let shape = shape-passes (length (a .returns .now)) (a .n) (a .periods) (a .n * a .n) (length (a .answer .now)) (ap checked (c .before .before .before .before .enum-told .given .1)) (c .before .before .before .before .before .before .check-shape .ensures) in
-    shape-fits (a .returns .now) (a .n) (a .periods) (a .n * a .n) (a .answer .now) _ _ _ (shape .0) (shape .1) (c .before .before .adjusted-covariance .ensures)
+    let s = shape (c .before .before .before .before) in
+    shape-fits (a .returns .now) (a .n) (a .periods) (a .n * a .n) (a .answer .now) _ _ _ (s .0) (s .1) (c .before .before .adjusted-covariance .ensures)
 
 pub adjusted-covariance-spec : {M : Type 1} → statement M
 adjusted-covariance-spec =

@@ -1,8 +1,10 @@
 -- `estimators::calls::james_stein_mean` meets its contract: the shape is looked at, then the rest in as much of the slice as the answer fills.
 use mathlib.Core.Path.{sym, ap, _∙_}
+use Prim.Native.Nat.{_≤_}
 use lib.ListN.{length}
 use lib.Seq.{length-take-le}
 use Rattle.estimators.specs.Order.{jamesSteinOrder}
+use Rattle.estimators.specs.Shapes.{Shaped}
 use Rattle.estimators.specs.Checks.{checked}
 use Rattle.estimators.specs.Calls.{jamesSteinMean}
 use Rattle.estimators.proofs.Opened.{shape-refuses, shape-fits}
@@ -26,17 +28,18 @@ returns c =
 enum-told : tie.Need-enum-told
 enum-told c = search needs
 
+-- what the check of the shape lets pass
+shape : (c : tie.After-enum-told) → let a = c .before .before .before .before .before .args in Shaped (length (a .returns .now)) (a .n) (a .periods) × (a .n ≤ length (a .answer .now))
+shape c = shape-passes _ _ _ _ _ (ap checked (c .enum-told .given .1)) (c .before .before .check-shape .ensures)
+
 slice-relend-prefix-james-stein-mean : tie.Need-slice-relend-prefix-james-stein-mean
-slice-relend-prefix-james-stein-mean c = let a = c .before .before .before .before .before .args in shape-passes (length (a .returns .now)) (a .n) (a .periods) (a .n) (length (a .answer .now)) (ap checked (c .enum-told .given .1)) (c .before .before .check-shape .ensures) .1
+slice-relend-prefix-james-stein-mean c = shape c .1
 
 slice-aggregate-james-stein-mean : tie.Need-slice-aggregate-james-stein-mean
-slice-aggregate-james-stein-mean c = let a = c .before .before .before .before .before .before .args in sym (length-take-le _ _ (shape-passes (length (a .returns .now)) (a .n) (a .periods) (a .n) (length (a .answer .now)) (ap checked (c .before .enum-told .given .1)) (c .before .before .before .check-shape .ensures) .1))
+slice-aggregate-james-stein-mean c = sym (length-take-le _ _ (shape (c .before) .1))
 
 james-stein-mean-requires : tie.Need-james-stein-mean-requires
-james-stein-mean-requires c κs =
-    let a = c .before .before .before .before .before .before .args in
-    let shape = shape-passes (length (a .returns .now)) (a .n) (a .periods) (a .n) (length (a .answer .now)) (ap checked (c .before .enum-told .given .1)) (c .before .before .before .check-shape .ensures) in
-    (shape .0, length-take-le _ _ (shape .1))
+james-stein-mean-requires c κs = let s = shape (c .before) in (s .0, length-take-le _ _ (s .1))
 
 same-length : tie.Need-same-length
 same-length c = search needs
@@ -45,8 +48,8 @@ returns-2 : tie.Need-returns-2
 unfolding jamesSteinMean jamesSteinOrder
 returns-2 c =
     let a = c .before .before .before .before .before .before .before .before .before .args in
-    let shape = shape-passes (length (a .returns .now)) (a .n) (a .periods) (a .n) (length (a .answer .now)) (ap checked (c .before .before .before .before .enum-told .given .1)) (c .before .before .before .before .before .before .check-shape .ensures) in
-    shape-fits (a .returns .now) (a .n) (a .periods) (a .n) (a .answer .now) _ _ _ (shape .0) (shape .1) (c .before .before .james-stein-mean .ensures)
+    let s = shape (c .before .before .before .before) in
+    shape-fits (a .returns .now) (a .n) (a .periods) (a .n) (a .answer .now) _ _ _ (s .0) (s .1) (c .before .before .james-stein-mean .ensures)
 
 pub james-stein-mean-spec : {M : Type 1} → statement M
 james-stein-mean-spec =

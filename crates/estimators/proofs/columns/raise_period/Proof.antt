@@ -1,11 +1,10 @@
 -- `estimators::columns::raise_period` meets its contract: the row that is looked at is the period's.
 use mathlib.Core.Path.{sym, _∙_}
-use native.Mathlib.Omega.{arith}
-use lib.Seq.{length-take-le}
 use Rattle.leaves.specs.Numbers.{abs, larger}
 use Rattle.leaves.specs.Loops.{nth}
 use Rattle.estimators.proofs.Stored.{tab-then}
 use borrow.Author.Needs.{needs}
+use Rattle.estimators.proofs.Lent.{tab-long, lent}
 use Rattle.estimators.proofs.columns.raise_period.Statement.{statement}
 use Rattle.estimators.proofs.columns.raise_period.Tie as tie
 
@@ -13,17 +12,15 @@ array-borrow-prefix-buffer : tie.Need-array-borrow-prefix-buffer
 array-borrow-prefix-buffer c = search needs
 
 slice-aggregate-d : tie.Need-slice-aggregate-d
-slice-aggregate-d c = sym (length-take-le _ _ (omega arith))
+slice-aggregate-d c = search lent
 
 form-requires : tie.Need-form-requires
-form-requires c κs =
-    let h = c .before .before .before .before .before .before .before .pre in
-    (h .0, h .1, h .2, h .3, length-take-le _ _ (omega arith))
+form-requires c κs = search lent
 
 raise-requires : tie.Need-raise-requires
 raise-requires c κs =
     let h = c .before .before .before .before .before .before .before .before .before .before .before .before .pre in
-    c .before .before .before .before .form .kept .1 .1 .1 .1 .1 .1 .1 .1 .0 ∙ length-take-le _ _ (omega arith) ∙ sym (h .4)
+    tab-long _ _ _ (c .before .before .before .before .form .ensures) ∙ sym (h .4)
 
 same-length : tie.Need-same-length
 same-length c = search needs

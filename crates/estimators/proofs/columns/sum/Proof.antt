@@ -36,9 +36,7 @@ loop-holds c =
     (omega arith, c .before .before .fill .kept .1 .0 ∙ h .3, after-none _ _ _ _ (h .3) (c .before .before .fill .ensures))
 
 add-period-requires : tie.Need-add-period-requires Inv-loop μ-loop
-add-period-requires c κs =
-    let h = c .before .before .before .before .before .before .before .before .before .before .before .before .pre in
-    (h .0, h .1, omega arith, h .2, c .before .before .loop .inv .1)
+add-period-requires c κs = search needs
 
 add-t : tie.Need-add-t Inv-loop μ-loop
 add-t c = search needs

@@ -1,8 +1,6 @@
 -- `estimators::covariance::adjusted_covariance` meets its contract: `adjusted_in`, in arrays of the largest size.
-use mathlib.Core.Path.{refl, sym}
-use lib.Seq.{length-take-le}
 use borrow.Author.Needs.{needs}
-use Rattle.matrix.proofs.Counts.{square-most}
+use Rattle.estimators.proofs.Lent.{lent}
 use Rattle.estimators.proofs.covariance.adjusted_covariance.Statement.{statement}
 use Rattle.estimators.proofs.covariance.adjusted_covariance.Tie as tie
 
@@ -10,28 +8,28 @@ mul-size : tie.Need-mul-size
 mul-size c = search needs
 
 array-borrow-prefix-sample : tie.Need-array-borrow-prefix-sample
-array-borrow-prefix-sample c = square-most (c .before .before .before .pre .0 .1)
+array-borrow-prefix-sample c = search lent
 
 slice-aggregate-adjusted-in : tie.Need-slice-aggregate-adjusted-in
-slice-aggregate-adjusted-in c = sym (length-take-le _ _ (square-most (c .before .before .before .before .pre .0 .1)))
+slice-aggregate-adjusted-in c = search lent
 
 slice-aggregate-adjusted-in-2 : tie.Need-slice-aggregate-adjusted-in-2
 slice-aggregate-adjusted-in-2 c = search needs
 
 array-borrow-prefix-b : tie.Need-array-borrow-prefix-b
-array-borrow-prefix-b c = square-most (c .before .before .before .before .before .pre .0 .1)
+array-borrow-prefix-b c = search lent
 
 slice-aggregate-adjusted-in-3 : tie.Need-slice-aggregate-adjusted-in-3
-slice-aggregate-adjusted-in-3 c = sym (length-take-le _ _ (square-most (c .before .before .before .before .before .before .pre .0 .1)))
+slice-aggregate-adjusted-in-3 c = search lent
 
 array-borrow-prefix-a : tie.Need-array-borrow-prefix-a
-array-borrow-prefix-a c = square-most (c .before .before .before .before .before .before .pre .0 .1)
+array-borrow-prefix-a c = search lent
 
 slice-aggregate-adjusted-in-4 : tie.Need-slice-aggregate-adjusted-in-4
-slice-aggregate-adjusted-in-4 c = sym (length-take-le _ _ (square-most (c .before .before .before .before .before .before .before .pre .0 .1)))
+slice-aggregate-adjusted-in-4 c = search lent
 
 adjusted-in-requires : tie.Need-adjusted-in-requires
-adjusted-in-requires c κs = let p = c .before .before .before .before .before .before .before .before .pre in let fits = length-take-le _ _ (square-most (p .0 .1)) in (p .0, fits, refl, fits, fits, p .1)
+adjusted-in-requires c κs = search lent
 
 same-length : tie.Need-same-length
 same-length c = search needs

@@ -1,8 +1,13 @@
 -- `estimators::covariance::adjusted_in` meets its contract: the returns, the given matrix, then the rest.
-use mathlib.Core.Path.{sym, ap, _∙_}
+use mathlib.Core.Path.{_≡_, sym, ap, _∙_}
+use Prim.Native.Nat.{_*_, _≤_}
 use native.Mathlib.Omega.{arith}
+use lib.ListN.{length}
 use lib.Seq.{length-take-le}
+use Rattle.matrix.specs.Matrix.{at}
 use Rattle.matrix.proofs.Counts.{square-most}
+use Rattle.estimators.specs.Refusals.{passes, first}
+use Rattle.estimators.specs.Order.{byReturns}
 use Rattle.estimators.specs.Checks.{checked}
 use Rattle.estimators.proofs.OfGiven.{examined-refused, examined-accepted, same-side}
 use Rattle.estimators.proofs.Estimated.{returns-refuse, given-refuses, given-passes}
@@ -28,8 +33,16 @@ returns c =
 enum-told : tie.Need-enum-told
 enum-told c = search needs
 
+-- the returns pass
+opens : (c : tie.After-enum-told) → let a = c .before .before .before .before .before .before .before .before .before .before .before .before .before .args in passes ≡ first (byReturns (a .periods) (a .n) (at (a .r .now) (a .n)))
+opens c = ap checked (sym (c .enum-told .given .1)) ∙ c .before .before .before .before .check-returns .ensures .1
+
 examine-given-requires : tie.Need-examine-given-requires
 examine-given-requires c κs = search needs
+
+-- the averaged matrix's array has room for n × n numbers
+room : (c : tie.After-examine-given) → let a = c .before .before .before .before .before .before .before .before .before .before .before .before .before .before .before .args in a .n * a .n ≤ length (c .examine-given .last .1 .1 .1 .0)
+room c = let p = c .before .before .before .before .before .before .before .before .before .before .before .before .before .before .before .pre in omega (arith, square-most (p .0 .1), p .2, c .examine-given .kept .1 .1 .1 .0)
 
 mul-size : tie.Need-mul-size
 mul-size c = search needs
@@ -41,23 +54,16 @@ enum-known-examined-2 : tie.Need-enum-known-examined-2
 enum-known-examined-2 c = search needs
 
 slice-reshare-prefix-estimate-in : tie.Need-slice-reshare-prefix-estimate-in
-slice-reshare-prefix-estimate-in c =
-    let l = c .before .before .before .before .before .before .before .before .before .before .before .before .before .before .before .before .before .before .before .before .before in
-    let small = square-most (l .pre .0 .1) in
-    omega (arith, small, l .pre .2, c .before .before .before .before .before .before .examine-given .kept .1 .1 .1 .0)
+slice-reshare-prefix-estimate-in c = room (c .before .before .before .before .before .before)
 
 slice-aggregate-estimate-in : tie.Need-slice-aggregate-estimate-in
-slice-aggregate-estimate-in c =
-    let l = c .before .before .before .before .before .before .before .before .before .before .before .before .before .before .before .before .before .before .before .before .before .before in
-    let small = square-most (l .pre .0 .1) in
-    sym (length-take-le _ _ (omega (arith, small, l .pre .2, c .before .before .before .before .before .before .before .examine-given .kept .1 .1 .1 .0)))
+slice-aggregate-estimate-in c = sym (length-take-le _ _ (room (c .before .before .before .before .before .before .before)))
 
 estimate-in-requires : tie.Need-estimate-in-requires
 estimate-in-requires c κs =
-    let l = c .before .before .before .before .before .before .before .before .before .before .before .before .before .before .before .before .before .before .before .before .before .before .before .before .before in
-    let p = l .pre in
-    let small = square-most (p .0 .1) in
-    (p .0, c .before .before .before .before .before .before .before .before .before .before .before .before .before .before .before .before .check-returns .ensures .0, length-take-le _ _ (omega (arith, small, p .2, c .before .before .before .before .before .before .before .before .before .before .examine-given .kept .1 .1 .1 .0)), p .3, p .4, p .5)
+    let g = c .before .before .before .before .before .before .before .before .before .before in
+    let p = g .before .before .before .before .before .before .before .before .before .before .before .before .before .before .before .pre in
+    (p .0, g .before .before .before .before .before .before .check-returns .ensures .0, length-take-le _ _ (room g), p .3, p .4, p .5)
 
 same-length-2 : tie.Need-same-length-2
 same-length-2 c = search needs
@@ -69,7 +75,7 @@ returns-2 : tie.Need-returns-2
 returns-2 c =
     let l = c .before .before .before .before .before .before .before .before .before .before .before .before .before .before .before .before .before .before .before .before in
     let a = l .args in
-    given-refuses (a .r .now) (a .n) (a .periods) (a .settings) (a .given .now) (a .side) (a .out .now) (l .pre .0) (l .pre .5) (ap checked (sym (c .before .before .before .before .before .before .before .enum-told .given .1)) ∙ c .before .before .before .before .before .before .before .before .before .before .before .check-returns .ensures .1)
+    given-refuses (a .r .now) (a .n) (a .periods) (a .settings) (a .given .now) (a .side) (a .out .now) (l .pre .0) (l .pre .5) (opens (c .before .before .before .before .before .before .before))
     (examined-refused _ _ (sym (c .before .examined .given .1) ∙ c .before .before .before .before .before .examine-given .ensures .0))
 
 same-length-4 : tie.Need-same-length-4
@@ -93,7 +99,7 @@ returns-3 c =
     let a = l .args in
     let e = c .before .before .before .before .before .before .before .before .before .before .before .before .before .before .before .before .before .examine-given .ensures in
     let found = examined-accepted _ _ (sym (c .before .before .before .before .before .before .before .before .before .before .before .before .before .examined2 .given .1) ∙ e .0) in
-    given-passes (a .r .now) (a .n) (a .periods) (a .settings) (a .given .now) (a .side) (a .out .now) (l .pre .0) (l .pre .5) (ap checked (sym (c .before .before .before .before .before .before .before .before .before .before .before .before .before .before .before .before .before .before .before .enum-told .given .1)) ∙ c .before .before .before .before .before .before .before .before .before .before .before .before .before .before .before .before .before .before .before .before .before .before .before .check-returns .ensures .1) found
+    given-passes (a .r .now) (a .n) (a .periods) (a .settings) (a .given .now) (a .side) (a .out .now) (l .pre .0) (l .pre .5) (opens (c .before .before .before .before .before .before .before .before .before .before .before .before .before .before .before .before .before .before .before)) found
     (c .before .before .before .before .before .before .estimate-in .ensures _ (λ given same. same-side (a .side) (a .n) _ _ (e .1 given (sym (found .0))) same))
 
 pub adjusted-in-spec : {M : Type 1} → statement M

@@ -1,12 +1,10 @@
 -- `estimators::covariance::check_constant` meets its contract: the rule, by the volatilities under s and the largest returns.
-use mathlib.Core.Path.{sym, ap, _∙_}
-use lib.ListN.{length}
-use lib.Seq.{length-take-le}
-use Rattle.leaves.proofs.Loops.{length-tab}
+use mathlib.Core.Path.{ap, _∙_}
 use Rattle.estimators.specs.Refusals.{whenSome}
 use Rattle.estimators.specs.declared.Refusal.the-variants.{ZeroVariance}
 use Rattle.estimators.proofs.Constant.{constant-sizes}
 use borrow.Author.Needs.{needs}
+use Rattle.estimators.proofs.Lent.{tab-long, lent}
 use Rattle.estimators.proofs.covariance.check_constant.Statement.{statement}
 use Rattle.estimators.proofs.covariance.check_constant.Tie as tie
 
@@ -14,24 +12,24 @@ array-borrow-prefix-one : tie.Need-array-borrow-prefix-one
 array-borrow-prefix-one c = search needs
 
 slice-aggregate-volatilities : tie.Need-slice-aggregate-volatilities
-slice-aggregate-volatilities c = sym (length-take-le _ _ (c .before .before .before .pre .1))
+slice-aggregate-volatilities c = search lent
 
 array-borrow-prefix-other : tie.Need-array-borrow-prefix-other
 array-borrow-prefix-other c = search needs
 
 slice-aggregate-sizes : tie.Need-slice-aggregate-sizes
-slice-aggregate-sizes c = sym (length-take-le _ _ (c .before .before .before .before .pre .1))
+slice-aggregate-sizes c = search lent
 
 put-volatilities-requires : tie.Need-put-volatilities-requires
-put-volatilities-requires c κs = let p = c .before .before .before .before .before .pre in (p .2, length-take-le _ _ (p .1))
+put-volatilities-requires c κs = search lent
 
 largest-requires : tie.Need-largest-requires
-largest-requires c κs = let p = c .before .before .before .before .before .before .before .before .before .pre in (p .0, p .1, length-take-le _ _ (p .1))
+largest-requires c κs = search lent
 
 constant-asset-requires : tie.Need-constant-asset-requires
 constant-asset-requires c κs =
     let l = c .before .before .before .before in
-    (ap length (l .before .before .before .before .put-volatilities .ensures) ∙ length-tab _ _, ap length (l .largest .ensures) ∙ length-tab _ _)
+    (tab-long _ _ _ (l .before .before .before .before .put-volatilities .ensures), tab-long _ _ _ (l .largest .ensures))
 
 returns : tie.Need-returns
 returns c =

@@ -1,17 +1,18 @@
 -- `estimators::covariance::examine_given` meets its contract: the sizes are looked at first, then the numbers.
-use mathlib.Core.Path.{sym, ap, _∙_}
+use mathlib.Core.Path.{_≡_, sym, ap, _∙_}
 use mathlib.Core.Bool.{true≢false}
+use Prim.Native.Nat.{_*_, _≤_, _<_}
 use native.Mathlib.Omega.{arith}
-use mir.Facts.{fits-below}
 use borrow.Author.Tests.{not-true, not-false}
 use lib.ListN.{length}
 use lib.Seq.{length-take-le, take-at}
+use Rattle.matrix.specs.Limits.{maxSide, maxSweeps}
 use Rattle.matrix.proofs.Counts.{square-most}
-use Rattle.matrix.proofs.Stored.{length-rows}
 use Rattle.estimators.specs.Checks.{checked}
 use Rattle.estimators.proofs.OfGiven.{sizes-pass, none-given, sizes-refuse, sizes-fit}
-use Rattle.estimators.proofs.Firsts.{passes-not}
+use Rattle.estimators.proofs.Passed.{passes-not}
 use borrow.Author.Needs.{needs}
+use Rattle.estimators.proofs.Lent.{square-fits, rows-long}
 use Rattle.estimators.proofs.covariance.examine_given.Statement.{statement}
 use Rattle.estimators.proofs.covariance.examine_given.Tie as tie
 
@@ -40,28 +41,24 @@ returns-2 c =
 enum-told : tie.Need-enum-told
 enum-told c = search needs
 
+-- what the check of the sizes lets pass, and the room that the table then has
+sizes : (c : tie.After-enum-told) → let a = c .before .before .before .before .before .before .before .args in (a .settings .limit ≤ maxSweeps) × (0 < a .side) × (a .side ≤ maxSide) × (length (a .given .now) ≡ a .side * a .side)
+sizes c = sizes-pass _ _ _ (ap checked (c .enum-told .given .1)) (c .before .before .check-sizes .ensures)
+
+room : (c : tie.After-enum-told) → let a = c .before .before .before .before .before .before .before .args in a .side * a .side ≤ length (a .out .now)
+room c = let small = square-most (sizes c .2) in omega (arith, small, c .before .before .before .before .before .before .before .pre)
+
 mul-size : tie.Need-mul-size
-mul-size c = let sizes = sizes-pass _ _ _ (ap checked (c .enum-told .given .1)) (c .before .before .check-sizes .ensures) in fits-below tt (square-most (sizes .2))
+mul-size c = square-fits _ (sizes c .2)
 
 slice-relend-prefix-examine : tie.Need-slice-relend-prefix-examine
-slice-relend-prefix-examine c =
-    let a = c .before .before .before .before .before .before .before .args in
-    let sizes = sizes-pass (a .settings .limit) (length (a .given .now)) (a .side) (ap checked (c .enum-told .given .1)) (c .before .before .check-sizes .ensures) in
-    let small = square-most (sizes .2) in
-    omega (arith, small, c .before .before .before .before .before .before .before .pre)
+slice-relend-prefix-examine c = room c
 
 slice-aggregate-examine : tie.Need-slice-aggregate-examine
-slice-aggregate-examine c =
-    let a = c .before .before .before .before .before .before .before .before .args in
-    let sizes = sizes-pass (a .settings .limit) (length (a .given .now)) (a .side) (ap checked (c .before .enum-told .given .1)) (c .before .before .before .check-sizes .ensures) in
-    let small = square-most (sizes .2) in
-    sym (length-take-le _ _ (omega (arith, small, c .before .before .before .before .before .before .before .before .pre)))
+slice-aggregate-examine c = sym (length-take-le _ _ (room (c .before)))
 
 examine-requires : tie.Need-examine-requires
-examine-requires c κs =
-    let sizes = sizes-pass _ _ _ (ap checked (c .before .enum-told .given .1)) (c .before .before .before .check-sizes .ensures) in
-    let small = square-most (sizes .2) in
-    (sizes .1, sizes .2, sizes .0, sizes .3, length-take-le _ _ (omega (arith, small, c .before .before .before .before .before .before .before .before .pre)))
+examine-requires c κs = let s = sizes (c .before) in (s .1, s .2, s .0, s .3, length-take-le _ _ (room (c .before)))
 
 same-length : tie.Need-same-length
 same-length c = search needs
@@ -72,7 +69,7 @@ returns-3 c =
     let e = sym (c .before .before .before .before .before .before .before .before .is-given .ensures) ∙ not-false _ (c .before .before .before .before .before .before .before .if1 .left) in
     let pass = ap checked (sym (c .before .before .before .before .enum-told .given .1)) ∙ c .before .before .before .before .before .before .check-sizes .ensures in
     let table = c .before .before .examine .ensures .0 in
-    (sizes-fit (a .settings) (a .given .now) (a .side) e pass table (c .before .before .examine .ensures .1), λ given passed. take-at _ _ _ (ap length table ∙ length-rows _ _ _) ∙ table)
+    (sizes-fit (a .settings) (a .given .now) (a .side) e pass table (c .before .before .examine .ensures .1), λ given passed. take-at _ _ _ (rows-long _ _ _ table) ∙ table)
 
 pub examine-given-spec : {M : Type 1} → statement M
 examine-given-spec =

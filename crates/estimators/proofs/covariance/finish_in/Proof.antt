@@ -1,6 +1,9 @@
 -- `estimators::covariance::finish_in` meets its contract: the answer is copied where its checks pass.
-use mathlib.Core.Path.{sym, ap, _∙_}
+use mathlib.Core.Path.{_≡_, sym, ap, _∙_}
 use Rattle.matrix.specs.Matrix.{at}
+use Rattle.estimators.specs.Refusals.{first}
+use Rattle.estimators.specs.Adjusted.{adjustedOf}
+use Rattle.estimators.specs.Order.{byEstimate}
 use Rattle.estimators.specs.Checks.{checked}
 use Rattle.estimators.proofs.Estimated.{estimate-checked, finished-refused, finished-accepted}
 use borrow.Author.Needs.{needs}
@@ -22,6 +25,14 @@ check-answer-requires c κs = search needs
 first-requires : tie.Need-first-requires
 first-requires c κs = search needs
 
+-- the checks by the estimate, as the code joins them
+joined : (c : tie.After-first) → let a = c .before .before .before .before .before .before .before .before .before .before .before .before .before .args in
+    checked (c .first .result) ≡ first (byEstimate (a .settings) (a .intensity) (a .periods) (a .n) (at (a .r .now) (a .n)) (at (a .b .now) (a .n)) (at (adjustedOf (a .settings) (a .intensity) (a .n) (a .b .now)) (a .n)))
+joined c =
+    let a = c .before .before .before .before .before .before .before .before .before .before .before .before .before .args in
+    estimate-checked (a .settings) (a .intensity) (a .periods) (a .n) (at (a .r .now) (a .n)) (a .b .now)
+    (c .before .before .before .before .before .before .before .before .is-adjusted .ensures) (c .before .before .before .before .before .before .adjust .ensures) (c .before .before .before .no-variance .ensures) (c .before .check-answer .ensures) (c .first .ensures)
+
 enum-known-bad : tie.Need-enum-known-bad
 enum-known-bad c = search needs
 
@@ -32,7 +43,7 @@ returns : tie.Need-returns
 returns c =
     let a = c .before .before .before .before .before .before .before .before .before .before .before .before .before .before .before .before .args in
     finished-refused (a .settings) (a .intensity) (a .periods) (a .n) (at (a .r .now) (a .n)) (a .b .now) (a .sweeps) (a .rotations) (a .out .now)
-    (ap checked (sym (c .before .bad .given .1)) ∙ (estimate-checked (a .settings) (a .intensity) (a .periods) (a .n) (at (a .r .now) (a .n)) (a .b .now) (c .before .before .before .before .before .before .before .before .before .before .before .is-adjusted .ensures) (c .before .before .before .before .before .before .before .before .before .adjust .ensures) (c .before .before .before .before .before .before .no-variance .ensures) (c .before .before .before .before .check-answer .ensures) (c .before .before .before .first .ensures)))
+    (ap checked (sym (c .before .bad .given .1)) ∙ joined (c .before .before .before))
 
 enum-told : tie.Need-enum-told
 enum-told c = search needs
@@ -50,7 +61,7 @@ returns-2 : tie.Need-returns-2
 returns-2 c =
     let a = c .before .before .before .before .before .before .before .before .before .before .before .before .before .before .before .before .before .before .before .before .args in
     finished-accepted (a .settings) (a .intensity) (a .periods) (a .n) (at (a .r .now) (a .n)) (a .b .now) (a .sweeps) (a .rotations) (a .out .now)
-    (ap checked (sym (c .before .before .before .before .before .enum-told .given .1)) ∙ (estimate-checked (a .settings) (a .intensity) (a .periods) (a .n) (at (a .r .now) (a .n)) (a .b .now) (c .before .before .before .before .before .before .before .before .before .before .before .before .before .before .before .is-adjusted .ensures) (c .before .before .before .before .before .before .before .before .before .before .before .before .before .adjust .ensures) (c .before .before .before .before .before .before .before .before .before .before .no-variance .ensures) (c .before .before .before .before .before .before .before .before .check-answer .ensures) (c .before .before .before .before .before .before .before .first .ensures)))
+    (ap checked (sym (c .before .before .before .before .before .enum-told .given .1)) ∙ joined (c .before .before .before .before .before .before .before))
     (c .before .before .copy .ensures ∙ c .before .before .before .before .before .before .before .before .before .before .before .before .before .adjust .ensures)
 
 pub finish-in-spec : {M : Type 1} → statement M

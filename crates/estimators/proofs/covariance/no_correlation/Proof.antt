@@ -1,12 +1,11 @@
 -- `estimators::covariance::no_correlation` meets its contract, by the cases of the shrinkage.
 use mathlib.Core.Path.{ap, _∙_}
-use lib.ListN.{length}
-use Rattle.matrix.proofs.Stored.{length-rows}
 use Rattle.estimators.specs.Refusals.{whenSome}
 use Rattle.estimators.specs.Order.{noCorrelation}
 use Rattle.estimators.specs.declared.Refusal.the-variants.{ZeroVariance}
 use Rattle.estimators.proofs.Constant.{constant-stored}
 use borrow.Author.Needs.{needs}
+use Rattle.estimators.proofs.Lent.{lent}
 use Rattle.estimators.proofs.covariance.no_correlation.Statement.{statement}
 use Rattle.estimators.proofs.covariance.no_correlation.Tie as tie
 
@@ -26,7 +25,7 @@ enum-told-4 : tie.Need-enum-told-4
 enum-told-4 c = search needs
 
 check-constant-requires : tie.Need-check-constant-requires
-check-constant-requires c κs = let p = c .before .before .before .before .before .before .before .pre in (p .0, p .1, ap length (p .2) ∙ length-rows _ _ _)
+check-constant-requires c κs = search lent
 
 returns : tie.Need-returns
 unfolding noCorrelation

@@ -3,7 +3,7 @@ use mathlib.Core.Path.{_≡_, sym}
 use mathlib.Core.Bool.{Bool}
 use mathlib.Core.List.{List}
 use mathlib.Core.Option.{none}
-use Prim.Native.Nat.{ℕ, _≤_, _-_}
+use Prim.Native.Nat.{ℕ, _+_, _-_, _*_, _≤_}
 use native.Mathlib.Omega.{arith}
 use lib.Ieee.{Float, eq, ofBits}
 use borrow.Author.Needs.{needs}
@@ -24,20 +24,24 @@ Inv-loop b n i₀ i = (i ≤ n) × (firstTo i (flat b n) ≡ none)
 abbrev μ-loop : tie.MeasureT-loop
 μ-loop b n i₀ i = n - i
 
+-- row i lies within the table
+fits : (c : tie.In-loop Inv-loop μ-loop) → let n = c .before .before .args .n in c .before .loop .i * n + n ≤ n * n
+fits c = row _ _ _ (c .loop-test .taken)
+
 loop-holds : tie.Need-loop-holds Inv-loop μ-loop
 loop-holds c = (omega arith, first-none _)
 
 mul-if1 : tie.Need-mul-if1 Inv-loop μ-loop
-mul-if1 c = omega (arith, row _ _ (c .before .before .args .n) (c .loop-test .taken))
+mul-if1 c = omega (arith, fits c)
 
 add-if1 : tie.Need-add-if1 Inv-loop μ-loop
-add-if1 c = omega (arith, row _ _ (c .before .before .args .n) (c .loop-test .taken))
+add-if1 c = omega (arith, fits c)
 
 mul-if1-2 : tie.Need-mul-if1-2 Inv-loop μ-loop
-mul-if1-2 c = omega (arith, row _ _ (c .before .before .args .n) (c .loop-test .taken))
+mul-if1-2 c = omega (arith, fits c)
 
 shared-slice-read-if1 : tie.Need-shared-slice-read-if1 Inv-loop μ-loop
-shared-slice-read-if1 c = omega (arith, row _ _ (c .before .before .before .args .n) (c .before .loop-test .taken))
+shared-slice-read-if1 c = omega (arith, fits (c .before))
 
 returns : tie.Need-returns Inv-loop μ-loop
 unfolding ofBits

@@ -1,12 +1,11 @@
 -- `estimators::expected_returns::bayes_stein_in` meets its contract: the largest returns, their exponents, the moments over those, one after the other.
-use mathlib.Core.Path.{ap, _∙_}
-use lib.ListN.{length}
+use mathlib.Core.Path.{_∙_}
 use borrow.Author.Needs.{needs}
-use Rattle.leaves.proofs.Loops.{length-tab}
 use Rattle.matrix.specs.Matrix.{at}
 use Rattle.estimators.specs.BayesStein.{gathered}
 use Rattle.estimators.specs.Held.{held}
 use Rattle.estimators.proofs.MeanCalls.{bayes-stein-lists}
+use Rattle.estimators.proofs.Lent.{tab-long}
 use Rattle.estimators.proofs.expected_returns.bayes_stein_in.Statement.{statement}
 use Rattle.estimators.proofs.expected_returns.bayes_stein_in.Tie as tie
 
@@ -28,7 +27,7 @@ shrink-requires c κs =
     let p = c .before .before .before .before .before .before .before .before .before .before .before .before .before .before .before .before .before .before .before .before .before .pre in
     let l = c .before .before .before .before .before .before .before .before .before .before .before .before .before .before .before .before .largest .ensures in
     let x = c .before .before .before .before .before .before .before .before .before .before .before .put-exponents .ensures in
-    (p .0 .0, p .0 .1, p .1, ap length (x .0) ∙ length-tab _ _ ∙ p .3, x .1, ap length (c .before .before .before .before .before .scale .ensures) ∙ length-tab _ _ ∙ ap length l ∙ length-tab _ _, p .4)
+    (p .0 .0, p .0 .1, p .1, tab-long _ _ _ (x .0) ∙ p .3, x .1, tab-long _ _ _ (c .before .before .before .before .before .scale .ensures) ∙ tab-long _ _ _ l, p .4)
 
 same-length : tie.Need-same-length
 same-length c = search needs
@@ -47,7 +46,7 @@ returns c =
     let x = c .before .before .before .before .before .before .before .before .before .before .before .before .before .before .put-exponents .ensures .0 in
     let m = c .before .before .before .before .before .before .before .before .before .before .before .of-returns in
     c .before .before .shrink .ensures
-    ∙ bayes-stein-lists (a .n) (a .periods) (a .limit) (at (a .returns .now) (a .n)) (a .out .now) _ _ _ l (rw (s .pre .3) at x) (held (a .n) (m .result)) (m .ensures) (rw (ap length l ∙ length-tab _ _) at (c .before .before .before .before .before .before .before .before .scale .ensures))
+    ∙ bayes-stein-lists (a .n) (a .periods) (a .limit) (at (a .returns .now) (a .n)) (a .out .now) _ _ _ l (rw (s .pre .3) at x) (held (a .n) (m .result)) (m .ensures) (rw (tab-long _ _ _ l) at (c .before .before .before .before .before .before .before .before .scale .ensures))
 
 pub bayes-stein-in-spec : {M : Type 1} → statement M
 bayes-stein-in-spec = tie.close (tie.spec largest-requires put-exponents-requires of-returns-requires scale-requires shrink-requires same-length same-length-2 same-length-3 returns)

@@ -1,11 +1,11 @@
 -- `estimators::expected_returns::bayes_stein_mean` meets its contract: each return is the case of the call that the checks pick.
-use mathlib.Core.Path.{sym, ap, _∙_}
+use mathlib.Core.Path.{ap, _∙_}
 use Prim.Native.Nat.{_≤_}
-use lib.Seq.{length-take-le}
 use borrow.Author.Needs.{needs}
 use Rattle.matrix.specs.Limits.{maxSweeps}
 use Rattle.estimators.specs.Checks.{checked}
 use Rattle.estimators.proofs.MeanCalls.{within, bayes-stein-refused, bayes-stein-accepted}
+use Rattle.estimators.proofs.Lent.{lent}
 use Rattle.estimators.proofs.expected_returns.bayes_stein_mean.Statement.{statement}
 use Rattle.estimators.proofs.expected_returns.bayes_stein_mean.Tie as tie
 
@@ -34,20 +34,20 @@ array-borrow-prefix-sizes : tie.Need-array-borrow-prefix-sizes
 array-borrow-prefix-sizes c = search needs
 
 slice-aggregate-bayes-stein-in : tie.Need-slice-aggregate-bayes-stein-in
-slice-aggregate-bayes-stein-in c = sym (length-take-le _ _ (c .before .before .before .before .before .before .before .before .pre .0 .1))
+slice-aggregate-bayes-stein-in c = search lent
 
 array-borrow-prefix-exponents : tie.Need-array-borrow-prefix-exponents
 array-borrow-prefix-exponents c = search needs
 
 slice-aggregate-bayes-stein-in-2 : tie.Need-slice-aggregate-bayes-stein-in-2
-slice-aggregate-bayes-stein-in-2 c = sym (length-take-le _ _ (c .before .before .before .before .before .before .before .before .before .pre .0 .1))
+slice-aggregate-bayes-stein-in-2 c = search lent
 
 bayes-stein-in-requires : tie.Need-bayes-stein-in-requires
 bayes-stein-in-requires c κs =
     let s = c .before .before .before .before .before .before .before .before .before .before in
     let a = s .args in
     let limited : a .limit ≤ maxSweeps = within (a .limit) _ (c .before .before .before .before .before .before .bad-sweep-limit .ensures) (c .before .before .before .before .before .first .ensures) (ap checked (c .before .before .before .enum-told .given .1)) in
-    (s .pre .0, limited, length-take-le _ _ (s .pre .0 .1), length-take-le _ _ (s .pre .0 .1), s .pre .1)
+    (s .pre .0, limited, search lent, search lent, s .pre .1)
 
 same-length : tie.Need-same-length
 same-length c = search needs

@@ -1,6 +1,6 @@
 -- `estimators::forms::project_on` meets its contract. The invariant: the sum of the products passed.
 use mathlib.Core.Path.{_≡_, refl}
-use Prim.Native.Nat.{_≤_, _-_}
+use Prim.Native.Nat.{_+_, _-_, _*_, _≤_, _<_}
 use native.Mathlib.Omega.{arith}
 use lib.Ieee.{ofBits}
 use borrow.Author.Needs.{needs}
@@ -18,21 +18,25 @@ Inv-loop vectors n e x s₀ i₀ s i = (i ≤ n) × (s ≡ sumTo i (λ i. at vec
 abbrev μ-loop : tie.MeasureT-loop
 μ-loop vectors n e x s₀ i₀ s i = n - i
 
+-- entry i e lies within the table
+inside : (c : tie.In-loop Inv-loop μ-loop) → let a = c .before .before .args in c .before .loop .i * a .n + a .e < a .n * a .n
+inside c = cell _ _ _ _ (c .loop-test .taken) (c .before .before .pre .0)
+
 loop-holds : tie.Need-loop-holds Inv-loop μ-loop
 unfolding ofBits
 loop-holds c = (omega arith, sum-none _)
 
 mul-s : tie.Need-mul-s Inv-loop μ-loop
-mul-s c = omega (arith, cell _ _ _ _ (c .loop-test .taken) (c .before .before .pre .0))
+mul-s c = omega (arith, inside c)
 
 add-s : tie.Need-add-s Inv-loop μ-loop
-add-s c = omega (arith, cell _ _ _ _ (c .loop-test .taken) (c .before .before .pre .0))
+add-s c = omega (arith, inside c)
 
 mul-s-2 : tie.Need-mul-s-2 Inv-loop μ-loop
-mul-s-2 c = omega (arith, cell _ _ _ _ (c .loop-test .taken) (c .before .before .pre .0))
+mul-s-2 c = omega (arith, inside c)
 
 shared-slice-read-s : tie.Need-shared-slice-read-s Inv-loop μ-loop
-shared-slice-read-s c = omega (arith, cell _ _ _ _ (c .before .loop-test .taken) (c .before .before .before .pre .0))
+shared-slice-read-s c = omega (arith, inside (c .before))
 
 mul-s-3 : tie.Need-mul-s-3 Inv-loop μ-loop
 mul-s-3 c = search needs

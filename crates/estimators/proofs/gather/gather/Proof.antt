@@ -1,5 +1,5 @@
 -- `estimators::gather::gather` meets its contract: the quotients, their common exponent, and the quotients over it.
-use mathlib.Core.Path.{_≡_, refl, ap, _∙_}
+use mathlib.Core.Path.{_≡_, refl, _∙_}
 use mathlib.Core.List.{List}
 use Prim.Native.Nat.{ℕ, _≤_}
 use native.Mathlib.Omega.{arith}
@@ -11,20 +11,20 @@ use mir.Val.{toZ, ofZ}
 use borrow.Author.Needs.{needs}
 use Rattle.leaves.specs.Numbers.{_⊘_}
 use Rattle.leaves.specs.Loops.{tab, nth}
-use Rattle.leaves.proofs.Loops.{length-tab}
 use Rattle.estimators.specs.BayesStein.{commonExponent, gathered}
 use Rattle.estimators.specs.Gather.{Gathered}
 use Rattle.estimators.proofs.Stored.{nth-stored}
 use Rattle.estimators.specs.Exponents.{exponentAt, twoExponents}
 use Rattle.estimators.proofs.Exponents.{read}
 use Rattle.estimators.proofs.Gathered.{gathered-as}
+use Rattle.estimators.proofs.Lent.{tab-long}
 use Rattle.estimators.proofs.gather.gather.Statement.{statement}
 use Rattle.estimators.proofs.gather.gather.Tie as tie
 
 made : (n : ℕ) (m : ℕ → Float) (k : ℕ → ℤ) (quotients : List Float) (e : ℤ) (l : List Float) → quotients ≡ tab n m → e ≡ commonExponent (length quotients) (nth quotients) k → natAbs e ≤ twoExponents
     → l ≡ gathered (length quotients) (nth quotients) k (toZ w32 (ofZ w32 e)) → Gathered n m k (toZ w32 (ofZ w32 e)) l
 made n m k quotients e l is-q is-e size is-l =
-    let long : length quotients ≡ n = ap length is-q ∙ length-tab m n in
+    let long : length quotients ≡ n = tab-long n m quotients is-q in
     let same : toZ w32 (ofZ w32 e) ≡ e = read e (omega arith) in
     let g : Gathered n (nth quotients) k (toZ w32 (ofZ w32 e)) l = record { power = same ∙ rw long at is-e; numbers = rw long at is-l; size = rw same size } in
     gathered-as (λ i h. nth-stored n m is-q i h) (λ i h. refl) g

@@ -6,7 +6,7 @@ use native.Mathlib.Omega.{arith}
 use borrow.Author.Needs.{needs}
 use Rattle.matrix.specs.Limits.{maxSide}
 use Rattle.estimators.proofs.Gathered.{gathered-as, gathered-read}
-use Rattle.estimators.proofs.Room.{part-at}
+use Rattle.estimators.proofs.Lent.{part-at, lent}
 use Rattle.estimators.proofs.gather.gather_means.Statement.{statement}
 use Rattle.estimators.proofs.gather.gather_means.Tie as tie
 
@@ -14,7 +14,7 @@ array-share-prefix-zeros : tie.Need-array-share-prefix-zeros
 array-share-prefix-zeros c = search needs
 
 slice-aggregate-gather : tie.Need-slice-aggregate-gather
-slice-aggregate-gather c = sym (length-take-le _ _ (c .before .before .before .before .pre .0))
+slice-aggregate-gather c = search lent
 
 gather-requires : tie.Need-gather-requires
 gather-requires c κs =

@@ -7,7 +7,7 @@ use Rattle.leaves.specs.Numbers.{_⊘_, one}
 use Rattle.leaves.specs.Loops.{nth}
 use Rattle.matrix.specs.Limits.{maxSide}
 use Rattle.estimators.proofs.Gathered.{gathered-as, gathered-read}
-use Rattle.estimators.proofs.Room.{part-at}
+use Rattle.estimators.proofs.Lent.{part-at, lent}
 use Rattle.estimators.proofs.gather.gather_ones.Statement.{statement}
 use Rattle.estimators.proofs.gather.gather_ones.Tie as tie
 
@@ -15,7 +15,7 @@ array-share-prefix-ones : tie.Need-array-share-prefix-ones
 array-share-prefix-ones c = search needs
 
 slice-aggregate-gather : tie.Need-slice-aggregate-gather
-slice-aggregate-gather c = sym (length-take-le _ _ (c .before .before .before .pre .0))
+slice-aggregate-gather c = search lent
 
 gather-requires : tie.Need-gather-requires
 gather-requires c κs = let p = c .before .before .before .before .pre in (length-take-le _ _ (p .0) ∙ sym (p .4), p .1 ∙ sym (p .4), p .2 ∙ sym (p .4), p .3)

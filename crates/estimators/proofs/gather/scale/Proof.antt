@@ -69,7 +69,7 @@ loop-again c =
     filled-more (l .inv) (omega arith) (omega arith) (c .pow2-scaled .ensures ∙ (λ t. pow2Scaled (filled-here nan (l .inv) (omega arith) (omega arith) t) (k t)))
 
 same-length : tie.Need-same-length Inv-loop μ-loop
-same-length c = c .before .loop .inv .len
+same-length c = search needs
 
 returns : tie.Need-returns Inv-loop μ-loop
 unfolding gathered

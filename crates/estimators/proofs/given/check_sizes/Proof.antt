@@ -1,11 +1,10 @@
 -- `estimators::given::check_sizes` meets its contract: each return is the first check that the tests leave.
 use mathlib.Core.Path.{_∙_}
-use native.Mathlib.Omega.{arith}
 use borrow.Author.Tests.{eq-eqb, ne-eqb, lt-ltb, le-ltb}
-use Rattle.matrix.proofs.Counts.{square-most}
 use Rattle.estimators.specs.Refusals.{first}
 use Rattle.estimators.proofs.Firsts.{first-alone}
 use borrow.Author.Needs.{needs}
+use Rattle.estimators.proofs.Lent.{lent}
 use Rattle.estimators.proofs.given.check_sizes.Statement.{statement}
 use Rattle.estimators.proofs.given.check_sizes.Tie as tie
 
@@ -31,7 +30,7 @@ unfolding first
 returns-3 c = rw (← c .before .before .before .before .bad-sweep-limit .ensures, c .before .before .enum-told .given .1, ne-eqb _ _ (c .before .if1 .left), lt-ltb _ _ (c .if2 .taken))
 
 mul-when : tie.Need-mul-when
-mul-when c = omega (arith, square-most (c .if2 .left))
+mul-when c = search lent
 
 when-requires : tie.Need-when-requires
 when-requires c κs = search needs

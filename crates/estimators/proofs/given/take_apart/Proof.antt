@@ -1,8 +1,6 @@
 -- `estimators::given::take_apart` meets its contract: `take_apart_in`, in arrays of the largest size.
-use mathlib.Core.Path.{sym}
-use lib.Seq.{length-take-le}
 use borrow.Author.Needs.{needs}
-use Rattle.matrix.proofs.Counts.{square-most}
+use Rattle.estimators.proofs.Lent.{lent}
 use Rattle.estimators.proofs.given.take_apart.Statement.{statement}
 use Rattle.estimators.proofs.given.take_apart.Tie as tie
 
@@ -10,25 +8,25 @@ mul-size : tie.Need-mul-size
 mul-size c = search needs
 
 array-borrow-prefix-over : tie.Need-array-borrow-prefix-over
-array-borrow-prefix-over c = square-most (c .before .pre .1)
+array-borrow-prefix-over c = search lent
 
 slice-aggregate-take-apart-in : tie.Need-slice-aggregate-take-apart-in
-slice-aggregate-take-apart-in c = sym (length-take-le _ _ (square-most (c .before .before .pre .1)))
+slice-aggregate-take-apart-in c = search lent
 
 array-borrow-prefix-values : tie.Need-array-borrow-prefix-values
 array-borrow-prefix-values c = search needs
 
 slice-aggregate-take-apart-in-2 : tie.Need-slice-aggregate-take-apart-in-2
-slice-aggregate-take-apart-in-2 c = sym (length-take-le _ _ (c .before .before .before .pre .1))
+slice-aggregate-take-apart-in-2 c = search lent
 
 array-borrow-prefix-vectors : tie.Need-array-borrow-prefix-vectors
-array-borrow-prefix-vectors c = square-most (c .before .before .before .pre .1)
+array-borrow-prefix-vectors c = search lent
 
 slice-aggregate-take-apart-in-3 : tie.Need-slice-aggregate-take-apart-in-3
-slice-aggregate-take-apart-in-3 c = sym (length-take-le _ _ (square-most (c .before .before .before .before .pre .1)))
+slice-aggregate-take-apart-in-3 c = search lent
 
 take-apart-in-requires : tie.Need-take-apart-in-requires
-take-apart-in-requires c κs = let p = c .before .before .before .before .pre in let fits = length-take-le _ _ (square-most (p .1)) in (p .0, p .1, p .2, p .3, fits, length-take-le _ _ (p .1), fits)
+take-apart-in-requires c κs = search lent
 
 returns : tie.Need-returns
 returns c = search needs

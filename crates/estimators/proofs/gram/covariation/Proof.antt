@@ -1,10 +1,9 @@
 -- `estimators::gram::covariation` meets its contract: every column is summed up.
 use mathlib.Core.Path.{_∙_}
-use mathlib.Core.List.{[]}
-use Rattle.matrix.specs.Matrix.{at}
-use Rattle.estimators.specs.Rows.{rowsOf}
+use Rattle.estimators.specs.Rows.{centered}
 use Rattle.estimators.proofs.Halves.{covariation-over}
 use borrow.Author.Needs.{needs}
+use Rattle.estimators.proofs.Lent.{rows-long}
 use Rattle.estimators.proofs.gram.covariation.Statement.{statement}
 use Rattle.estimators.proofs.gram.covariation.Tie as tie
 
@@ -30,9 +29,8 @@ returns : tie.Need-returns
 returns c =
     let s = c .before .before .before .before .before .before .before in
     let a = s .before .before .before .before .before .before .before .before .args in
-    let h = s .before .before .before .before .before .before .before .before .pre in
     c .before .before .divide .ensures
-    ∙ covariation-over (a .s .now) (rowsOf (a .row) (a .n) [] (a .centers .now) [] (at (a .r .now) (a .n))) (a .n) _ (a .periods) _ _ (s .sum .kept .1 .1 .1 .1 .1 .1 .1 .1 .1 .0 ∙ h .4) (c .before .before .before .before .nearest-u64-to-f64 .ensures) (s .sum .ensures)
+    ∙ covariation-over (a .s .now) (centered (a .row) (a .n) (a .centers .now) (a .r .now)) (a .n) _ (a .periods) _ _ (rows-long _ _ _ (s .sum .ensures)) (c .before .before .before .before .nearest-u64-to-f64 .ensures) (s .sum .ensures)
 
 pub covariation-spec : {M : Type 1} → statement M
 covariation-spec = tie.close (tie.spec slice-aggregate-sum slice-aggregate-sum-2 sum-requires nearest-u64-to-f64-requires divide-requires same-length returns)

@@ -1,10 +1,9 @@
 -- `estimators::gram::variation` meets its contract: the half that is summed up is mirrored, and products commute.
 use mathlib.Core.Path.{_∙_}
-use mathlib.Core.List.{[]}
-use Rattle.matrix.specs.Matrix.{at}
-use Rattle.estimators.specs.Rows.{rowsOf}
+use Rattle.estimators.specs.Rows.{centered}
 use Rattle.estimators.proofs.Halves.{variation-over}
 use borrow.Author.Needs.{needs}
+use Rattle.estimators.proofs.Lent.{rows-long}
 use Rattle.estimators.proofs.gram.variation.Statement.{statement}
 use Rattle.estimators.proofs.gram.variation.Tie as tie
 
@@ -36,7 +35,7 @@ returns c =
     let a = s .before .before .before .before .before .before .before .before .args in
     let h = s .before .before .before .before .before .before .before .before .pre in
     c .before .before .divide .ensures
-    ∙ variation-over (a .s .now) (rowsOf (a .row) (a .n) [] (a .centers .now) [] (at (a .r .now) (a .n))) (a .n) _ (a .periods) _ _ (m .mirror .kept .1 .0 ∙ s .sum .kept .1 .1 .1 .1 .1 .1 .1 .1 .1 .0 ∙ h .5) (c .before .before .before .before .nearest-u64-to-f64 .ensures) _ (h .4) (s .sum .ensures) (m .mirror .ensures)
+    ∙ variation-over (a .s .now) (centered (a .row) (a .n) (a .centers .now) (a .r .now)) (a .n) _ (a .periods) _ _ (rows-long _ _ _ (m .mirror .ensures)) (c .before .before .before .before .nearest-u64-to-f64 .ensures) _ (h .4) (s .sum .ensures) (m .mirror .ensures)
 
 pub variation-spec : {M : Type 1} → statement M
 variation-spec = tie.close (tie.spec slice-aggregate-sum slice-aggregate-sum-2 sum-requires mirror-requires nearest-u64-to-f64-requires divide-requires same-length returns)

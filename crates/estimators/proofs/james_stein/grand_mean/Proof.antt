@@ -1,20 +1,17 @@
 -- `estimators::james_stein::grand_mean` meets its contract: the sum over the count.
-use mathlib.Core.Path.{_≡_, sym}
-use native.Mathlib.Omega.{arith}
-use lib.ListN.{length}
 use lib.Seq.{length-take-le}
 use borrow.Author.Needs.{needs}
 use Rattle.leaves.specs.Numbers.{_⊘_}
-use Rattle.matrix.specs.Limits.{maxSide}
 use Rattle.estimators.specs.JamesStein.{grandMean}
+use Rattle.estimators.proofs.Lent.{lent}
 use Rattle.estimators.proofs.james_stein.grand_mean.Statement.{statement}
 use Rattle.estimators.proofs.james_stein.grand_mean.Tie as tie
 
 array-share-prefix-mean : tie.Need-array-share-prefix-mean
-array-share-prefix-mean c = let l : length (c .before .args .m .mean) ≡ maxSide = search needs in omega arith
+array-share-prefix-mean c = search lent
 
 slice-aggregate-sum : tie.Need-slice-aggregate-sum
-slice-aggregate-sum c = let l : length (c .before .before .args .m .mean) ≡ maxSide = search needs in sym (length-take-le _ _ (omega arith))
+slice-aggregate-sum c = search lent
 
 sum-requires : tie.Need-sum-requires
 sum-requires c κs = search needs
@@ -24,10 +21,7 @@ nearest-u64-to-f64-requires c κs = search needs
 
 returns : tie.Need-returns
 unfolding grandMean
-returns c =
-    let a = c .before .before .before .before .args in
-    let l : length (a .m .mean) ≡ maxSide = search needs in
-    λ i. rw (length-take-le (a .n) (a .m .mean) (omega (arith, c .before .before .before .before .pre))) at (c .before .sum .ensures) i ⊘ c .nearest-u64-to-f64 .ensures i
+returns c = let a = c .before .before .before .before .args in λ i. rw (length-take-le (a .n) (a .m .mean) (search lent)) at (c .before .sum .ensures) i ⊘ c .nearest-u64-to-f64 .ensures i
 
 pub grand-mean-spec : {M : Type 1} → statement M
 grand-mean-spec = tie.close (tie.spec array-share-prefix-mean slice-aggregate-sum sum-requires nearest-u64-to-f64-requires returns)

@@ -49,7 +49,7 @@ unfolding towards
 loop-again c = filled-more (c .before .before .before .loop .inv) (omega arith) (omega arith) (c .pow2-scaled .ensures)
 
 same-length : tie.Need-same-length Inv-loop μ-loop
-same-length c = c .before .loop .inv .len
+same-length c = search needs
 
 returns : tie.Need-returns Inv-loop μ-loop
 returns c = rw (toZ-ofZ (c .before .before .before .before .fits .exponent)) at (filled-whole (c .before .loop .inv) (omega arith) refl)

@@ -4,14 +4,12 @@ use mathlib.Core.Bool.{Bool, true, false, not}
 use mathlib.Core.List.{List}
 use Prim.Native.Nat.{ℕ}
 use lib.IntN.{ℤ}
-use lib.ListN.{length}
 use lib.Seq.{length-take-le}
 use lib.Ieee.{Float}
 use mir.Facts.{toZ-ofZ}
 use borrow.Author.Needs.{needs}
 use Rattle.leaves.specs.Loops.{tab, nth}
 use Rattle.leaves.specs.Scaling.{pow2Scaled}
-use Rattle.matrix.specs.Limits.{maxSide}
 use Rattle.matrix.specs.Matrix.{at}
 use Rattle.matrix.specs.Jacobi.{Decomposition}
 use Rattle.estimators.specs.Refusals.{when}
@@ -23,8 +21,8 @@ use Rattle.estimators.specs.Calls.{Answered, answered, settle}
 use Rattle.estimators.specs.Stein.{PullsEven, jamesSteinOf}
 use Rattle.estimators.specs.declared.Refusal.the-variants.{Singular}
 use Rattle.estimators.specs.declared.Answer.the-variants.{Refused, Shrunk}
-use Rattle.estimators.proofs.Room.{vector-room}
 use Rattle.estimators.proofs.Opened.{settle-refused, settle-accepted}
+use Rattle.estimators.proofs.Lent.{lent}
 use Rattle.estimators.proofs.james_stein.shrink.Statement.{statement}
 use Rattle.estimators.proofs.james_stein.shrink.Tie as tie
 
@@ -65,13 +63,13 @@ returns c =
     refused (a .n) (a .limit) (held (a .n) (a .m)) (a .exponent) (a .out .now) (c .before .before .grand-mean .result) (c .before .before .grand-mean .ensures) (p .result .found) (p .result .intensity) (p .result .sweeps) (p .result .rotations) (p .ensures) (c .if1 .taken)
 
 array-share-prefix-mean : tie.Need-array-share-prefix-mean
-array-share-prefix-mean c = let s = c .before .before .before .before .before in let l : length (s .args .m .mean) ≡ maxSide = search needs in vector-room (s .args .m .mean) l (s .pre .1)
+array-share-prefix-mean c = search lent
 
 slice-aggregate-put-means : tie.Need-slice-aggregate-put-means
-slice-aggregate-put-means c = let s = c .before .before .before .before .before .before in let l : length (s .args .m .mean) ≡ maxSide = search needs in sym (length-take-le _ _ (vector-room (s .args .m .mean) l (s .pre .1)))
+slice-aggregate-put-means c = search lent
 
 put-means-requires : tie.Need-put-means-requires
-put-means-requires c κs = let s = c .before .before .before .before .before .before .before in let l : length (s .args .m .mean) ≡ maxSide = search needs in length-take-le _ _ (vector-room (s .args .m .mean) l (s .pre .1)) ∙ sym (s .pre .3)
+put-means-requires c κs = length-take-le _ _ (search lent) ∙ sym (c .before .before .before .before .before .before .before .pre .3)
 
 pow2-scaled-requires : tie.Need-pow2-scaled-requires
 pow2-scaled-requires c κs = search needs

@@ -1,6 +1,6 @@
 -- `estimators::ledoit_wolf::add_variations` meets its contract. The invariant: the row's sum up to column j.
 use mathlib.Core.Path.{_≡_}
-use Prim.Native.Nat.{_≤_, _-_}
+use Prim.Native.Nat.{_+_, _-_, _*_, _≤_}
 use native.Mathlib.Omega.{arith}
 use Rattle.leaves.specs.Loops.{nth}
 use Rattle.leaves.proofs.Invariants.{loop-turn, loop-start}
@@ -17,8 +17,12 @@ Inv-loop r sd theta n i sum base t₀ j₀ t j = (j ≤ n) × (t ≡ sumRow j ap
 abbrev μ-loop : tie.MeasureT-loop
 μ-loop r sd theta n i sum base t₀ j₀ t j = n - j
 
+-- row i lies within the table
+fits : (s : tie.Start Inv-loop μ-loop) → s .args .i * s .args .n + s .args .n ≤ s .args .n * s .args .n
+fits s = row _ _ _ (s .pre .0)
+
 mul-base : tie.Need-mul-base Inv-loop μ-loop
-mul-base c = omega (arith, row _ _ (c .before .before .args .n) (c .before .before .pre .0))
+mul-base c = omega (arith, fits (c .before .before))
 
 loop-holds : tie.Need-loop-holds Inv-loop μ-loop
 loop-holds c = (omega arith, loop-start _ _)
@@ -36,13 +40,13 @@ shared-slice-read-add-apart-2 : tie.Need-shared-slice-read-add-apart-2 Inv-loop 
 shared-slice-read-add-apart-2 c = search needs
 
 add-add-apart : tie.Need-add-add-apart Inv-loop μ-loop
-add-add-apart c = omega (arith, row _ _ (c .before .before .before .before .before .before .args .n) (c .before .before .before .before .before .before .pre .0))
+add-add-apart c = omega (arith, fits (c .before .before .before .before .before .before))
 
 mul-add-apart-3 : tie.Need-mul-add-apart-3 Inv-loop μ-loop
-mul-add-apart-3 c = omega (arith, row _ _ (c .before .before .before .before .before .before .args .n) (c .before .before .before .before .before .before .pre .0))
+mul-add-apart-3 c = omega (arith, fits (c .before .before .before .before .before .before))
 
 shared-slice-read-add-apart-3 : tie.Need-shared-slice-read-add-apart-3 Inv-loop μ-loop
-shared-slice-read-add-apart-3 c = omega (arith, row _ _ (c .before .before .before .before .before .before .before .args .n) (c .before .before .before .before .before .before .before .pre .0))
+shared-slice-read-add-apart-3 c = omega (arith, fits (c .before .before .before .before .before .before .before))
 
 add-apart-requires : tie.Need-add-apart-requires Inv-loop μ-loop
 add-apart-requires c κs = search needs

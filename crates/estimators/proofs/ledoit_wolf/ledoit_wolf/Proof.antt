@@ -1,15 +1,12 @@
 -- `estimators::ledoit_wolf::ledoit_wolf` meets its contract: the rows that it forms are the definition's, over the power of two of the largest deviation.
-use mathlib.Core.Path.{_≡_, sym, ap, _∙_}
+use mathlib.Core.Path.{_≡_}
 use mathlib.Core.List.{List}
 use Prim.Native.Nat.{ℕ}
 use native.Mathlib.Omega.{arith}
 use lib.IntN.{ℤ, negℤ}
-use lib.ListN.{length}
-use lib.Seq.{length-take-le}
 use lib.Ieee.{Float}
 use Rattle.leaves.specs.Loops.{tab}
 use Rattle.leaves.specs.Scaling.{binaryExponent}
-use Rattle.leaves.proofs.Loops.{length-tab}
 use Rattle.matrix.specs.Matrix.{at, amax}
 use Rattle.estimators.specs.Sample.{mean, deviation}
 use Rattle.estimators.specs.LedoitWolf.{intensityFrom, ledoitWolf}
@@ -20,6 +17,7 @@ use Rattle.estimators.specs.declared.rows.Row.the-variants.{Scaled}
 use Rattle.estimators.proofs.Exponents.{size-neg, neg-fits, neg-read}
 use Rattle.estimators.proofs.Centered.{from-centered, scaled-formed}
 use borrow.Author.Needs.{needs}
+use Rattle.estimators.proofs.Lent.{lent}
 use Rattle.estimators.proofs.ledoit_wolf.ledoit_wolf.Statement.{statement}
 use Rattle.estimators.proofs.ledoit_wolf.ledoit_wolf.Tie as tie
 
@@ -32,19 +30,19 @@ array-borrow-prefix-means : tie.Need-array-borrow-prefix-means
 array-borrow-prefix-means c = search needs
 
 slice-aggregate-centers : tie.Need-slice-aggregate-centers
-slice-aggregate-centers c = sym (length-take-le _ _ (c .before .before .pre .2))
+slice-aggregate-centers c = search lent
 
 means-requires : tie.Need-means-requires
-means-requires c κs = let p = c .before .before .before .pre in (p .0, p .2, length-take-le _ _ (p .2))
+means-requires c κs = search lent
 
 array-borrow-prefix-sizes : tie.Need-array-borrow-prefix-sizes
 array-borrow-prefix-sizes c = search needs
 
 slice-aggregate-largest-exponent : tie.Need-slice-aggregate-largest-exponent
-slice-aggregate-largest-exponent c = sym (length-take-le _ _ (c .before .before .before .before .before .before .before .before .pre .2))
+slice-aggregate-largest-exponent c = search lent
 
 largest-exponent-requires : tie.Need-largest-exponent-requires
-largest-exponent-requires c κs = let p = c .before .before .before .before .before .before .before .before .pre in (p .2, p .0, ap length (c .before .before .before .before .means2 .ensures) ∙ length-tab _ _, length-take-le _ _ (p .2))
+largest-exponent-requires c κs = search lent
 
 sub-factors : tie.Need-sub-factors
 sub-factors c = let e = c .before .largest-exponent in neg-fits (e .result) (omega (arith, e .ensures .0))
@@ -53,7 +51,7 @@ factors-requires : tie.Need-factors-requires
 factors-requires c κs = let e = c .before .largest-exponent in rw (neg-read (e .result) (omega (arith, e .ensures .0)), size-neg) (e .ensures .0)
 
 of-rows-requires : tie.Need-of-rows-requires
-of-rows-requires c κs = let p = c .before .before .before .before .before .before .before .before .before .before .before .before .pre in (p .1, p .2, p .0, ap length (c .before .before .before .before .before .before .before .before .means2 .ensures) ∙ length-tab _ _)
+of-rows-requires c κs = search lent
 
 returns : tie.Need-returns
 returns c =

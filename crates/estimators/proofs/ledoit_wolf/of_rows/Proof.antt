@@ -1,50 +1,44 @@
 -- `estimators::ledoit_wolf::of_rows` meets its contract: `of_rows_in`, in five arrays of the largest size.
-use mathlib.Core.Path.{sym}
-use native.Mathlib.Omega.{arith}
-use lib.Seq.{length-take-le}
 use borrow.Author.Needs.{needs}
-use Rattle.matrix.proofs.Counts.{square-most}
+use Rattle.estimators.proofs.Lent.{lent}
 use Rattle.estimators.proofs.ledoit_wolf.of_rows.Statement.{statement}
 use Rattle.estimators.proofs.ledoit_wolf.of_rows.Tie as tie
 
 mul-size : tie.Need-mul-size
-mul-size c = omega (arith, square-most (c .before .before .pre .1))
+mul-size c = search lent
 
 array-borrow-prefix-s : tie.Need-array-borrow-prefix-s
-array-borrow-prefix-s c = square-most (c .before .before .pre .1)
+array-borrow-prefix-s c = search lent
 
 slice-aggregate-of-rows-in : tie.Need-slice-aggregate-of-rows-in
-slice-aggregate-of-rows-in c = sym (length-take-le _ _ (square-most (c .before .before .before .pre .1)))
+slice-aggregate-of-rows-in c = search lent
 
 array-borrow-prefix-pi : tie.Need-array-borrow-prefix-pi
-array-borrow-prefix-pi c = square-most (c .before .before .before .pre .1)
+array-borrow-prefix-pi c = search lent
 
 slice-aggregate-of-rows-in-2 : tie.Need-slice-aggregate-of-rows-in-2
-slice-aggregate-of-rows-in-2 c = sym (length-take-le _ _ (square-most (c .before .before .before .before .pre .1)))
+slice-aggregate-of-rows-in-2 c = search lent
 
 array-borrow-prefix-theta : tie.Need-array-borrow-prefix-theta
-array-borrow-prefix-theta c = square-most (c .before .before .before .before .pre .1)
+array-borrow-prefix-theta c = search lent
 
 slice-aggregate-of-rows-in-3 : tie.Need-slice-aggregate-of-rows-in-3
-slice-aggregate-of-rows-in-3 c = sym (length-take-le _ _ (square-most (c .before .before .before .before .before .pre .1)))
+slice-aggregate-of-rows-in-3 c = search lent
 
 array-borrow-prefix-sd : tie.Need-array-borrow-prefix-sd
 array-borrow-prefix-sd c = search needs
 
 slice-aggregate-of-rows-in-4 : tie.Need-slice-aggregate-of-rows-in-4
-slice-aggregate-of-rows-in-4 c = sym (length-take-le _ _ (c .before .before .before .before .before .before .pre .1))
+slice-aggregate-of-rows-in-4 c = search lent
 
 array-borrow-prefix-work : tie.Need-array-borrow-prefix-work
-array-borrow-prefix-work c = square-most (c .before .before .before .before .before .before .pre .1)
+array-borrow-prefix-work c = search lent
 
 slice-aggregate-of-rows-in-5 : tie.Need-slice-aggregate-of-rows-in-5
-slice-aggregate-of-rows-in-5 c = sym (length-take-le _ _ (square-most (c .before .before .before .before .before .before .before .pre .1)))
+slice-aggregate-of-rows-in-5 c = search lent
 
 of-rows-in-requires : tie.Need-of-rows-in-requires
-of-rows-in-requires c κs =
-    let p = c .before .before .before .before .before .before .before .pre in
-    let q = square-most (p .1) in
-    (p .0, p .1, p .2, p .3, length-take-le _ _ q, length-take-le _ _ q, length-take-le _ _ q, length-take-le _ _ (p .1), length-take-le _ _ q)
+of-rows-in-requires c κs = let p = c .before .before .before .before .before .before .before .pre in (p .0, p .1, p .2, p .3, search lent, search lent, search lent, search lent, search lent)
 
 returns : tie.Need-returns
 returns c = search needs

@@ -7,19 +7,19 @@ use lib.Ieee.{Float}
 use Rattle.leaves.specs.Numbers.{_⊘_, count}
 use Rattle.leaves.specs.Loops.{tab, nth}
 use Rattle.matrix.specs.Matrix.{Matrix, rows, Symmetric}
-use Rattle.matrix.proofs.Stored.{length-rows}
 use Rattle.estimators.specs.Sample.{gram}
 use Rattle.estimators.specs.Rows.{centered}
 use Rattle.estimators.specs.LedoitWolf.{secondMoments}
 use Rattle.estimators.proofs.Halves.{rows-over}
 use Rattle.estimators.proofs.Centered.{moments-symmetric}
 use borrow.Author.Needs.{needs}
+use Rattle.estimators.proofs.Lent.{rows-long}
 use Rattle.estimators.proofs.ledoit_wolf.put_moments.Statement.{statement}
 use Rattle.estimators.proofs.ledoit_wolf.put_moments.Tie as tie
 
 moments-are : (T n : ℕ) (z : Matrix) {x : Float} {l s : List Float} → l ≡ rows n n (gram T z) → x ≡ count T → s ≡ tab (length l) (λ k. nth l k ⊘ x) → (s ≡ secondMoments T n z) × Symmetric n s
 moments-are T n z {x} {l} el ex es =
-    let e = es ∙ rows-over (gram T z) n (length l) x l (ap length el ∙ length-rows (gram T z) n n) el ∙ ap (λ (x : Float). rows n n (λ i j. gram T z i j ⊘ x)) ex in
+    let e = es ∙ rows-over (gram T z) n (length l) x l (rows-long n (gram T z) l el) el ∙ ap (λ (x : Float). rows n n (λ i j. gram T z i j ⊘ x)) ex in
     (e, moments-symmetric T n z e)
 
 slice-aggregate-gram : tie.Need-slice-aggregate-gram

@@ -1,5 +1,5 @@
 -- `estimators::moments::moments_over` meets its contract: `of_returns`, with the same exponent for every asset.
-use mathlib.Core.Path.{sym, ap, _∙_}
+use mathlib.Core.Path.{ap, _∙_}
 use native.Mathlib.Omega.{arith}
 use lib.IntN.{pos, negℤ, natAbs}
 use lib.Seq.{length-take-le}
@@ -11,7 +11,7 @@ use Rattle.matrix.specs.Limits.{maxSide}
 use Rattle.matrix.specs.Matrix.{at}
 use Rattle.estimators.specs.Sample.{scaled}
 use Rattle.estimators.proofs.Exponents.{read}
-use Rattle.estimators.proofs.Room.{part-at}
+use Rattle.estimators.proofs.Lent.{part-at, lent}
 use Rattle.estimators.proofs.SameReturns.{moments-same}
 use Rattle.estimators.proofs.moments.moments_over.Statement.{statement}
 use Rattle.estimators.proofs.moments.moments_over.Tie as tie
@@ -20,7 +20,7 @@ array-share-prefix-exponents : tie.Need-array-share-prefix-exponents
 array-share-prefix-exponents c = search needs
 
 slice-aggregate-of-returns : tie.Need-slice-aggregate-of-returns
-slice-aggregate-of-returns c = sym (length-take-le _ _ (c .before .before .pre .1))
+slice-aggregate-of-returns c = search lent
 
 of-returns-requires : tie.Need-of-returns-requires
 of-returns-requires c κs =

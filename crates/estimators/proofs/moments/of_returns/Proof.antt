@@ -2,9 +2,9 @@
 use mathlib.Core.Path.{sym}
 use native.Mathlib.Omega.{arith}
 use lib.Seq.{length-take-le}
-use Rattle.matrix.proofs.Counts.{square-most}
 use Rattle.estimators.proofs.Samples.{moments-held}
 use borrow.Author.Needs.{needs}
+use Rattle.estimators.proofs.Lent.{lent}
 use Rattle.estimators.proofs.moments.of_returns.Statement.{statement}
 use Rattle.estimators.proofs.moments.of_returns.Tie as tie
 
@@ -12,7 +12,7 @@ add-twice : tie.Need-add-twice
 add-twice c = search needs
 
 mul-size : tie.Need-mul-size
-mul-size c = let h = c .before .pre .1 in omega (arith, square-most h)
+mul-size c = search lent
 
 array-borrow-prefix-units : tie.Need-array-borrow-prefix-units
 array-borrow-prefix-units c = search needs
@@ -24,19 +24,16 @@ array-borrow-prefix-mean : tie.Need-array-borrow-prefix-mean
 array-borrow-prefix-mean c = search needs
 
 slice-aggregate-put-moments-2 : tie.Need-slice-aggregate-put-moments-2
-slice-aggregate-put-moments-2 c = sym (length-take-le _ _ (c .before .before .before .pre .1))
+slice-aggregate-put-moments-2 c = search lent
 
 array-borrow-prefix-covariance : tie.Need-array-borrow-prefix-covariance
-array-borrow-prefix-covariance c = let h = c .before .before .before .pre .1 in square-most h
+array-borrow-prefix-covariance c = search lent
 
 slice-aggregate-put-moments-3 : tie.Need-slice-aggregate-put-moments-3
-slice-aggregate-put-moments-3 c = let h = c .before .before .before .before .pre .1 in sym (length-take-le _ _ (square-most h))
+slice-aggregate-put-moments-3 c = search lent
 
 put-moments-requires : tie.Need-put-moments-requires
-put-moments-requires c κs =
-    let p = c .before .before .before .before .pre in
-    let h = p .1 in
-    (p .0, h, p .2, p .3, p .4, length-take-le _ _ (omega arith), length-take-le _ _ h, length-take-le _ _ (square-most h))
+put-moments-requires c κs = let p = c .before .before .before .before .pre in (p .0, p .1, p .2, p .3, p .4, length-take-le _ _ (omega arith), search lent, search lent)
 
 nearest-u64-to-f64-requires : tie.Need-nearest-u64-to-f64-requires
 nearest-u64-to-f64-requires c κs = search needs

@@ -33,7 +33,7 @@ unfolding first
 returns-5 c = let l = c .before in rw (ne-eqb _ _ (l .before .before .before .if1 .left), le-ltb _ _ (l .before .before .if2 .left), le-ltb _ _ (l .before .if3 .left), le-ltb _ _ (l .if4 .left), ne-eqb _ _ (c .if5 .taken))
 
 needed-requires : tie.Need-needed-requires
-needed-requires c κs = c .before .before .before .if2 .left
+needed-requires c κs = search needs
 
 when-requires : tie.Need-when-requires
 when-requires c κs = search needs

@@ -1,7 +1,6 @@
 -- `estimators::opening::needed` meets its contract, case by case.
-use mir.Facts.{fits-below}
 use borrow.Author.Needs.{needs}
-use Rattle.matrix.proofs.Counts.{square-most}
+use Rattle.estimators.proofs.Lent.{lent}
 use Rattle.estimators.proofs.opening.needed.Statement.{statement}
 use Rattle.estimators.proofs.opening.needed.Tie as tie
 
@@ -9,7 +8,7 @@ enum-told : tie.Need-enum-told
 enum-told c = search needs
 
 mul-result : tie.Need-mul-result
-mul-result c = fits-below tt (square-most (c .before .before .pre))
+mul-result c = search lent
 
 enum-told-2 : tie.Need-enum-told-2
 enum-told-2 c = search needs

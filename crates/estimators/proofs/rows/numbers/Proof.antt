@@ -1,10 +1,10 @@
 -- `estimators::rows::numbers` meets its contract: where there are units, the numbers are formed of the scaled ones.
 use mathlib.Core.Path.{_∙_}
 use native.Mathlib.Omega.{arith}
-use lib.ListN.{length-take}
 use lib.Seq.{length-take-le}
 use Rattle.estimators.proofs.Formed.{scaled-numbers, plain-numbers}
 use borrow.Author.Needs.{needs}
+use Rattle.estimators.proofs.Lent.{lent}
 use Rattle.estimators.proofs.rows.numbers.Statement.{statement}
 use Rattle.estimators.proofs.rows.numbers.Tie as tie
 
@@ -15,10 +15,10 @@ array-borrow-prefix-buffer : tie.Need-array-borrow-prefix-buffer
 array-borrow-prefix-buffer c = search needs
 
 slice-aggregate-scaled : tie.Need-slice-aggregate-scaled
-slice-aggregate-scaled c = simp length-take (omega arith)
+slice-aggregate-scaled c = search lent
 
 scale-requires : tie.Need-scale-requires
-scale-requires c κs = simp length-take (omega arith)
+scale-requires c κs = search lent
 
 entries-requires : tie.Need-entries-requires
 entries-requires c κs = (c .before .before .before .before .scale .kept .1 .1 .0 ∙ length-take-le _ _ (omega arith), search needs)

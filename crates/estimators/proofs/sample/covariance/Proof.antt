@@ -1,10 +1,10 @@
 -- `estimators::sample::covariance` meets its contract: there are no units.
-use mathlib.Core.Path.{sym, _∙_}
-use lib.Seq.{length-take-le}
+use mathlib.Core.Path.{_∙_}
 use Rattle.matrix.specs.Matrix.{at}
 use Rattle.estimators.proofs.Samples.{unit-none}
 use Rattle.estimators.proofs.SameReturns.{covariance-same}
 use borrow.Author.Needs.{needs}
+use Rattle.estimators.proofs.Lent.{tab-long, lent}
 use Rattle.estimators.proofs.sample.covariance.Statement.{statement}
 use Rattle.estimators.proofs.sample.covariance.Tie as tie
 
@@ -12,13 +12,13 @@ array-borrow-prefix-buffer : tie.Need-array-borrow-prefix-buffer
 array-borrow-prefix-buffer c = search needs
 
 slice-aggregate-mean : tie.Need-slice-aggregate-mean
-slice-aggregate-mean c = sym (length-take-le _ _ (c .before .before .before .pre .1))
+slice-aggregate-mean c = search lent
 
 slice-aggregate-means-in : tie.Need-slice-aggregate-means-in
 slice-aggregate-means-in c = search needs
 
 means-in-requires : tie.Need-means-in-requires
-means-in-requires c κs = let h = c .before .before .before .before .before .pre in (h .0, h .1, length-take-le _ _ (h .1))
+means-in-requires c κs = search lent
 
 slice-aggregate-covariance-in : tie.Need-slice-aggregate-covariance-in
 slice-aggregate-covariance-in c = search needs
@@ -26,7 +26,7 @@ slice-aggregate-covariance-in c = search needs
 covariance-in-requires : tie.Need-covariance-in-requires
 covariance-in-requires c κs =
     let h = c .before .before .before .before .before .before .before .before .before .before .before .pre in
-    (h .0, h .1, h .2, c .before .before .before .before .before .means-in .kept .1 .1 .1 .1 .0 ∙ length-take-le _ _ (h .1), h .3)
+    (h .0, h .1, h .2, tab-long _ _ _ (c .before .before .before .before .before .means-in .ensures), h .3)
 
 same-length : tie.Need-same-length
 same-length c = search needs

@@ -3,6 +3,7 @@ use mathlib.Core.Path.{_∙_}
 use Rattle.matrix.specs.Matrix.{at}
 use Rattle.estimators.proofs.Samples.{covariance-of}
 use borrow.Author.Needs.{needs}
+use Rattle.estimators.proofs.Lent.{rows-long}
 use Rattle.estimators.proofs.sample.covariance_in.Statement.{statement}
 use Rattle.estimators.proofs.sample.covariance_in.Tie as tie
 
@@ -29,7 +30,7 @@ returns c h =
     let s = c .before .before .before .before .before .before .before in
     let a = s .before .before .before .before .before .before .before .args in
     c .before .before .divide .ensures
-    ∙ covariance-of _ (a .n) (a .periods) (a .units .now) (a .means .now) _ (at (a .r .now) (a .n)) _ _ (s .gram .kept .1 .1 .1 .1 .1 .1 .1 .0 ∙ s .before .before .before .before .before .before .before .pre .4) (c .before .before .before .before .nearest-u64-to-f64 .ensures) (s .gram .ensures) h
+    ∙ covariance-of _ (a .n) (a .periods) (a .units .now) (a .means .now) _ (at (a .r .now) (a .n)) _ _ (rows-long _ _ _ (s .gram .ensures)) (c .before .before .before .before .nearest-u64-to-f64 .ensures) (s .gram .ensures) h
 
 pub covariance-in-spec : {M : Type 1} → statement M
 covariance-in-spec = tie.close (tie.spec slice-aggregate-gram gram-requires sub-nearest-u64-to-f64 nearest-u64-to-f64-requires divide-requires same-length returns)

@@ -1,9 +1,9 @@
 -- `estimators::sample::largest` meets its contract: there are no units, and the rows are the returns.
-use mathlib.Core.Path.{sym, _∙_}
-use lib.Seq.{length-take-le}
+use mathlib.Core.Path.{_∙_}
 use Rattle.matrix.specs.Matrix.{at}
 use Rattle.estimators.proofs.Samples.{largest-of}
 use borrow.Author.Needs.{needs}
+use Rattle.estimators.proofs.Lent.{lent}
 use Rattle.estimators.proofs.sample.largest.Statement.{statement}
 use Rattle.estimators.proofs.sample.largest.Tie as tie
 
@@ -14,13 +14,13 @@ array-share-prefix-zeros : tie.Need-array-share-prefix-zeros
 array-share-prefix-zeros c = search needs
 
 slice-aggregate-largest-2 : tie.Need-slice-aggregate-largest-2
-slice-aggregate-largest-2 c = sym (length-take-le _ _ (c .before .before .before .before .pre .1))
+slice-aggregate-largest-2 c = search lent
 
 slice-aggregate-largest-3 : tie.Need-slice-aggregate-largest-3
 slice-aggregate-largest-3 c = search needs
 
 largest-requires : tie.Need-largest-requires
-largest-requires c κs = let h = c .before .before .before .before .before .before .pre in (h .0, h .1, length-take-le _ _ (h .1), h .2)
+largest-requires c κs = search lent
 
 same-length : tie.Need-same-length
 same-length c = search needs

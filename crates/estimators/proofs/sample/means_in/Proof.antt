@@ -1,9 +1,9 @@
 -- `estimators::sample::means_in` meets its contract: the columns' sums over the count of periods.
-use mathlib.Core.Path.{sym, _∙_}
-use lib.Seq.{length-take-le}
+use mathlib.Core.Path.{_∙_}
 use Rattle.matrix.specs.Matrix.{at}
 use Rattle.estimators.proofs.Samples.{means-of}
 use borrow.Author.Needs.{needs}
+use Rattle.estimators.proofs.Lent.{tab-long, lent}
 use Rattle.estimators.proofs.sample.means_in.Statement.{statement}
 use Rattle.estimators.proofs.sample.means_in.Tie as tie
 
@@ -11,13 +11,13 @@ array-share-prefix-zeros : tie.Need-array-share-prefix-zeros
 array-share-prefix-zeros c = search needs
 
 slice-aggregate-sum : tie.Need-slice-aggregate-sum
-slice-aggregate-sum c = sym (length-take-le _ _ (c .before .before .before .before .pre .1))
+slice-aggregate-sum c = search lent
 
 slice-aggregate-sum-2 : tie.Need-slice-aggregate-sum-2
 slice-aggregate-sum-2 c = search needs
 
 sum-requires : tie.Need-sum-requires
-sum-requires c κs = let h = c .before .before .before .before .before .before .pre in (h .0, h .1, length-take-le _ _ (h .1), h .2)
+sum-requires c κs = search lent
 
 nearest-u64-to-f64-requires : tie.Need-nearest-u64-to-f64-requires
 nearest-u64-to-f64-requires c κs = search needs
@@ -33,7 +33,7 @@ returns c =
     let s = c .before .before .before .before .before .before .before in
     let a = s .before .before .before .before .before .before .before .args in
     c .before .before .divide .ensures
-    ∙ means-of _ (a .n) (a .periods) (a .units .now) _ _ (at (a .r .now) (a .n)) _ _ (s .sum .kept .1 .1 .1 .1 .1 .1 .1 .0 ∙ s .before .before .before .before .before .before .before .pre .2) (c .before .before .before .before .nearest-u64-to-f64 .ensures) (s .sum .ensures)
+    ∙ means-of _ (a .n) (a .periods) (a .units .now) _ _ (at (a .r .now) (a .n)) _ _ (tab-long _ _ _ (s .sum .ensures)) (c .before .before .before .before .nearest-u64-to-f64 .ensures) (s .sum .ensures)
 
 pub means-in-spec : {M : Type 1} → statement M
 means-in-spec = tie.close (tie.spec array-share-prefix-zeros slice-aggregate-sum slice-aggregate-sum-2 sum-requires nearest-u64-to-f64-requires divide-requires same-length returns)

@@ -1,5 +1,5 @@
 -- `estimators::sample::put_volatilities` meets its contract. The invariant: every number passed is the square root of its variance.
-use Prim.Native.Nat.{_-_}
+use Prim.Native.Nat.{_+_, _-_, _*_, _≤_}
 use native.Mathlib.Omega.{arith}
 use Rattle.leaves.proofs.Loops.{row}
 use Rattle.leaves.proofs.Invariants.{Filled, filled-more, filled-whole, filled-none}
@@ -15,20 +15,24 @@ Inv-loop s n out₀ i₀ out i = Filled (volatility (at s n)) i n out₀ out
 abbrev μ-loop : tie.MeasureT-loop
 μ-loop s n out₀ i₀ out i = n - i
 
+-- row i lies within the table
+fits : (c : tie.In-loop Inv-loop μ-loop) → let n = c .before .before .before .before .args .n in c .before .loop .i * n + n ≤ n * n
+fits c = row _ _ _ (c .loop-test .taken)
+
 loop-holds : tie.Need-loop-holds Inv-loop μ-loop
 loop-holds c = filled-none _ _ _
 
 mul-sqrt : tie.Need-mul-sqrt Inv-loop μ-loop
-mul-sqrt c = omega (arith, row _ _ (c .before .before .before .before .args .n) (c .loop-test .taken))
+mul-sqrt c = omega (arith, fits c)
 
 add-sqrt : tie.Need-add-sqrt Inv-loop μ-loop
-add-sqrt c = omega (arith, row _ _ (c .before .before .before .before .args .n) (c .loop-test .taken))
+add-sqrt c = omega (arith, fits c)
 
 mul-sqrt-2 : tie.Need-mul-sqrt-2 Inv-loop μ-loop
-mul-sqrt-2 c = omega (arith, row _ _ (c .before .before .before .before .args .n) (c .loop-test .taken))
+mul-sqrt-2 c = omega (arith, fits c)
 
 shared-slice-read-sqrt : tie.Need-shared-slice-read-sqrt Inv-loop μ-loop
-shared-slice-read-sqrt c = omega (arith, row _ _ (c .before .before .before .before .before .args .n) (c .before .loop-test .taken))
+shared-slice-read-sqrt c = omega (arith, fits (c .before))
 
 sqrt-requires : tie.Need-sqrt-requires Inv-loop μ-loop
 sqrt-requires c κs = search needs
@@ -49,7 +53,7 @@ loop-again : tie.Need-loop-again Inv-loop μ-loop
 loop-again c = filled-more (c .before .before .before .loop .inv) (c .before .before .loop-test .taken) (omega arith) (c .sqrt .ensures)
 
 same-length : tie.Need-same-length Inv-loop μ-loop
-same-length c = c .before .loop .inv .len
+same-length c = search needs
 
 returns : tie.Need-returns Inv-loop μ-loop
 returns c = filled-whole (c .before .loop .inv) (c .loop-test .left) (c .before .before .before .before .pre .1)

@@ -1,5 +1,5 @@
 -- `estimators::scales::put_exponents` meets its contract. The invariant: the numbers passed have theirs, each of an f64's size.
-use mathlib.Core.Path.{_≡_, refl, sym, ap, _∙_, subst}
+use mathlib.Core.Path.{_≡_, refl, sym, _∙_, subst}
 use mathlib.Core.List.{List}
 use mathlib.Core.Logic.{⊎-elim}
 use Prim.Native.Nat.{ℕ, _+_, _-_, _≤_, _<_}
@@ -12,9 +12,9 @@ use Rattle.leaves.proofs.Invariants.{Filled, filled-more, filled-whole, filled-
 use Rattle.leaves.specs.Scaling.{binaryExponent}
 use Rattle.leaves.proofs.Whole.{le-or-lt}
 use Rattle.leaves.proofs.Ints.{back-i32}
-use Rattle.leaves.proofs.Loops.{length-tab}
 use Rattle.estimators.specs.Exponents.{maxExponent, Exponents}
 use Rattle.estimators.proofs.Stored.{getD-stored}
+use Rattle.estimators.proofs.Lent.{tab-long}
 use Rattle.estimators.proofs.scales.put_exponents.Statement.{statement}
 use Rattle.estimators.proofs.scales.put_exponents.Tie as tie
 
@@ -31,7 +31,7 @@ sized-more f k h e i l =
 
 sized-all : (f : ℕ → ℤ) (n k : ℕ) (out : List ℤ) → out ≡ tab n f → n ≤ k → Sized f k → Exponents out
 sized-all f n k out e h s i l =
-    let b : i < n = omega (arith, ap length e, length-tab f n) in
+    let b : i < n = omega (arith, tab-long n f out e) in
     subst (λ (z : ℤ). natAbs z ≤ maxExponent) (sym (getD-stored n f (pos 0) e i b)) (s i (omega arith))
 
 abbrev Inv-loop : tie.InvT-loop

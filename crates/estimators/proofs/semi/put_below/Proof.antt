@@ -3,6 +3,7 @@ use mathlib.Core.Path.{_∙_}
 use Rattle.matrix.specs.Matrix.{at}
 use Rattle.estimators.proofs.Grams.{below-over}
 use borrow.Author.Needs.{needs}
+use Rattle.estimators.proofs.Lent.{rows-long}
 use Rattle.estimators.proofs.semi.put_below.Statement.{statement}
 use Rattle.estimators.proofs.semi.put_below.Tie as tie
 
@@ -28,7 +29,7 @@ returns : tie.Need-returns
 returns c =
     let g = c .before .before .before .before .before .before .before .gram in
     let a = c .before .before .before .before .before .before .before .before .before .before .before .before .before .before .args in
-    λ f e. c .before .before .divide .ensures ∙ below-over (a .periods) (a .n) _ (a .degrees) (at (a .r .now) (a .n)) f (g .kept .1 .1 .1 .1 .1 .1 .1 .0 ∙ c .before .before .before .before .before .before .before .before .before .before .before .before .before .before .pre .3) (c .before .before .before .before .nearest-u64-to-f64 .ensures) e (g .ensures)
+    λ f e. c .before .before .divide .ensures ∙ below-over (a .periods) (a .n) _ (a .degrees) (at (a .r .now) (a .n)) f (rows-long _ _ _ (g .ensures)) (c .before .before .before .before .nearest-u64-to-f64 .ensures) e (g .ensures)
 
 pub put-below-spec : {M : Type 1} → statement M
 put-below-spec = tie.close (tie.spec slice-aggregate-gram slice-aggregate-gram-2 gram-requires nearest-u64-to-f64-requires divide-requires same-length returns)

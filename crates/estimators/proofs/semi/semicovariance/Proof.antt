@@ -1,10 +1,9 @@
 -- `estimators::semi::semicovariance` meets its contract: below the means.
-use mathlib.Core.Path.{sym, _∙_}
-use lib.Seq.{length-take-le}
 use Rattle.matrix.specs.Matrix.{at}
 use Rattle.estimators.specs.Sample.{mean}
 use Rattle.estimators.specs.Semi.{semicovariance}
 use borrow.Author.Needs.{needs}
+use Rattle.estimators.proofs.Lent.{lent}
 use Rattle.estimators.proofs.semi.semicovariance.Statement.{statement}
 use Rattle.estimators.proofs.semi.semicovariance.Tie as tie
 
@@ -12,16 +11,16 @@ array-borrow-prefix-buffer : tie.Need-array-borrow-prefix-buffer
 array-borrow-prefix-buffer c = search needs
 
 slice-aggregate-means : tie.Need-slice-aggregate-means
-slice-aggregate-means c = sym (length-take-le _ _ (c .before .before .before .pre .1))
+slice-aggregate-means c = search lent
 
 means-requires : tie.Need-means-requires
-means-requires c κs = let h = c .before .before .before .before .pre in (h .0, h .1, length-take-le _ _ (h .1))
+means-requires c κs = search lent
 
 sub-put-below : tie.Need-sub-put-below
 sub-put-below c = search needs
 
 put-below-requires : tie.Need-put-below-requires
-put-below-requires c κs = let h = c .before .before .before .before .before .before .before .before .before .pre in (h .0, h .1, c .before .before .before .before .means .kept .1 .1 .1 .0 ∙ length-take-le _ _ (h .1), h .3)
+put-below-requires c κs = search lent
 
 same-length : tie.Need-same-length
 same-length c = search needs

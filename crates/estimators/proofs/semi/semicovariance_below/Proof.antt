@@ -1,10 +1,11 @@
 -- `estimators::semi::semicovariance_below` meets its contract: below the threshold, the same for every asset.
-use mathlib.Core.Path.{sym, ap, _∙_}
+use mathlib.Core.Path.{ap, _∙_}
 use Prim.Native.Nat.{ℕ}
 use lib.Seq.{length-take-le}
 use Rattle.leaves.specs.Loops.{tab}
 use Rattle.estimators.specs.Semi.{semicovarianceBelow}
 use borrow.Author.Needs.{needs}
+use Rattle.estimators.proofs.Lent.{lent}
 use Rattle.estimators.proofs.semi.semicovariance_below.Statement.{statement}
 use Rattle.estimators.proofs.semi.semicovariance_below.Tie as tie
 
@@ -12,7 +13,7 @@ array-borrow-prefix-buffer : tie.Need-array-borrow-prefix-buffer
 array-borrow-prefix-buffer c = search needs
 
 slice-aggregate-floors : tie.Need-slice-aggregate-floors
-slice-aggregate-floors c = sym (length-take-le _ _ (c .before .before .before .pre .1))
+slice-aggregate-floors c = search lent
 
 fill-requires : tie.Need-fill-requires
 fill-requires c κs = search needs

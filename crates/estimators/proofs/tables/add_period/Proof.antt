@@ -1,10 +1,9 @@
 -- `estimators::tables::add_period` meets its contract: the row that is added is the period's.
-use mathlib.Core.Path.{sym, _∙_}
-use native.Mathlib.Omega.{arith}
-use lib.Seq.{length-take-le}
+use mathlib.Core.Path.{_∙_}
 use Rattle.matrix.specs.Matrix.{at}
 use Rattle.estimators.proofs.Sums.{period-added}
 use borrow.Author.Needs.{needs}
+use Rattle.estimators.proofs.Lent.{lent}
 use Rattle.estimators.proofs.tables.add_period.Statement.{statement}
 use Rattle.estimators.proofs.tables.add_period.Tie as tie
 
@@ -12,17 +11,13 @@ array-borrow-prefix-buffer : tie.Need-array-borrow-prefix-buffer
 array-borrow-prefix-buffer c = search needs
 
 slice-aggregate-d : tie.Need-slice-aggregate-d
-slice-aggregate-d c = sym (length-take-le _ _ (omega arith))
+slice-aggregate-d c = search lent
 
 form-requires : tie.Need-form-requires
-form-requires c κs =
-    let h = c .before .before .before .before .before .before .before .before .pre in
-    (h .0, h .1, h .2, h .3, length-take-le _ _ (omega arith))
+form-requires c κs = search lent
 
 add-rows-requires : tie.Need-add-rows-requires
-add-rows-requires c κs =
-    let h = c .before .before .before .before .before .before .before .before .before .before .before .before .before .pre in
-    (c .before .before .before .before .form .kept .1 .1 .1 .1 .1 .1 .1 .1 .0 ∙ length-take-le _ _ (omega arith), h .4, h .5)
+add-rows-requires c κs = search lent
 
 same-length : tie.Need-same-length
 same-length c = search needs

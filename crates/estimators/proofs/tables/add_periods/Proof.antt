@@ -1,10 +1,10 @@
 -- `estimators::tables::add_periods` meets its contract: the rows that are added are the two periods'.
-use mathlib.Core.Path.{sym, _∙_}
+use mathlib.Core.Path.{_∙_}
 use native.Mathlib.Omega.{arith}
-use lib.Seq.{length-take-le}
 use Rattle.matrix.specs.Matrix.{at}
 use Rattle.estimators.proofs.Sums.{periods-added}
 use borrow.Author.Needs.{needs}
+use Rattle.estimators.proofs.Lent.{tab-long, lent}
 use Rattle.estimators.proofs.tables.add_periods.Statement.{statement}
 use Rattle.estimators.proofs.tables.add_periods.Tie as tie
 
@@ -12,33 +12,31 @@ array-borrow-prefix-buffer : tie.Need-array-borrow-prefix-buffer
 array-borrow-prefix-buffer c = search needs
 
 slice-aggregate-d : tie.Need-slice-aggregate-d
-slice-aggregate-d c = sym (length-take-le _ _ (omega arith))
+slice-aggregate-d c = search lent
 
 array-borrow-prefix-other : tie.Need-array-borrow-prefix-other
 array-borrow-prefix-other c = search needs
 
 slice-aggregate-e : tie.Need-slice-aggregate-e
-slice-aggregate-e c = sym (length-take-le _ _ (omega arith))
+slice-aggregate-e c = search lent
 
 form-requires : tie.Need-form-requires
 form-requires c κs =
     let h = c .before .before .before .before .before .before .before .before .before .pre in
-    (h .0, h .1, omega arith, h .3, length-take-le _ _ (omega arith))
+    (h .0, h .1, omega arith, h .3, search lent)
 
 add-form : tie.Need-add-form
 add-form c = search needs
 
 form-requires-2 : tie.Need-form-requires-2
-form-requires-2 c κs =
-    let h = c .before .before .before .before .before .before .before .before .before .before .before .before .before .pre in
-    (h .0, h .1, h .2, h .3, length-take-le _ _ (omega arith))
+form-requires-2 c κs = search lent
 
 add-rows2-requires : tie.Need-add-rows2-requires
 add-rows2-requires c κs =
     let f = c .before .before .before .before .before in
     let g = f .before .before .before .before in
     let h = g .before .before .before .before .before .before .before .before .before .before .pre in
-    (g .form .kept .1 .1 .1 .1 .1 .1 .1 .1 .0 ∙ length-take-le _ _ (omega arith), f .form2 .kept .1 .1 .1 .1 .1 .1 .1 .1 .0 ∙ length-take-le _ _ (omega arith), h .4, h .5)
+    (tab-long _ _ _ (g .form .ensures), tab-long _ _ _ (f .form2 .ensures), h .4, h .5)
 
 same-length : tie.Need-same-length
 same-length c = search needs

@@ -1,15 +1,11 @@
 -- `estimators::tables::add_row` meets its contract: its part of the table is row i from its first column on.
-use mathlib.Core.Path.{_≡_, refl}
-use Prim.Native.Nat.{ℕ, _+_, _*_, _≤_}
+use mathlib.Core.Path.{refl}
+use Prim.Native.Nat.{_+_, _*_, _≤_}
 use native.Mathlib.Omega.{arith}
-use Rattle.estimators.specs.Rows.{start}
 use Rattle.estimators.proofs.Sums.{row-room, part-of, part-sized, row-added}
 use borrow.Author.Needs.{needs}
 use Rattle.estimators.proofs.tables.add_row.Statement.{statement}
 use Rattle.estimators.proofs.tables.add_row.Tie as tie
-
-room : (s : tie.Start) {from : ℕ} → from ≡ start (s .args .term) (s .args .i) → (s .args .i * s .args .n + s .args .n ≤ s .args .n * s .args .n) × (from ≤ s .args .i)
-room s e = row-room (s .args .term) (s .args .i) (s .args .n) _ (s .pre .0) e
 
 factor-requires : tie.Need-factor-requires
 factor-requires c κs = search needs
@@ -17,38 +13,42 @@ factor-requires c κs = search needs
 start-requires : tie.Need-start-requires
 start-requires c κs = search needs
 
+-- row i and its first column lie within the table
+room : (c : tie.After-start) → let a = c .before .before .before .before .before .args in (a .i * a .n + a .n ≤ a .n * a .n) × (c .start .result ≤ a .i)
+room c = let s = c .before .before .before .before .before in row-room (s .args .term) (s .args .i) (s .args .n) _ (s .pre .0) (c .start .ensures)
+
 mul-base : tie.Need-mul-base
-mul-base c = omega (arith, room (c .before .before .before .before .before) (c .start .ensures))
+mul-base c = omega (arith, room c)
 
 add-begin : tie.Need-add-begin
-add-begin c = omega (arith, room (c .before .before .before .before .before) (c .start .ensures))
+add-begin c = omega (arith, room c)
 
 add-end : tie.Need-add-end
-add-end c = omega (arith, room (c .before .before .before .before .before) (c .start .ensures))
+add-end c = omega (arith, room c)
 
 mul-add-terms : tie.Need-mul-add-terms
-mul-add-terms c = omega (arith, room (c .before .before .before .before .before) (c .start .ensures))
+mul-add-terms c = omega (arith, room c)
 
 sub-add-terms : tie.Need-sub-add-terms
-sub-add-terms c = omega (arith, room (c .before .before .before .before .before) (c .start .ensures))
+sub-add-terms c = omega (arith, room c)
 
 part-add-terms-start : tie.Need-part-add-terms-start
-part-add-terms-start c = omega (arith, room (c .before .before .before .before .before) (c .start .ensures))
+part-add-terms-start c = omega (arith, room c)
 
 part-add-terms-end : tie.Need-part-add-terms-end
-part-add-terms-end c = omega (arith, room (c .before .before .before .before .before) (c .start .ensures))
+part-add-terms-end c = search needs
 
 mul-add-terms-2 : tie.Need-mul-add-terms-2
-mul-add-terms-2 c = omega (arith, room (c .before .before .before .before .before .before) (c .before .start .ensures))
+mul-add-terms-2 c = omega (arith, room (c .before))
 
 sub-add-terms-2 : tie.Need-sub-add-terms-2
-sub-add-terms-2 c = omega (arith, room (c .before .before .before .before .before .before) (c .before .start .ensures))
+sub-add-terms-2 c = omega (arith, room (c .before))
 
 part-add-terms-start-2 : tie.Need-part-add-terms-start-2
-part-add-terms-start-2 c = omega (arith, room (c .before .before .before .before .before .before) (c .before .start .ensures))
+part-add-terms-start-2 c = omega (arith, room (c .before))
 
 part-add-terms-end-2 : tie.Need-part-add-terms-end-2
-part-add-terms-end-2 c = omega (arith, room (c .before .before .before .before .before .before) (c .before .start .ensures))
+part-add-terms-end-2 c = omega (arith, room (c .before))
 
 add-terms-requires : tie.Need-add-terms-requires
 add-terms-requires c κs =

@@ -1,15 +1,11 @@
 -- `estimators::tables::add_row2` meets its contract: its part of the table is row i from its first column on.
-use mathlib.Core.Path.{_≡_, refl}
-use Prim.Native.Nat.{ℕ, _+_, _*_, _≤_}
+use mathlib.Core.Path.{refl}
+use Prim.Native.Nat.{_+_, _*_, _≤_}
 use native.Mathlib.Omega.{arith}
-use Rattle.estimators.specs.Rows.{start}
 use Rattle.estimators.proofs.Sums.{row-room, part-of, part-sized, row-added-two}
 use borrow.Author.Needs.{needs}
 use Rattle.estimators.proofs.tables.add_row2.Statement.{statement}
 use Rattle.estimators.proofs.tables.add_row2.Tie as tie
-
-room : (s : tie.Start) {from : ℕ} → from ≡ start (s .args .term) (s .args .i) → (s .args .i * s .args .n + s .args .n ≤ s .args .n * s .args .n) × (from ≤ s .args .i)
-room s e = row-room (s .args .term) (s .args .i) (s .args .n) _ (s .pre .0) e
 
 factor-requires : tie.Need-factor-requires
 factor-requires c κs = search needs
@@ -20,50 +16,54 @@ factor-requires-2 c κs = search needs
 start-requires : tie.Need-start-requires
 start-requires c κs = search needs
 
+-- row i and its first column lie within the table
+room : (c : tie.After-start) → let a = c .before .before .before .before .before .before .before .args in (a .i * a .n + a .n ≤ a .n * a .n) × (c .start .result ≤ a .i)
+room c = let s = c .before .before .before .before .before .before .before in row-room (s .args .term) (s .args .i) (s .args .n) _ (s .pre .0) (c .start .ensures)
+
 mul-base : tie.Need-mul-base
-mul-base c = omega (arith, room (c .before .before .before .before .before .before .before) (c .start .ensures))
+mul-base c = omega (arith, room c)
 
 add-begin : tie.Need-add-begin
-add-begin c = omega (arith, room (c .before .before .before .before .before .before .before) (c .start .ensures))
+add-begin c = omega (arith, room c)
 
 add-end : tie.Need-add-end
-add-end c = omega (arith, room (c .before .before .before .before .before .before .before) (c .start .ensures))
+add-end c = omega (arith, room c)
 
 mul-add-terms2 : tie.Need-mul-add-terms2
-mul-add-terms2 c = omega (arith, room (c .before .before .before .before .before .before .before) (c .start .ensures))
+mul-add-terms2 c = omega (arith, room c)
 
 sub-add-terms2 : tie.Need-sub-add-terms2
-sub-add-terms2 c = omega (arith, room (c .before .before .before .before .before .before .before) (c .start .ensures))
+sub-add-terms2 c = omega (arith, room c)
 
 part-add-terms2-start : tie.Need-part-add-terms2-start
-part-add-terms2-start c = omega (arith, room (c .before .before .before .before .before .before .before) (c .start .ensures))
+part-add-terms2-start c = omega (arith, room c)
 
 part-add-terms2-end : tie.Need-part-add-terms2-end
-part-add-terms2-end c = omega (arith, room (c .before .before .before .before .before .before .before) (c .start .ensures))
+part-add-terms2-end c = search needs
 
 mul-add-terms2-2 : tie.Need-mul-add-terms2-2
-mul-add-terms2-2 c = omega (arith, room (c .before .before .before .before .before .before .before .before) (c .before .start .ensures))
+mul-add-terms2-2 c = omega (arith, room (c .before))
 
 sub-add-terms2-2 : tie.Need-sub-add-terms2-2
-sub-add-terms2-2 c = omega (arith, room (c .before .before .before .before .before .before .before .before) (c .before .start .ensures))
+sub-add-terms2-2 c = omega (arith, room (c .before))
 
 part-add-terms2-start-2 : tie.Need-part-add-terms2-start-2
-part-add-terms2-start-2 c = omega (arith, room (c .before .before .before .before .before .before .before .before) (c .before .start .ensures))
+part-add-terms2-start-2 c = omega (arith, room (c .before))
 
 part-add-terms2-end-2 : tie.Need-part-add-terms2-end-2
-part-add-terms2-end-2 c = omega (arith, room (c .before .before .before .before .before .before .before .before) (c .before .start .ensures))
+part-add-terms2-end-2 c = search needs
 
 mul-add-terms2-3 : tie.Need-mul-add-terms2-3
-mul-add-terms2-3 c = omega (arith, room (c .before .before .before .before .before .before .before .before .before) (c .before .before .start .ensures))
+mul-add-terms2-3 c = omega (arith, room (c .before .before))
 
 sub-add-terms2-3 : tie.Need-sub-add-terms2-3
-sub-add-terms2-3 c = omega (arith, room (c .before .before .before .before .before .before .before .before .before) (c .before .before .start .ensures))
+sub-add-terms2-3 c = omega (arith, room (c .before .before))
 
 part-add-terms2-start-3 : tie.Need-part-add-terms2-start-3
-part-add-terms2-start-3 c = omega (arith, room (c .before .before .before .before .before .before .before .before .before) (c .before .before .start .ensures))
+part-add-terms2-start-3 c = omega (arith, room (c .before .before))
 
 part-add-terms2-end-3 : tie.Need-part-add-terms2-end-3
-part-add-terms2-end-3 c = omega (arith, room (c .before .before .before .before .before .before .before .before .before) (c .before .before .start .ensures))
+part-add-terms2-end-3 c = omega (arith, room (c .before .before))
 
 add-terms2-requires : tie.Need-add-terms2-requires
 add-terms2-requires c κs =

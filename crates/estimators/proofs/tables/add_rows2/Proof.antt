@@ -1,7 +1,6 @@
 -- `estimators::tables::add_rows2` meets its contract. The invariant: the rows of the table passed have theirs added.
 use mathlib.Core.Path.{_≡_, refl}
-use Prim.Native.Nat.{_-_, _≤_}
-use native.Mathlib.Omega.{arith}
+use Prim.Native.Nat.{_-_}
 use borrow.Author.Needs.{needs}
 use lib.ListN.{length}
 use Rattle.leaves.specs.Loops.{nth}
@@ -12,13 +11,13 @@ use Rattle.estimators.proofs.tables.add_rows2.Statement.{statement}
 use Rattle.estimators.proofs.tables.add_rows2.Tie as tie
 
 abbrev Inv-loop : tie.InvT-loop
-Inv-loop term n d e s out₀ i₀ out i = (i ≤ n) × (length out ≡ length out₀) × (out ≡ passed n i (λ p q. plus term (at s n) (nth e) p q (plus term (at s n) (nth d) p q (at out₀ n p q))) out₀)
+Inv-loop term n d e s out₀ i₀ out i = (length out ≡ length out₀) × (out ≡ passed n i (λ p q. plus term (at s n) (nth e) p q (plus term (at s n) (nth d) p q (at out₀ n p q))) out₀)
 
 abbrev μ-loop : tie.MeasureT-loop
 μ-loop term n d e s out₀ i₀ out i = n - i
 
 loop-holds : tie.Need-loop-holds Inv-loop μ-loop
-loop-holds c = (omega arith, refl, passed-none _ _ _ (c .before .before .before .before .pre .3))
+loop-holds c = (refl, passed-none _ _ _ (c .before .before .before .before .pre .3))
 
 add-row2-requires : tie.Need-add-row2-requires Inv-loop μ-loop
 add-row2-requires c κs = search needs
@@ -32,13 +31,13 @@ loop-less c = search needs
 loop-again : tie.Need-loop-again Inv-loop μ-loop
 loop-again c =
     let a = c .before .before .before .before .before .before .before .before .before .before .args in
-    (omega arith, search needs, each-more (a .n) _ (λ p q v. plus (a .term) (at (a .s .now) (a .n)) (nth (a .e .now)) p q (plus (a .term) (at (a .s .now) (a .n)) (nth (a .d .now)) p q v)) (a .out .now) _ _ (c .before .before .before .before .before .loop .inv .2) (c .before .before .add-row2 .ensures))
+    (search needs, each-more (a .n) _ (λ p q v. plus (a .term) (at (a .s .now) (a .n)) (nth (a .e .now)) p q (plus (a .term) (at (a .s .now) (a .n)) (nth (a .d .now)) p q v)) (a .out .now) _ _ (c .before .before .before .before .before .loop .inv .1) (c .before .before .add-row2 .ensures))
 
 same-length : tie.Need-same-length Inv-loop μ-loop
 same-length c = search needs
 
 returns : tie.Need-returns Inv-loop μ-loop
-returns c = passed-all _ _ (c .before .before .before .before .before .before .args .out .now) _ _ (c .before .loop .inv .0) (c .loop-test .left) (c .before .loop .inv .2)
+returns c = passed-all _ _ (c .before .before .before .before .before .before .args .out .now) _ _ (c .loop-test .left) (c .before .loop .inv .1)
 
 pub add-rows2-spec : {M : Type 1} → statement M
 add-rows2-spec = tie.close (tie.spec Inv-loop μ-loop loop-holds add-row2-requires add-i loop-less loop-again same-length returns)

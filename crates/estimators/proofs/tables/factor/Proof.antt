@@ -1,18 +1,12 @@
 -- `estimators::tables::factor` meets its contract: each arm returns what `factor` says of its case.
-use mathlib.Core.Path.{_≡_}
 use Prim.Native.Nat.{_+_, _*_, _<_}
 use native.Mathlib.Omega.{arith}
 use lib.ListN.{length}
 use Rattle.leaves.proofs.Loops.{row}
 use Rattle.estimators.specs.Rows as Rows
-use Rattle.estimators.specs.declared.tables.Term.the-variants.{Cube}
 use borrow.Author.Needs.{needs}
 use Rattle.estimators.proofs.tables.factor.Statement.{statement}
 use Rattle.estimators.proofs.tables.factor.Tie as tie
-
--- s has a diagonal where it is read
-inside : (a : tie.Start) → a .args .term ≡ Cube → a .args .i * a .args .n + a .args .i < length (a .args .s .now)
-inside a e = omega (arith, row (a .args .i) (a .args .n) (a .args .n) (a .pre .0), rw e at (a .pre .2))
 
 mul-x : tie.Need-mul-x
 mul-x c = search needs
@@ -29,17 +23,21 @@ enum-told-2 c = search needs
 enum-told-3 : tie.Need-enum-told-3
 enum-told-3 c = search needs
 
+-- s has a diagonal where it is read
+inside : (c : tie.After-enum-told3) → let a = c .before .before .before .args in a .i * a .n + a .i < length (a .s .now)
+inside c = let s = c .before .before .before in omega (arith, row (s .args .i) (s .args .n) (s .args .n) (s .pre .0), rw (c .enum-told3 .given .1) at (s .pre .2))
+
 mul-result : tie.Need-mul-result
-mul-result c = omega (arith, inside (c .before .before .before) (c .enum-told3 .given .1))
+mul-result c = omega (arith, inside c)
 
 add-result : tie.Need-add-result
-add-result c = omega (arith, inside (c .before .before .before) (c .enum-told3 .given .1))
+add-result c = omega (arith, inside c)
 
 mul-result-2 : tie.Need-mul-result-2
-mul-result-2 c = omega (arith, inside (c .before .before .before) (c .enum-told3 .given .1))
+mul-result-2 c = omega (arith, inside c)
 
 shared-slice-read-result : tie.Need-shared-slice-read-result
-shared-slice-read-result c = inside (c .before .before .before .before) (c .before .enum-told3 .given .1)
+shared-slice-read-result c = inside (c .before)
 
 returns : tie.Need-returns
 unfolding Rows.factor

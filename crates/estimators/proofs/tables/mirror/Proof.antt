@@ -1,7 +1,6 @@
 -- `estimators::tables::mirror` meets its contract. The invariant: the rows passed are mirrored.
 use mathlib.Core.Path.{_≡_, _∙_}
-use Prim.Native.Nat.{_*_, _-_, _≤_}
-use native.Mathlib.Omega.{arith}
+use Prim.Native.Nat.{_*_, _-_}
 use borrow.Author.Needs.{needs}
 use lib.ListN.{length}
 use Rattle.estimators.proofs.Stored.{passed, passed-none, passed-all}
@@ -11,13 +10,13 @@ use Rattle.estimators.proofs.tables.mirror.Statement.{statement}
 use Rattle.estimators.proofs.tables.mirror.Tie as tie
 
 abbrev Inv-loop : tie.InvT-loop
-Inv-loop n out₀ i₀ out i = (i ≤ n) × (length out ≡ n * n) × (out ≡ passed n i (mirrored n out₀) out₀)
+Inv-loop n out₀ i₀ out i = (length out ≡ n * n) × (out ≡ passed n i (mirrored n out₀) out₀)
 
 abbrev μ-loop : tie.MeasureT-loop
 μ-loop n out₀ i₀ out i = n - i
 
 loop-holds : tie.Need-loop-holds Inv-loop μ-loop
-loop-holds c = (omega arith, c .before .pre, passed-none _ _ _ (c .before .pre))
+loop-holds c = (c .before .pre, passed-none _ _ _ (c .before .pre))
 
 mirror-row-requires : tie.Need-mirror-row-requires Inv-loop μ-loop
 mirror-row-requires c κs = search needs
@@ -32,13 +31,13 @@ loop-again : tie.Need-loop-again Inv-loop μ-loop
 loop-again c =
     let i = c .before .before .before .before .before .loop .inv in
     let a = c .before .before .before .before .before .before .before .args in
-    (omega arith, c .before .before .mirror-row .kept .1 .1 .0 ∙ i .1, mirrored-more (a .n) _ (a .out .now) _ _ (i .2) (c .before .before .mirror-row .ensures))
+    (c .before .before .mirror-row .kept .1 .1 .0 ∙ i .0, mirrored-more (a .n) _ (a .out .now) _ _ (i .1) (c .before .before .mirror-row .ensures))
 
 same-length : tie.Need-same-length Inv-loop μ-loop
 same-length c = search needs
 
 returns : tie.Need-returns Inv-loop μ-loop
-returns c = passed-all _ _ (c .before .before .before .args .out .now) _ _ (c .before .loop .inv .0) (c .loop-test .left) (c .before .loop .inv .2)
+returns c = passed-all _ _ (c .before .before .before .args .out .now) _ _ (c .loop-test .left) (c .before .loop .inv .1)
 
 pub mirror-spec : {M : Type 1} → statement M
 mirror-spec = tie.close (tie.spec Inv-loop μ-loop loop-holds mirror-row-requires add-i loop-less loop-again same-length returns)

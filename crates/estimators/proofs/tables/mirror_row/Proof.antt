@@ -23,17 +23,21 @@ mul-base c = omega (arith, row _ _ (c .args .n) (c .pre .0))
 loop-holds : tie.Need-loop-holds Inv-loop μ-loop
 loop-holds c = (omega arith, c .pre .1, refl, row _ _ _ (c .pre .0), mirror-none _ _ _ (c .pre .1))
 
+-- row j lies above row i
+fits : (c : tie.In-loop Inv-loop μ-loop) → let a = c .before .before .args in c .before .loop .j * a .n + a .n ≤ a .i * a .n
+fits c = row _ _ _ (c .loop-test .taken)
+
 mul-out : tie.Need-mul-out Inv-loop μ-loop
-mul-out c = omega (arith, row _ _ (c .before .before .args .n) (c .loop-test .taken))
+mul-out c = omega (arith, fits c)
 
 add-out : tie.Need-add-out Inv-loop μ-loop
-add-out c = omega (arith, row _ _ (c .before .before .args .n) (c .loop-test .taken))
+add-out c = omega (arith, fits c)
 
 mul-out-2 : tie.Need-mul-out-2 Inv-loop μ-loop
-mul-out-2 c = omega (arith, row _ _ (c .before .before .args .n) (c .loop-test .taken))
+mul-out-2 c = omega (arith, fits c)
 
 slice-read-out : tie.Need-slice-read-out Inv-loop μ-loop
-slice-read-out c = omega (arith, row _ _ (c .before .before .before .args .n) (c .before .loop-test .taken))
+slice-read-out c = omega (arith, fits (c .before))
 
 add-out-2 : tie.Need-add-out-2 Inv-loop μ-loop
 add-out-2 c = search needs

@@ -58,9 +58,7 @@ loop-again c =
     )
 
 add-period-requires : tie.Need-add-period-requires Inv-loop μ-loop
-add-period-requires c κs =
-    let h = c .before .before .before .before .before .before .before .before .before .before .before .before .before .before .pre in
-    (h .0, h .1, omega arith, h .2, h .3, c .before .before .before .loop .inv .1)
+add-period-requires c κs = search needs
 
 same-length : tie.Need-same-length Inv-loop μ-loop
 same-length c = search needs

@@ -1,6 +1,6 @@
 -- `estimators::targets::add_correlations` meets its contract. The invariant: the row's sum up to column j.
 use mathlib.Core.Path.{_≡_}
-use Prim.Native.Nat.{_≤_, _-_}
+use Prim.Native.Nat.{_+_, _-_, _*_, _≤_}
 use native.Mathlib.Omega.{arith}
 use Rattle.leaves.specs.Loops.{nth}
 use Rattle.leaves.proofs.Invariants.{loop-turn, loop-start}
@@ -18,20 +18,24 @@ Inv-loop s sd n i sum base t₀ j₀ t j = (j ≤ n) × (t ≡ sumRow j apart (c
 abbrev μ-loop : tie.MeasureT-loop
 μ-loop s sd n i sum base t₀ j₀ t j = n - j
 
+-- row i lies within the table
+fits : (s : tie.Start Inv-loop μ-loop) → s .args .i * s .args .n + s .args .n ≤ s .args .n * s .args .n
+fits s = row _ _ _ (s .pre .0)
+
 mul-base : tie.Need-mul-base Inv-loop μ-loop
-mul-base c = omega (arith, row _ _ (c .before .before .args .n) (c .before .before .pre .0))
+mul-base c = omega (arith, fits (c .before .before))
 
 loop-holds : tie.Need-loop-holds Inv-loop μ-loop
 loop-holds c = (omega arith, loop-start _ _)
 
 add-add-apart : tie.Need-add-add-apart Inv-loop μ-loop
-add-add-apart c = omega (arith, row _ _ (c .before .before .before .before .args .n) (c .before .before .before .before .pre .0))
+add-add-apart c = omega (arith, fits (c .before .before .before .before))
 
 mul-add-apart : tie.Need-mul-add-apart Inv-loop μ-loop
-mul-add-apart c = omega (arith, row _ _ (c .before .before .before .before .args .n) (c .before .before .before .before .pre .0))
+mul-add-apart c = omega (arith, fits (c .before .before .before .before))
 
 shared-slice-read-add-apart : tie.Need-shared-slice-read-add-apart Inv-loop μ-loop
-shared-slice-read-add-apart c = omega (arith, row _ _ (c .before .before .before .before .before .args .n) (c .before .before .before .before .before .pre .0))
+shared-slice-read-add-apart c = omega (arith, fits (c .before .before .before .before .before))
 
 mul-add-apart-2 : tie.Need-mul-add-apart-2 Inv-loop μ-loop
 mul-add-apart-2 c = search needs

@@ -1,5 +1,5 @@
 -- `estimators::targets::average_correlation` meets its contract. The invariant: the sum of the rows passed.
-use mathlib.Core.Path.{_≡_, ap, _∙_}
+use mathlib.Core.Path.{_≡_, _∙_}
 use mathlib.Core.List.{List}
 use Prim.Native.Nat.{ℕ, _≤_, _-_, _*_}
 use native.Mathlib.Nat.{mul-le-mul}
@@ -8,14 +8,14 @@ use lib.Ieee.{Float, ofBits}
 use Rattle.leaves.specs.Numbers.{_⊘_, count, zero⁺}
 use Rattle.leaves.specs.Loops.{loop, tab, nth}
 use Rattle.leaves.proofs.Invariants.{loop-turn, loop-end, loop-start}
-use Rattle.leaves.proofs.Loops.{length-tab}
 use Rattle.matrix.specs.Limits.{maxSide}
 use Rattle.matrix.specs.Matrix.{Matrix, at, sumOver, sumRow}
 use Rattle.estimators.specs.Sample.{volatility, correlationBy, correlation}
 use Rattle.estimators.specs.LedoitWolf.{apart, averageCorrelation}
-use Rattle.estimators.proofs.Entries.{sum-over-ext, correlation-stored}
-use lib.ListN.{length}
+use Rattle.matrix.proofs.SumOver.{sum-over-ext}
+use Rattle.estimators.proofs.Entries.{correlation-stored}
 use borrow.Author.Needs.{needs}
+use Rattle.estimators.proofs.Lent.{lent}
 use Rattle.estimators.proofs.targets.average_correlation.Statement.{statement}
 use Rattle.estimators.proofs.targets.average_correlation.Tie as tie
 
@@ -38,7 +38,7 @@ unfolding ofBits
 loop-holds c = (omega arith, loop-start _ _)
 
 add-correlations-requires : tie.Need-add-correlations-requires Inv-loop μ-loop
-add-correlations-requires c κs = let p = c .before .before .before .before .pre in (c .loop-test .taken, p .2, ap length (p .3) ∙ length-tab _ _)
+add-correlations-requires c κs = search lent
 
 add-i : tie.Need-add-i Inv-loop μ-loop
 add-i c = search needs

@@ -1,22 +1,22 @@
 -- `estimators::targets::put_constant_correlation` meets its contract. The invariant: the rows passed are the target's.
-use mathlib.Core.Path.{_≡_, refl, sym, ap, _∙_}
+use mathlib.Core.Path.{_≡_, refl, sym, _∙_}
 use mathlib.Core.Bool.{cond}
 use mathlib.Core.List.{List}
-use Prim.Native.Nat.{ℕ, _≤_, _<_, _-_, _*_}
+use Prim.Native.Nat.{ℕ, _+_, _-_, _*_, _≤_, _<_}
 use native.Mathlib.Omega.{arith}
 use lib.Dec.{eqb}
 use lib.ListN.{length}
 use lib.Ieee.{Float}
 use Rattle.leaves.specs.Numbers.{_⊗_}
 use Rattle.leaves.specs.Loops.{tab, nth}
-use Rattle.leaves.proofs.Loops.{row, length-tab, tab-ext}
+use Rattle.leaves.proofs.Loops.{row, tab-ext}
 use Rattle.matrix.specs.Matrix.{Matrix, at}
-use Rattle.matrix.proofs.Stored.{length-rows}
 use Rattle.estimators.specs.Sample.{volatility}
 use Rattle.estimators.specs.LedoitWolf.{averageCorrelation, constantCorrelation}
 use Rattle.estimators.proofs.Stored.{passed, passed-none, passed-all, nth-stored}
 use Rattle.estimators.proofs.Entries.{row-long, passed-row}
 use borrow.Author.Needs.{needs}
+use Rattle.estimators.proofs.Lent.{tab-long, rows-long}
 use Rattle.estimators.proofs.targets.put_constant_correlation.Statement.{statement}
 use Rattle.estimators.proofs.targets.put_constant_correlation.Tie as tie
 
@@ -30,47 +30,51 @@ row-is n i m s {r} {v} {sd} hi em er ev ed e =
     (λ j hj t. cond (eqb i j) (s i i) (averageCorrelation n s ⊗ nth-stored n (volatility s) ed i hi t ⊗ nth-stored n (volatility s) ed j hj t))
 
 abbrev Inv-loop : tie.InvT-loop
-Inv-loop s r sd n out₀ i₀ out i = (i ≤ n) × (length out ≡ n * n) × (out ≡ passed n i (constantCorrelation n (at s n)) out₀)
+Inv-loop s r sd n out₀ i₀ out i = (length out ≡ n * n) × (out ≡ passed n i (constantCorrelation n (at s n)) out₀)
 
 abbrev μ-loop : tie.MeasureT-loop
 μ-loop s r sd n out₀ i₀ out i = n - i
 
+-- row i lies within the table
+fits : (c : tie.In-loop Inv-loop μ-loop) → let n = c .before .before .before .before .before .args .n in c .before .loop .i * n + n ≤ n * n
+fits c = row _ _ _ (c .loop-test .taken)
+
 loop-holds : tie.Need-loop-holds Inv-loop μ-loop
-loop-holds c = (omega arith, search needs, passed-none _ _ _ (c .before .before .before .pre .3))
+loop-holds c = (search needs, passed-none _ _ _ (c .before .before .before .pre .3))
 
 mul-base : tie.Need-mul-base Inv-loop μ-loop
-mul-base c = omega (arith, row _ _ (c .before .before .before .before .before .args .n) (c .loop-test .taken))
+mul-base c = omega (arith, fits c)
 
 add-end : tie.Need-add-end Inv-loop μ-loop
-add-end c = omega (arith, row _ _ (c .before .before .before .before .before .args .n) (c .loop-test .taken))
+add-end c = omega (arith, fits c)
 
 add-variance : tie.Need-add-variance Inv-loop μ-loop
-add-variance c = omega (arith, row _ _ (c .before .before .before .before .before .args .n) (c .loop-test .taken))
+add-variance c = omega (arith, fits c)
 
 mul-variance : tie.Need-mul-variance Inv-loop μ-loop
-mul-variance c = omega (arith, row _ _ (c .before .before .before .before .before .args .n) (c .loop-test .taken))
+mul-variance c = omega (arith, fits c)
 
 shared-slice-read-variance : tie.Need-shared-slice-read-variance Inv-loop μ-loop
-shared-slice-read-variance c = omega (arith, row _ _ (c .before .before .before .before .before .before .args .n) (c .before .loop-test .taken))
+shared-slice-read-variance c = omega (arith, fits (c .before))
 
 mul-put-row : tie.Need-mul-put-row Inv-loop μ-loop
-mul-put-row c = omega (arith, row _ _ (c .before .before .before .before .before .before .args .n) (c .before .loop-test .taken))
+mul-put-row c = omega (arith, fits (c .before))
 
 sub-put-row : tie.Need-sub-put-row Inv-loop μ-loop
-sub-put-row c = omega (arith, row _ _ (c .before .before .before .before .before .before .args .n) (c .before .loop-test .taken))
+sub-put-row c = search needs
 
 part-put-row-start : tie.Need-part-put-row-start Inv-loop μ-loop
-part-put-row-start c = omega (arith, row _ _ (c .before .before .before .before .before .before .args .n) (c .before .loop-test .taken))
+part-put-row-start c = search needs
 
 part-put-row-end : tie.Need-part-put-row-end Inv-loop μ-loop
-part-put-row-end c = omega (arith, row _ _ (c .before .before .before .before .before .before .args .n) (c .before .loop-test .taken))
+part-put-row-end c = omega (arith, fits (c .before))
 
 put-row-requires : tie.Need-put-row-requires Inv-loop μ-loop
 put-row-requires c κs =
     let i = c .before .before .before .loop in
     let p = c .before .before .before .before .before .before .before .pre in
-    let long = row-long _ _ (i .out) (i .inv .1) (c .before .before .loop-test .taken) in
-    (omega (arith, long), ap length (p .2) ∙ length-tab _ _ ∙ sym long)
+    let long = row-long _ _ (i .out) (i .inv .0) (c .before .before .loop-test .taken) in
+    (omega (arith, long), tab-long _ _ _ (p .2) ∙ sym long)
 
 add-i : tie.Need-add-i Inv-loop μ-loop
 add-i c = search needs
@@ -85,16 +89,16 @@ loop-again c =
     let s = t .before .before .before .before .before in
     let a = s .args in
     let below = t .loop-test .taken in
-    let long = row-long _ _ (i .out) (i .inv .1) below in
+    let long = row-long _ _ (i .out) (i .inv .0) below in
     let here = row-is (a .n) (i .i) _ (at (a .s .now) (a .n)) below long (s .pre .1) refl (s .pre .2) (c .before .before .put-row .ensures) in
-    let e = passed-row _ _ (a .out .now) _ _ _ (i .inv .2) below here in
-    (omega arith, ap length e ∙ length-rows _ _ _, e)
+    let e = passed-row _ _ (a .out .now) _ _ _ (i .inv .1) below here in
+    (rows-long _ _ _ e, e)
 
 same-length : tie.Need-same-length Inv-loop μ-loop
-same-length c = c .before .loop .inv .1 ∙ sym (c .before .before .before .before .before .pre .3)
+same-length c = search needs
 
 returns : tie.Need-returns Inv-loop μ-loop
-returns c = passed-all _ _ (c .before .before .before .before .before .args .out .now) _ _ (c .before .loop .inv .0) (c .loop-test .left) (c .before .loop .inv .2)
+returns c = passed-all _ _ (c .before .before .before .before .before .args .out .now) _ _ (c .loop-test .left) (c .before .loop .inv .1)
 
 pub put-constant-correlation-spec : {M : Type 1} → statement M
 put-constant-correlation-spec = tie.close (tie.spec Inv-loop μ-loop loop-holds mul-base add-end add-variance mul-variance shared-slice-read-variance mul-put-row sub-put-row part-put-row-start part-put-row-end put-row-requires add-i loop-less loop-again same-length returns)

@@ -1,6 +1,6 @@
 -- `estimators::weighted::check_half_life` meets its contract, by the cases of the first test.
 use mathlib.Core.Logic.{⊎-elim}
-use lib.Ieee.{ofBits, neg}
+use lib.Ieee.{ofBits}
 use Rattle.estimators.specs.Weighted.{accepted}
 use Rattle.estimators.specs.Order.{badHalfLife}
 use borrow.Author.Needs.{needs}
@@ -14,7 +14,7 @@ when-requires : tie.Need-when-requires
 when-requires c κs = search needs
 
 returns : tie.Need-returns
-unfolding badHalfLife accepted ofBits neg
+unfolding badHalfLife accepted ofBits
 returns c = let l = c .before .before .log-decay .ensures in ⊎-elim (λ w. rw (← l, w .0 .taken) (rw (w .1) at (c .when .ensures))) (λ w. rw (← l, w .0 .left) (rw (w .1, w .0 .left) at (c .when .ensures))) (c .before .if1 .came)
 
 pub check-half-life-spec : {M : Type 1} → statement M

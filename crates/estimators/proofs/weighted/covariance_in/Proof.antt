@@ -1,5 +1,5 @@
 -- `estimators::weighted::covariance_in` meets its contract: the rows that are formed are the deviations times the roots.
-use mathlib.Core.Path.{sym, ap, _∙_}
+use mathlib.Core.Path.{ap, _∙_}
 use Prim.Native.Nat.{ℕ}
 use Rattle.matrix.specs.Matrix.{at}
 use Rattle.estimators.specs.Weighted.{weights}
@@ -12,19 +12,19 @@ put-weights-requires : tie.Need-put-weights-requires
 put-weights-requires c κs = search needs
 
 means-requires : tie.Need-means-requires
-means-requires c κs = let h = c .before .before .before .before .before .before .before .before .before .before .before .pre in (h .0, h .1, c .before .before .before .before .put-weights .kept .1 .0 ∙ h .3, h .5)
+means-requires c κs = search needs
 
 denominator-requires : tie.Need-denominator-requires
-denominator-requires c κs = c .before .before .before .before .before .before .before .before .before .before .before .before .before .before .before .pre .2
+denominator-requires c κs = search needs
 
 put-roots-requires : tie.Need-put-roots-requires
-put-roots-requires c κs = let h = c .before .before .before .before .before .before .before .before .before .before .before .before .before .before .before .before .before .pre in c .before .before .before .before .before .before .before .before .before .before .put-weights .kept .1 .0 ∙ h .3 ∙ sym (h .4)
+put-roots-requires c κs = search needs
 
 slice-aggregate-gram : tie.Need-slice-aggregate-gram
 slice-aggregate-gram c = search needs
 
 gram-requires : tie.Need-gram-requires
-gram-requires c κs = let h = c .before .before .before .before .before .before .before .before .before .before .before .before .before .before .before .before .before .before .before .before .before .before .before .before .pre in (h .0, h .1, c .before .before .before .before .before .before .before .before .before .before .before .before .means .kept .1 .1 .1 .1 .0 ∙ h .5, h .6)
+gram-requires c κs = search needs
 
 same-length : tie.Need-same-length
 same-length c = search needs

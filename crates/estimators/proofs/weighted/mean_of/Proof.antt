@@ -1,5 +1,5 @@
 -- `estimators::weighted::mean_of` meets its contract: the means with the weights of l.
-use mathlib.Core.Path.{sym, ap, _∙_}
+use mathlib.Core.Path.{ap, _∙_}
 use mathlib.Core.List.{List}
 use Prim.Native.Nat.{ℕ}
 use lib.Seq.{length-take-le}
@@ -8,6 +8,7 @@ use Rattle.leaves.specs.Loops.{tab}
 use Rattle.matrix.specs.Matrix.{at}
 use Rattle.estimators.specs.Weighted.{weights, weightedMean}
 use borrow.Author.Needs.{needs}
+use Rattle.estimators.proofs.Lent.{lent}
 use Rattle.estimators.proofs.weighted.mean_of.Statement.{statement}
 use Rattle.estimators.proofs.weighted.mean_of.Tie as tie
 
@@ -15,7 +16,7 @@ array-borrow-prefix-buffer : tie.Need-array-borrow-prefix-buffer
 array-borrow-prefix-buffer c = search needs
 
 slice-aggregate-weights : tie.Need-slice-aggregate-weights
-slice-aggregate-weights c = sym (length-take-le _ _ (c .before .before .before .pre .2))
+slice-aggregate-weights c = search lent
 
 put-weights-requires : tie.Need-put-weights-requires
 put-weights-requires c κs = search needs

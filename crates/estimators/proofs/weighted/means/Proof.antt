@@ -1,9 +1,11 @@
 -- `estimators::weighted::means` meets its contract: each mean is put back from its unit.
-use mathlib.Core.Path.{sym, _∙_}
+use mathlib.Core.Path.{_≡_, sym, _∙_}
+use lib.ListN.{length}
 use lib.Seq.{length-take-le}
 use Rattle.matrix.specs.Matrix.{at}
 use Rattle.estimators.proofs.InUnits.{mean-back}
 use borrow.Author.Needs.{needs}
+use Rattle.estimators.proofs.Lent.{tab-long, lent}
 use Rattle.estimators.proofs.weighted.means.Statement.{statement}
 use Rattle.estimators.proofs.weighted.means.Tie as tie
 
@@ -11,25 +13,32 @@ array-borrow-prefix-buffer : tie.Need-array-borrow-prefix-buffer
 array-borrow-prefix-buffer c = search needs
 
 slice-aggregate-powers : tie.Need-slice-aggregate-powers
-slice-aggregate-powers c = sym (length-take-le _ _ (c .before .before .before .before .pre .1))
+slice-aggregate-powers c = search lent
 
 largest-requires : tie.Need-largest-requires
-largest-requires c κs = let h = c .before .before .before .before .before .pre in (h .0, h .1, h .3)
+largest-requires c κs = search needs
+
+-- the slice of the largest returns is n long
+out-long : (c : tie.After-largest) → length (c .largest .last .1 .1 .1 .0) ≡ c .before .before .before .before .before .before .args .n
+out-long c = tab-long _ _ _ (c .largest .ensures)
 
 put-exponents-requires : tie.Need-put-exponents-requires
-put-exponents-requires c κs = let h = c .before .before .before .before .before .before .before .before .before .before .pre in c .before .before .before .before .largest .kept .1 .1 .1 .0 ∙ h .3 ∙ sym (length-take-le _ _ (h .1))
+put-exponents-requires c κs = out-long (c .before .before .before .before) ∙ sym (length-take-le _ _ (c .before .before .before .before .before .before .before .before .before .before .pre .1))
+
+-- and so are the powers
+powers-long : (c : tie.After-put-exponents) → length (c .put-exponents .last .1 .0) ≡ c .before .before .before .before .before .before .before .before .before .before .before .args .n
+powers-long c = c .put-exponents .kept .1 .0 ∙ length-take-le _ _ (c .before .before .before .before .before .before .before .before .before .before .before .pre .1)
 
 put-means-requires : tie.Need-put-means-requires
 put-means-requires c κs =
     let h = c .before .before .before .before .before .before .before .before .before .before .before .before .before .before .pre in
-    let p = c .before .before .before .put-exponents in
-    (h .0, h .1, p .kept .1 .0 ∙ length-take-le _ _ (h .1), p .ensures .1, h .2, c .before .before .before .before .before .before .before .before .largest .kept .1 .1 .1 .0 ∙ h .3)
+    let p = c .before .before .before in
+    (h .0, h .1, powers-long p, p .put-exponents .ensures .1, h .2, out-long (c .before .before .before .before .before .before .before .before))
 
 scale-requires : tie.Need-scale-requires
 scale-requires c κs =
-    let h = c .before .before .before .before .before .before .before .before .before .before .before .before .before .before .before .before .before .before .before .pre in
-    let p = c .before .before .before .before .before .before .before .before .put-exponents in
-    (p .kept .1 .0 ∙ length-take-le _ _ (h .1) ∙ sym (c .before .before .before .before .put-means .kept .1 .1 .1 .1 .1 .0 ∙ c .before .before .before .before .before .before .before .before .before .before .before .before .before .largest .kept .1 .1 .1 .0 ∙ h .3), p .ensures .1)
+    let p = c .before .before .before .before .before .before .before .before in
+    (powers-long p ∙ sym (tab-long _ _ _ (c .before .before .before .before .put-means .ensures)), p .put-exponents .ensures .1)
 
 same-length : tie.Need-same-length
 same-length c = search needs
@@ -42,7 +51,7 @@ returns c =
     let m = c .before .before .before .before .before .before .before .before .put-means in
     let l = c .before .before .before .before .before .before .before .before .before .before .before .before .before .before .before .before .before .largest in
     c .before .before .before .scale .ensures
-    ∙ mean-back (a .periods) (a .n) (at (a .r .now) (a .n)) _ (a .weights .now) _ _ (length-take-le _ _ (h .1)) (m .kept .1 .1 .1 .1 .1 .0 ∙ l .kept .1 .1 .1 .0 ∙ h .3) (l .ensures) (p .ensures .0) (m .ensures)
+    ∙ mean-back (a .periods) (a .n) (at (a .r .now) (a .n)) _ (a .weights .now) _ _ (length-take-le _ _ (h .1)) (tab-long _ _ _ (m .ensures)) (l .ensures) (p .ensures .0) (m .ensures)
 
 pub means-spec : {M : Type 1} → statement M
 means-spec = tie.close (tie.spec array-borrow-prefix-buffer slice-aggregate-powers largest-requires put-exponents-requires put-means-requires scale-requires same-length returns)

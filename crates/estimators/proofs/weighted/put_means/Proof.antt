@@ -5,6 +5,7 @@ use lib.Seq.{length-take-le}
 use Rattle.matrix.specs.Matrix.{at}
 use Rattle.estimators.proofs.InUnits.{mean-sums}
 use borrow.Author.Needs.{needs}
+use Rattle.estimators.proofs.Lent.{tab-long, lent}
 use Rattle.estimators.proofs.weighted.put_means.Statement.{statement}
 use Rattle.estimators.proofs.weighted.put_means.Tie as tie
 
@@ -24,10 +25,10 @@ array-share-prefix-zeros : tie.Need-array-share-prefix-zeros
 array-share-prefix-zeros c = search needs
 
 slice-aggregate-sum : tie.Need-slice-aggregate-sum
-slice-aggregate-sum c = sym (length-take-le _ _ (c .before .before .before .before .before .before .before .before .before .before .pre .1))
+slice-aggregate-sum c = search lent
 
 sum-requires : tie.Need-sum-requires
-sum-requires c κs = let h = c .before .before .before .before .before .before .before .before .before .before .before .pre in (h .0, h .1, length-take-le _ _ (h .1), h .5)
+sum-requires c κs = search lent
 
 sum-requires-2 : tie.Need-sum-requires-2
 sum-requires-2 c κs = search needs
@@ -44,7 +45,7 @@ returns c =
     let h = c .before .before .before .before .before .before .before .before .before .before .before .before .before .before .before .before .before .before .before .before .pre in
     let u = c .before .before .before .before .before .before .before .before .before .before .before .before .before .before .put-units in
     c .before .before .divide .ensures
-    ∙ mean-sums (a .periods) (a .n) (at (a .r .now) (a .n)) (a .exponents .now) (a .weights .now) _ _ _ _ (c .before .before .before .before .before .before .before .before .sum .kept .1 .1 .1 .1 .1 .1 .1 .0 ∙ h .5) (h .4) (u .ensures .0) (u .ensures .1) (c .before .before .before .before .before .before .before .before .sum .ensures) (c .before .before .before .before .sum2 .ensures)
+    ∙ mean-sums (a .periods) (a .n) (at (a .r .now) (a .n)) (a .exponents .now) (a .weights .now) _ _ _ _ (tab-long _ _ _ (c .before .before .before .before .before .before .before .before .sum .ensures)) (h .4) (u .ensures .0) (u .ensures .1) (c .before .before .before .before .before .before .before .before .sum .ensures) (c .before .before .before .before .sum2 .ensures)
 
 pub put-means-spec : {M : Type 1} → statement M
 put-means-spec = tie.close (tie.spec add-twice array-borrow-prefix-buffer slice-aggregate-units put-units-requires array-share-prefix-zeros slice-aggregate-sum sum-requires sum-requires-2 divide-requires same-length returns)

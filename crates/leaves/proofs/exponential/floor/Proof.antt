@@ -22,7 +22,7 @@ use Rattle.leaves.proofs.exponential.floor.Tie as tie
 
 -- a small value is in the range of an i64
 in-range : (x : Float) → Small x → T (le (fin true 1 (pos 63)) x) × T (lt x (fin false 1 (pos 63)))
-unfolding le lt
+unfolding le
 in-range nan h = absurd h
 in-range (inf s) h = absurd h
 in-range (fin true m e) h =

@@ -26,7 +26,7 @@ below (fin true m e) h = refl
 below (fin false m e) h = no h (not-below m e)
 
 above : (x : Float) → eq x zero⁺ ≡ false → lt x zero⁺ ≡ false → x ≡ abs x
-unfolding lt eq abs
+unfolding lt abs
 above nan h k = refl
 above (inf true) h k = no refl k
 above (inf false) h k = refl

@@ -42,7 +42,7 @@ above (fin true m e) h = no h refl
 above (fin false m e) h = refl
 
 neither : (x : Float) → eq x zero⁺ ≡ false → lt x zero⁺ ≡ false → lt zero⁺ x ≡ false → x ≡ signum x
-unfolding lt eq signum
+unfolding lt signum
 neither nan h k l = refl
 neither (inf true) h k l = no refl k
 neither (inf false) h k l = no refl l

@@ -32,19 +32,19 @@ root-requires : tie.Need-root-requires
 root-requires c κs = search needs
 
 float-from-bits-r : tie.Need-float-from-bits-r
-float-from-bits-r c = pattern-number _ (omega (arith, c .root .ensures))
+float-from-bits-r c = pattern-number _ (omega arith)
 
 half-reciprocal-requires : tie.Need-half-reciprocal-requires
 half-reciprocal-requires c κs = search needs
 
 float-from-bits-y : tie.Need-float-from-bits-y
-float-from-bits-y c = pattern-number _ (omega (arith, c .half-reciprocal .ensures))
+float-from-bits-y c = pattern-number _ (omega arith)
 
 square-requires : tie.Need-square-requires
 square-requires c κs = search needs
 
 float-from-bits-d : tie.Need-float-from-bits-d
-float-from-bits-d c = pattern-number _ (omega (arith, c .square .ensures))
+float-from-bits-d c = pattern-number _ (omega arith)
 
 returns : tie.Need-returns
 returns c = search needs

@@ -31,7 +31,7 @@ add-trial : tie.Need-add-trial Inv-loop μ-loop
 add-trial c = omega (arith, small (c .before))
 
 mul-rest : tie.Need-mul-rest Inv-loop μ-loop
-mul-rest c = omega (arith, small (c .before))
+mul-rest c = omega arith
 
 mul-root : tie.Need-mul-root Inv-loop μ-loop
 mul-root c = omega (arith, small (c .before .before))

@@ -24,9 +24,15 @@ use Rattle.leaves.proofs.RootBits.{Place, at, place-of}
 use Rattle.leaves.proofs.root.sqrt.Statement.{statement}
 use Rattle.leaves.proofs.root.sqrt.Tie as tie
 
--- what the machine reads back from a number's bits
+-- what the machine reads back from a number's bits; half of b so, and the exponent of the first scaling
 abbrev rd : ℤ → ℤ
 rd z = toZ w32 (ofZ w32 z)
+
+abbrev halfOf : ℤ → ℤ
+halfOf b = rd (shrZ (rd b) 2)
+
+abbrev firstOf : ℤ → ℤ
+firstOf b = rd (rd (pos 52 -ℤ halfOf b) -ℤ halfOf b)
 
 -- ---- the values that the tests turn away
 negative : (x : Float) → lt x zero⁺ ≡ true → nan ≡ sqrt x
@@ -61,7 +67,7 @@ module _ (m : ℕ) (e : ℤ) (p : Room (suc m) e) (b : ℤ) (fb : mag b < 2 ^ 31
   h = halfExponent (suc m) e
 
   abbrev H : ℤ
-  H = rd (shrZ (rd b) 2)
+  H = halfOf b
 
   shr-is : shrZ (rd b) 2 ≡ h
   unfolding binaryExponent halfExponent
@@ -93,7 +99,7 @@ module _ (m : ℕ) (e : ℤ) (p : Room (suc m) e) (b : ℤ) (fb : mag b < 2 ^ 31
   sub-3 : SFits w32 (H -ℤ pos 55)
   sub-3 = rw H-is fits-3
 
-  module _ (y : Float) (is-y : y ≡ pow2Scaled (fin false (suc m) e) (rd (rd (pos 52 -ℤ H) -ℤ H))) where
+  module _ (y : Float) (is-y : y ≡ pow2Scaled (fin false (suc m) e) (firstOf b)) where
     y-is : y ≡ pow2Scaled (fin false (suc m) e) (pos 52 -ℤ h -ℤ h)
     y-is = rw (is-y, H-is, toZ-ofZ fits-1, toZ-ofZ fits-2)
 
@@ -116,26 +122,26 @@ module _ (m : ℕ) (e : ℤ) (p : Room (suc m) e) (b : ℤ) (fb : mag b < 2 ^ 31
         found = rw (is-r, H-is, toZ-ofZ fits-3, w-is) (last m e p)
 
 -- ---- the steps at any value that the tests let through
-step-1 : {x : Float} → Place x → (b : ℤ) → mag b < 2 ^ 31 → b ≡ binaryExponent x → SFits w32 (pos 52 -ℤ rd (shrZ (rd b) 2))
+step-1 : {x : Float} → Place x → (b : ℤ) → mag b < 2 ^ 31 → b ≡ binaryExponent x → SFits w32 (pos 52 -ℤ halfOf b)
 step-1 (at m e p) b fb ib = sub-1 m e p b fb ib
 
-step-2 : {x : Float} → Place x → (b : ℤ) → mag b < 2 ^ 31 → b ≡ binaryExponent x → SFits w32 (rd (pos 52 -ℤ rd (shrZ (rd b) 2)) -ℤ rd (shrZ (rd b) 2))
+step-2 : {x : Float} → Place x → (b : ℤ) → mag b < 2 ^ 31 → b ≡ binaryExponent x → SFits w32 (rd (pos 52 -ℤ halfOf b) -ℤ halfOf b)
 step-2 (at m e p) b fb ib = sub-2 m e p b fb ib
 
-step-3 : {x : Float} → Place x → (b : ℤ) → mag b < 2 ^ 31 → b ≡ binaryExponent x → SFits w32 (rd (shrZ (rd b) 2) -ℤ pos 55)
+step-3 : {x : Float} → Place x → (b : ℤ) → mag b < 2 ^ 31 → b ≡ binaryExponent x → SFits w32 (halfOf b -ℤ pos 55)
 step-3 (at m e p) b fb ib = sub-3 m e p b fb ib
 
-step-y : {x : Float} → Place x → (b : ℤ) → mag b < 2 ^ 31 → b ≡ binaryExponent x → (y : Float) → y ≡ pow2Scaled x (rd (rd (pos 52 -ℤ rd (shrZ (rd b) 2)) -ℤ rd (shrZ (rd b) 2)))
+step-y : {x : Float} → Place x → (b : ℤ) → mag b < 2 ^ 31 → b ≡ binaryExponent x → (y : Float) → y ≡ pow2Scaled x (firstOf b)
     → T (lt (fin true 1 (pos 0)) y) × T (lt y (fin false 1 (pos 64)))
 step-y (at m e p) b fb ib y iy = y-in m e p b fb ib y iy
 
-step-n : {x : Float} → Place x → (b : ℤ) → mag b < 2 ^ 31 → b ≡ binaryExponent x → (y : Float) → y ≡ pow2Scaled x (rd (rd (pos 52 -ℤ rd (shrZ (rd b) 2)) -ℤ rd (shrZ (rd b) 2)))
+step-n : {x : Float} → Place x → (b : ℤ) → mag b < 2 ^ 31 → b ≡ binaryExponent x → (y : Float) → y ≡ pow2Scaled x (firstOf b)
     → (n : ℕ) → n ≡ toUnsigned 64 y → n < 2 ^ 54
 step-n (at m e p) b fb ib y iy n i = n-lt m e p b fb ib y iy n i
 
-step-r : {x : Float} → Place x → (b : ℤ) → mag b < 2 ^ 31 → b ≡ binaryExponent x → (y : Float) → y ≡ pow2Scaled x (rd (rd (pos 52 -ℤ rd (shrZ (rd b) 2)) -ℤ rd (shrZ (rd b) 2)))
+step-r : {x : Float} → Place x → (b : ℤ) → mag b < 2 ^ 31 → b ≡ binaryExponent x → (y : Float) → y ≡ pow2Scaled x (firstOf b)
     → (n : ℕ) → n ≡ toUnsigned 64 y → (w : Float) → w ≡ ofInt binary64 (pos (sticky (n * 2 ^ 56)))
-    → (r : Float) → r ≡ pow2Scaled w (rd (rd (shrZ (rd b) 2) -ℤ pos 55)) → r ≡ sqrt x
+    → (r : Float) → r ≡ pow2Scaled w (rd (halfOf b -ℤ pos 55)) → r ≡ sqrt x
 step-r (at m e p) b fb ib y iy n i w iw r ir = found m e p b fb ib y iy n i w iw r ir
 
 here : (c : tie.Then3) → Place (c .before .before .before .args .x)

@@ -58,10 +58,7 @@ binary-exponent-float-to-bits-biased : (t : ℕ) → binary-exponent-lts.Need-fl
 binary-exponent-float-to-bits-biased t c = itself-number (c .before .before .args .x) (c .before .if1 .left)
 
 binary-exponent-cast-biased : (t : ℕ) → binary-exponent-lts.Need-cast-biased (pow2-reads.Asked, pow2-reads.Learnt, binary-exponent-below t, binary-exponent.Post) (binary-exponent-at t) binary-exponent.Post
-unfolding ofBits
-binary-exponent-cast-biased t c =
-    let b = c .before .before in
-    field-fits (b .args .x) (b .good .0 .1) (c .before .if1 .left) (c .if2 .left)
+binary-exponent-cast-biased t c = field-fits (c .before .before .args .x)
 
 binary-exponent-pow2-requires : (t : ℕ) → binary-exponent-lts.Need-pow2-requires (pow2-reads.Asked, pow2-reads.Learnt, binary-exponent-below t, binary-exponent.Post) (binary-exponent-at t) binary-exponent.Post
 binary-exponent-pow2-requires t c κs = (tt, tt)
@@ -82,11 +79,7 @@ binary-exponent-sub-result t c =
     next-fits (b .args .x) (b .good .0 .1) (d .before .if1 .left) (d .if2 .left) (c .before .before .if3 .taken) (p .result) (p .ensures) (c .binary-exponent .result) (c .binary-exponent .ok) (c .binary-exponent .ensures)
 
 binary-exponent-sub-result-2 : (t : ℕ) → binary-exponent-lts.Need-sub-result-2 (pow2-reads.Asked, pow2-reads.Learnt, binary-exponent-below t, binary-exponent.Post) (binary-exponent-at t) binary-exponent.Post
-unfolding ofBits
-binary-exponent-sub-result-2 t c =
-    let d = c .before in
-    let b = d .before .before in
-    last-fits (b .args .x) (b .good .0 .1) (d .before .if1 .left) (d .if2 .left)
+binary-exponent-sub-result-2 t c = last-fits (c .before .before .before .args .x)
 
 binary-exponent-returns-3 : (t : ℕ) → binary-exponent-lts.Need-returns-3 (pow2-reads.Asked, pow2-reads.Learnt, binary-exponent-below t, binary-exponent.Post) (binary-exponent-at t) binary-exponent.Post
 unfolding ofBits

@@ -15,8 +15,7 @@ use borrow.Fn.PlainCycle.{Measures, is, falls, and}
 use Rattle.leaves.specs.Scaling.{pow2, pow2Scaled, cut}
 use Rattle.leaves.proofs.Whole.{over, under, one-side, minus, same}
 use Rattle.leaves.proofs.Ints.{yes-le}
-use Rattle.leaves.proofs.Scale.{cut-range, scale-last}
-use Rattle.leaves.proofs.ScaleSteps.{scale-step}
+use Rattle.leaves.proofs.ScaleSteps.{cut-range, scale-last, scale-step}
 use Rattle.leaves.proofs.CutRead.{cut-is, step-read, left-fits, left-read}
 use Rattle.leaves.proofs.scaling.pow2_scaled.Reads as pow2-scaled
 use Rattle.leaves.proofs.scaling.pow2_scaled.Kinds as pow2-scaled-kinds
@@ -39,7 +38,7 @@ pow2-scaled-below t =
 
 -- what is left of k is nearer to 0 than k, where k is cut
 nearer : (k : ℤ) → (cut k ≡ k → ⊥) → over (k -ℤ cut k) + under (k -ℤ cut k) < over k + under k
-nearer k h = lt-of-not-le (λ (g : over k + under k ≤ over (k -ℤ cut k) + under (k -ℤ cut k)). h (same (cut k) k (omega (arith, minus k (cut k), cut-range k, one-side k, one-side (k -ℤ cut k)))))
+nearer k h = lt-of-not-le (λ (g : over k + under k ≤ over (k -ℤ cut k) + under (k -ℤ cut k)). h (same (cut k) k (omega (arith, minus k (cut k), cut-range k, one-side (k -ℤ cut k)))))
 
 -- What the code holds at each place: s is what `cut` gave, and y what `pow2` gave. The machine reads a number back from its bits.
 module _ (k s : ℤ) (fk : SFits w32 k) (fs : mag s < 2 ^ 31) (is-cut : s ≡ cut (toZ w32 (ofZ w32 k))) where

@@ -34,7 +34,7 @@ module _ (c : tie.Start) where
 
   range : (under z ≡ 0) × (over (c .args .k) + 1023 ≡ over z + under (c .args .k)) × (0 < over z) × (over z ≤ 2046)
   unfolding over under
-  range = omega (arith, le-yes (negsuc 1021) (c .args .k) (c .pre .0), le-yes (c .args .k) (pos 1023) (c .pre .1), plus (c .args .k) (pos 1023), one-side (c .args .k), one-side z)
+  range = omega (arith, le-yes (negsuc 1021) (c .args .k) (c .pre .0), le-yes (c .args .k) (pos 1023) (c .pre .1), plus (c .args .k) (pos 1023), one-side z)
 
   in-i32 : SFits w32 z
   in-i32 = fits-i32 z (omega (arith, range)) (omega (arith, range))

@@ -7,7 +7,7 @@ use lib.ListN.{length}
 use lib.Ieee.{Float, ofBits}
 use Rattle.matrix.specs.Rotation.{turnColumns, turnRows}
 use Rattle.matrix.specs.Inner.{byColumns}
-use Rattle.matrix.proofs.Rotated.{still, made}
+use Rattle.matrix.proofs.RotateSteps.{still, made}
 use Rattle.matrix.proofs.Flip.{flip-rows}
 use Rattle.matrix.proofs.by_columns.rotate.Statement.{statement}
 use Rattle.matrix.proofs.by_columns.rotate.Tie as tie

@@ -12,7 +12,7 @@ use Rattle.leaves.specs.Loops.{loop}
 use Rattle.leaves.proofs.Invariants.{loop-turn, loop-end, loop-start}
 use Rattle.matrix.specs.Rotation.{rotate}
 use Rattle.matrix.specs.Inner.{state, counted, byColumns}
-use Rattle.matrix.proofs.Counts.{row-count}
+use Rattle.matrix.proofs.Rotations.{row-count}
 use Rattle.matrix.proofs.Symmetry.{row-symmetric}
 use Rattle.matrix.proofs.jacobi.sweep_row.Statement.{statement}
 use Rattle.matrix.proofs.jacobi.sweep_row.Tie as tie

@@ -1,6 +1,6 @@
 -- `matrix::jacobi::sweeping` meets its contract. The invariant: the state after k sweeps, none of which the test forbade.
 use mathlib.Core.Path.{_≡_, refl, sym, ap, _∙_}
-use mathlib.Core.Bool.{true, false}
+use mathlib.Core.Bool.{Bool, true, false}
 use mathlib.Core.Option.{Option, none, some}
 use Prim.Native.Nat.{ℕ, _≤_, _<_, _-_, _+_, _*_}
 use native.Mathlib.Nat.{zero-add, mul-le-mul}
@@ -19,7 +19,8 @@ use Rattle.matrix.specs.Rotation.{State}
 use Rattle.matrix.specs.Jacobi.{offDiagonal, sweep, afterSweeps, Test, fails, converged, goesOn, test, stops, isConverged, stopping, sweptBy, sweeping}
 use Rattle.matrix.specs.Inner.{state, sweptTo, byColumns}
 use Rattle.leaves.proofs.First.{first-none, first-more, first-at}
-use Rattle.matrix.proofs.Counts.{pairs, pairs-most, sweep-count, sweeps-count}
+use Rattle.matrix.proofs.Counts.{pairs, pairs-most}
+use Rattle.matrix.proofs.Rotations.{sweep-count, sweeps-count}
 use Rattle.matrix.proofs.Sweeps.{sweeping-is}
 use Rattle.matrix.proofs.Symmetry.{sweeps-symmetric}
 use Rattle.matrix.proofs.jacobi.sweeping.Statement.{statement}
@@ -32,13 +33,9 @@ module _ (n : ℕ) (tolerance : Float) (st : State) {s : Float} (es : s ≡ offD
   test-fails h = rw (test, (λ i. isNan (sym es i)) ∙ nan-yes s h)
 
   module _ (h : ne s s ≡ false) {x : Float} (ex : x ≡ sqrt (two ⊗ s)) where
-    test-converged : le x tolerance ≡ true → test n tolerance st ≡ converged
+    test-compares : {small : Bool} → le x tolerance ≡ small → test n tolerance st ≡ elim small [ true ↦ converged | false ↦ goesOn ]
     unfolding test
-    test-converged u = rw (test, (λ i. isNan (sym es i)) ∙ nan-no s h, (λ i. le (sqrt (two ⊗ sym es i)) tolerance) ∙ (λ i. le (sym ex i) tolerance) ∙ u)
-
-    test-goesOn : le x tolerance ≡ false → test n tolerance st ≡ goesOn
-    unfolding test
-    test-goesOn u = rw (test, (λ i. isNan (sym es i)) ∙ nan-no s h, (λ i. le (sqrt (two ⊗ sym es i)) tolerance) ∙ (λ i. le (sym ex i) tolerance) ∙ u)
+    test-compares u = rw (test, (λ i. isNan (sym es i)) ∙ nan-no s h, (λ i. le (sqrt (two ⊗ sym es i)) tolerance) ∙ (λ i. le (sym ex i) tolerance) ∙ u)
 
 module _ (limit n : ℕ) (tolerance : Float) (st₀ : State) where
   answer : (o : Option ℕ) → firstTo limit (stopping n tolerance st₀) ≡ o → sweptBy n tolerance st₀ limit o ≡ sweeping limit n tolerance st₀
@@ -103,7 +100,7 @@ same-length-4 c = search needs
 
 returns-2 : tie.Need-returns-2 Inv-loop μ-loop
 unfolding ofBits
-returns-2 c = let i = c .before .before .before .before .before .before .loop .inv in stopped _ _ _ _ _ _ converged (i .3) (i .4) (c .before .before .before .before .before .loop-test .taken) (test-converged _ _ _ (c .before .before .before .off-diagonal .ensures) (c .before .before .if1 .left) (c .before .sqrt .ensures) (c .if2 .taken)) refl
+returns-2 c = let i = c .before .before .before .before .before .before .loop .inv in stopped _ _ _ _ _ _ converged (i .3) (i .4) (c .before .before .before .before .before .loop-test .taken) (test-compares _ _ _ (c .before .before .before .off-diagonal .ensures) (c .before .before .if1 .left) (c .before .sqrt .ensures) (c .if2 .taken)) refl
 
 sweep-requires : tie.Need-sweep-requires Inv-loop μ-loop
 sweep-requires c κs =
@@ -112,7 +109,9 @@ sweep-requires c κs =
     (i .pre .0, search needs, search needs, sweeps-symmetric _ _ _ (i .pre .2) (i .pre .4) _ (l .loop .inv .3))
 
 add-rotations : tie.Need-add-rotations Inv-loop μ-loop
-add-rotations c = let l = c .before .before .before .before .before .before .before .before .before .before .before .before .before .loop in omega (arith, room _ _ _ _ (c .before .before .before .before .before .before .before .before .before .before .before .before .before .before .before .before .pre .0) (omega arith) (sweeps-count _ _ _ _ (ap (state _ _) (zero-add _) ∙ l .inv .3)) (sweep-count _ _ _ (c .before .before .before .before .sweep .ensures 0)))
+add-rotations c =
+    let l = c .before .before .before .before .before .before .before .before .before .before .before .before .before in
+    omega (arith, room _ _ _ _ (l .before .before .before .pre .0) (omega arith) (sweeps-count _ _ _ _ (ap (state _ _) (zero-add _) ∙ l .loop .inv .3)) (sweep-count _ _ _ (c .before .before .before .before .sweep .ensures 0)))
 
 add-k : tie.Need-add-k Inv-loop μ-loop
 add-k c = search needs
@@ -122,7 +121,10 @@ loop-less c = search needs
 
 loop-again : tie.Need-loop-again Inv-loop μ-loop
 unfolding ofBits
-loop-again c = let i = c .before .before .before .before .before .before .before .before .before .before .before .before .before .loop .inv in (omega arith, search needs, search needs, swept-more _ _ _ _ _ (i .3) (c .before .before .before .before .sweep .ensures (c .before .before .before .before .before .before .before .before .before .before .before .before .before .loop .rotations)), unstopped _ _ _ _ _ (i .3) (i .4) (test-goesOn _ _ _ (c .before .before .before .before .before .before .before .before .before .before .off-diagonal .ensures) (c .before .before .before .before .before .before .before .before .before .if1 .left) (c .before .before .before .before .before .before .before .before .sqrt .ensures) (c .before .before .before .before .before .before .before .if2 .left)))
+loop-again c =
+    let t = c .before .before .before .before .before .before .before in
+    let l = t .before .before .before .before .before .before .loop in
+    (omega arith, search needs, search needs, swept-more _ _ _ _ _ (l .inv .3) (c .before .before .before .before .sweep .ensures (l .rotations)), unstopped _ _ _ _ _ (l .inv .3) (l .inv .4) (test-compares _ _ _ (t .before .before .before .off-diagonal .ensures) (t .before .before .if1 .left) (t .before .sqrt .ensures) (t .if2 .left)))
 
 same-length-5 : tie.Need-same-length-5 Inv-loop μ-loop
 same-length-5 c = search needs

@@ -1,7 +1,7 @@
 -- `matrix::rotation::rotate` meets its contract: what its calls ensure, put together.
 use borrow.Author.Needs.{needs}
 use lib.Ieee.{ofBits}
-use Rattle.matrix.proofs.Rotated.{still, made}
+use Rattle.matrix.proofs.RotateSteps.{still, made}
 use Rattle.matrix.proofs.rotation.rotate.Statement.{statement}
 use Rattle.matrix.proofs.rotation.rotate.Tie as tie
 
@@ -35,7 +35,11 @@ same-length-3 c = search needs
 
 returns-2 : tie.Need-returns-2
 unfolding ofBits
-returns-2 c = λ k. made _ _ _ _ _ _ (c .before .before .before .before .before .before .before .before .before .before .before .before .get .ensures) k (c .before .before .before .before .before .before .before .before .before .before .before .if1 .left) (c .before .before .before .before .before .before .before .before .before .tangent-at .ensures) (c .before .before .before .before .before .before .before .before .sqrt .ensures) (c .before .before .before .before .before .before .turn-both .ensures) (c .before .before .turn-columns .ensures)
+returns-2 c =
+    λ k.
+    let d = c .before .before .before .before .before .before in
+    let b = d .before .before .before .before .before in
+    made _ _ _ _ _ _ (b .before .get .ensures) k (b .if1 .left) (d .before .before .before .tangent-at .ensures) (d .before .before .sqrt .ensures) (d .turn-both .ensures) (c .before .before .turn-columns .ensures)
 
 pub rotate-spec : {M : Type 1} → statement M
 rotate-spec = tie.close (tie.spec get-requires same-length returns tangent-at-requires sqrt-requires turn-both-requires turn-columns-requires same-length-2 same-length-3 returns-2)

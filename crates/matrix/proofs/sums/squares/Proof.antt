@@ -10,7 +10,7 @@ use Rattle.leaves.specs.Loops.{sumTo, nth}
 use Rattle.leaves.proofs.Invariants.{sum-none, sum-turn}
 use Rattle.leaves.proofs.Loops.{at-end}
 use Rattle.matrix.specs.Matrix.{squares}
-use Rattle.matrix.proofs.Steps.{sum-stored}
+use Rattle.matrix.proofs.SumOver.{sum-stored}
 use Rattle.matrix.proofs.sums.squares.Statement.{statement}
 use Rattle.matrix.proofs.sums.squares.Tie as tie
 

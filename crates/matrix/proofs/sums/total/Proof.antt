@@ -1,7 +1,7 @@
 -- `matrix::sums::total` meets its contract: the numbers of the slice are the entries, row by row.
 use borrow.Author.Needs.{needs}
 use Rattle.matrix.specs.Matrix.{total}
-use Rattle.matrix.proofs.Steps.{sum-stored}
+use Rattle.matrix.proofs.SumOver.{sum-stored}
 use Rattle.matrix.proofs.sums.total.Statement.{statement}
 use Rattle.matrix.proofs.sums.total.Tie as tie
 

@@ -3,17 +3,16 @@ use mathlib.Core.Path.{_≡_, refl, _∙_}
 use Prim.Native.Nat.{_≤_, _-_, _+_, _*_}
 use native.Mathlib.Omega.{arith}
 use borrow.Author.Needs.{needs}
-use lib.ListN.{length, set, length-set}
+use lib.ListN.{length, length-set}
 use Rattle.leaves.specs.Loops.{loop}
 use Rattle.leaves.proofs.Invariants.{loop-turn, loop-end, loop-start}
 use Rattle.leaves.proofs.Loops.{row}
-use Rattle.matrix.specs.Matrix.{at}
-use Rattle.matrix.proofs.Symmetry.{copied-all}
+use Rattle.matrix.proofs.Symmetry.{copied, copied-all}
 use Rattle.matrix.proofs.symmetric.mirror.Statement.{statement}
 use Rattle.matrix.proofs.symmetric.mirror.Tie as tie
 
 abbrev Inv-loop : tie.InvT-loop
-Inv-loop a₀ n p q pn qn k₀ a k = (k ≤ n) × (a ≡ loop k (λ k v. set (set v (k * n + p) (at v n p k)) (k * n + q) (at v n q k)) a₀) × (length a ≡ length a₀) × (pn + n ≤ n * n) × (qn + n ≤ n * n)
+Inv-loop a₀ n p q pn qn k₀ a k = (k ≤ n) × (a ≡ loop k (copied n p q) a₀) × (length a ≡ length a₀) × (pn + n ≤ n * n) × (qn + n ≤ n * n)
 
 abbrev μ-loop : tie.MeasureT-loop
 μ-loop a₀ n p q pn qn k₀ a k = n - k

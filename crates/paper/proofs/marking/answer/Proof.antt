@@ -26,7 +26,7 @@ columns-requires c κs = search needs
 fits : (c : tie.After-columns) → c .before .before .assets .result * c .columns .result ≤ fileAssets * fileAssets
 fits c =
     let b = c .before .before .before .before .before .before in
-    answer-fits (b .args .o) _ _ _ (c .before .before .assets .ensures) (b .pre) (c .before .value .ensures) (c .columns .ensures)
+    answer-fits (b .args .o) _ _ _ (c .before .before .assets .ensures) (b .pre) (c .columns .ensures)
 
 mul-size : tie.Need-mul-size
 mul-size c = let h = fits c in omega arith
@@ -48,7 +48,7 @@ returns c =
     let k = c .before .before .before .before .before .before in
     let a = k .before .before in
     let b = a .before .before .before .before in
-    c .before .before .before .put-asked .ensures ∙ ap (write _) (ap outcomeText (answer-is (b .args .o) _ _ _ (a .assets .ensures) (b .pre) (k .before .value .ensures) (k .columns .ensures) _ _))
+    c .before .before .before .put-asked .ensures ∙ ap (write _) (ap outcomeText (answer-is (b .args .o) _ _ _ (a .assets .ensures) (b .pre) (k .columns .ensures) (k .before .value .ensures) _ _))
 
 pub answer-spec : {M : Type 1} → statement M
 answer-spec = tie.close (tie.spec assets-requires value-requires columns-requires mul-size array-borrow-prefix-entries slice-aggregate-put-asked put-asked-requires same-length returns)

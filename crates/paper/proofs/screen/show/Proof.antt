@@ -2,6 +2,7 @@
 use mathlib.Core.Path.{_≡_, sym, _∙_}
 use mathlib.Core.Logic.{⊎-elim}
 use mathlib.Core.Bool.{_&&_, not}
+use Prim.Native.Nat.{_^_}
 use lib.Dec.{leb, eqb}
 use lib.Ieee.{binary64, toBits}
 use borrow.Author.Needs.{needs}
@@ -35,7 +36,7 @@ units-requires-2 : tie.Need-units-requires-2
 units-requires-2 c κs = search needs
 
 -- where the two ways to the units have met
-met : (c : tie.Joined3) → let x = c .before .before .before .args .x in shown x ≡ Number (not (eqb (c .if3 .units) 0) && leb 9223372036854775808 (toBits binary64 x)) (c .if3 .units)
+met : (c : tie.Joined3) → let x = c .before .before .before .args .x in shown x ≡ Number (not (eqb (c .if3 .units) 0) && leb (2 ^ 63) (toBits binary64 x)) (c .if3 .units)
 met c =
     shown-units (c .before .before .before .args .x) (c .before .before .before .good .0 .1) (c .if3 .units) (c .before .if2 .left)
     (λ e. ⊎-elim (λ w. w .2 ∙ w .1 .ensures) (λ w. absurd (w .0 .left e)) (c .if3 .came))

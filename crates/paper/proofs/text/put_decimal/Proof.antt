@@ -1,9 +1,9 @@
--- `paper::text::put_decimal` meets its contract: the twenty digits without the zeros in front are the number's own.
+-- `paper::text::put_decimal` meets its contract: the digits without the zeros in front are the number's own.
 use mathlib.Core.Path.{ap, _∙_}
+use borrow.Author.Needs.{needs}
 use Rattle.paper.specs.Text.{write, maxDigits}
 use Rattle.paper.proofs.Digits.{all-but-zeros}
 use Rattle.paper.proofs.Writes.{then}
-use borrow.Author.Needs.{needs}
 use Rattle.paper.proofs.text.put_decimal.Statement.{statement}
 use Rattle.paper.proofs.text.put_decimal.Tie as tie
 

@@ -1,9 +1,9 @@
 -- `paper::text::put_digits` meets its contract: the last of the digits that were filled in are those asked for.
-use Rattle.paper.proofs.Digits.{last-digits}
 use mathlib.Core.Path.{refl, ap, _∙_}
-use Rattle.paper.specs.Text.{write, maxDigits}
 use native.Mathlib.Omega.{arith}
 use borrow.Author.Needs.{needs}
+use Rattle.paper.specs.Text.{write, maxDigits}
+use Rattle.paper.proofs.Digits.{last-digits}
 use Rattle.paper.proofs.text.put_digits.Statement.{statement}
 use Rattle.paper.proofs.text.put_digits.Tie as tie
 

@@ -1,5 +1,6 @@
--- Sums over the entries of a matrix, row by row: every entry, and those right of the diagonal. Assumes nothing.
+-- Laws of `sumOver`, the sum of the entries that are kept, row by row: terms that are alike, every entry, and those right of the diagonal. Assumes nothing.
 use mathlib.Core.Path.{_≡_, sym, ap, _∙_}
+use mathlib.Core.Bool.{Bool, true, false}
 use mathlib.Core.List.{List}
 use Prim.Native.Nat.{ℕ, _+_, _*_, _/_, _%_, _≤_, _<_}
 use native.Mathlib.Omega.{arith}
@@ -9,10 +10,15 @@ use lib.Ieee.{Float}
 use borrow.Author.Tests.{lt-ltb, le-ltb}
 use Rattle.leaves.specs.Numbers.{_⊕_, zero⁺}
 use Rattle.leaves.specs.Loops.{loop, sumTo, nth}
-use Rattle.leaves.proofs.Loops.{sum-ext}
-use Rattle.leaves.proofs.Invariants.{loop-still, loop-rows}
+use Rattle.leaves.proofs.Loops.{loop-ext, sum-ext, loop-still}
+use Rattle.leaves.proofs.Invariants.{loop-rows}
 use Rattle.matrix.specs.Matrix.{Matrix, at, sumOver, every, addKept}
 use Rattle.matrix.proofs.Stored.{entry-at}
+
+-- terms that are alike
+pub sum-over-ext : (n : ℕ) (keep : ℕ → ℕ → Bool) (f g : Matrix) (s : Float) → ((i j : ℕ) → i < n → j < n → f i j ≡ g i j) → sumOver n keep f s ≡ sumOver n keep g s
+unfolding sumOver
+sum-over-ext n keep f g s h = loop-ext n _ _ s (λ i hi x. loop-ext n _ _ x (λ j hj y t. elim (keep i j) [ true ↦ y ⊕ h i j hi hj t | false ↦ y ]))
 
 -- every entry, row by row
 sum-every : (f : Matrix) (n : ℕ) → sumTo (n * n) (λ k. f (k / n) (k % n)) ≡ sumOver n every f zero⁺
