@@ -32,7 +32,7 @@ pub size-minus : (y z : ℤ) → natAbs (y -ℤ z) ≤ natAbs y + natAbs z
 size-minus y z = omega (arith, size-plus y (negℤ z), size-neg z)
 
 size-fits : (z : ℤ) → natAbs z < 2 ^ 31 → SFits w32 z
-size-fits z h = fits-i32 z (omega (arith, size-is z)) (omega (arith, size-is z))
+size-fits z h = fits-i32 z (omega (arith, size-is z))
 
 -- b(x)
 pub exponent-size : (x : Float) → fits binary64 x ≡ true → natAbs (binaryExponent x) ≤ maxExponent

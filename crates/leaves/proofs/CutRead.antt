@@ -14,7 +14,7 @@ use Rattle.leaves.proofs.ScaleSteps.{cut-range}
 
 -- k - cut k is an i32
 apart : (k : ℤ) → SFits w32 k → SFits w32 (k -ℤ cut k)
-apart k h = fits-i32 (k -ℤ cut k) (omega (arith, minus k (cut k), cut-range k, i32-fits k h, one-side (k -ℤ cut k))) (omega (arith, minus k (cut k), cut-range k, i32-fits k h, one-side (k -ℤ cut k)))
+apart k h = fits-i32 (k -ℤ cut k) (omega (arith, minus k (cut k), cut-range k, i32-fits k h, one-side (k -ℤ cut k)))
 
 module _ (k s : ℤ) (fk : SFits w32 k) (fs : mag s < 2 ^ 31) (is-cut : s ≡ cut (toZ w32 (ofZ w32 k))) where
   pub cut-is : s ≡ cut k

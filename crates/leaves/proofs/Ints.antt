@@ -53,8 +53,8 @@ mag-over (pos a) n h = omega arith
 mag-over (negsuc a) n h = omega arith
 
 -- in the range of an i32
-pub fits-i32 : (z : ℤ) → over z < 2 ^ 31 → under z ≤ 2 ^ 31 → SFits w32 z
-fits-i32 z h k = record { sfits = mag-lt z (2 ^ 31) h k }
+pub fits-i32 : (z : ℤ) → (over z < 2 ^ 31) × (under z ≤ 2 ^ 31) → SFits w32 z
+fits-i32 z h = record { sfits = mag-lt z (2 ^ 31) (h .0) (h .1) }
 
 pub i32-fits : (z : ℤ) → SFits w32 z → (over z < 2 ^ 31) × (under z ≤ 2 ^ 31)
 i32-fits z h = mag-over z (2 ^ 31) (h .sfits)

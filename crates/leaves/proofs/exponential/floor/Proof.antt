@@ -38,7 +38,7 @@ in-range (fin false m e) h =
 
 module _ (x : Float) (h : Small x) (z : ℤ) (is-z : z ≡ toSigned 63 x) where
   z-32 : SFits w32 z
-  z-32 = rw is-z (fits-i32 (toSigned 63 x) (omega (arith, cut-in x h)) (omega (arith, cut-in x h)))
+  z-32 = rw is-z (fits-i32 (toSigned 63 x) (omega (arith, cut-in x h)))
 
   z-64 : toZ w64 (ofZ w64 z) ≡ z
   z-64 = toZ-ofZ (sfits-widen {w = w32} {w′ = w64} tt z-32)
@@ -53,7 +53,7 @@ module _ (x : Float) (h : Small x) (z : ℤ) (is-z : z ≡ toSigned 63 x) where
   unfolding over under
   one-less =
       let d = toSigned 63 x -ℤ pos 1 in
-      rw read (fits-i32 d (omega (arith, cut-in x h, minus (toSigned 63 x) (pos 1), one-side d)) (omega (arith, cut-in x h, minus (toSigned 63 x) (pos 1), one-side d)))
+      rw read (fits-i32 d (omega (arith, cut-in x h, minus (toSigned 63 x) (pos 1), one-side d)))
 
   less : lt x (ofInt binary64 (toZ w32 (ofZ w32 (toZ w64 (ofZ w64 z))))) ≡ true → toZ w32 (ofZ w32 (toZ w32 (ofZ w32 (toZ w64 (ofZ w64 z))) -ℤ pos 1)) ≡ floor x
   less t = rw (toZ-ofZ one-less, read) (floor-less x h (rw read at t))

@@ -74,21 +74,21 @@ module _ (m : ℕ) (e : ℤ) (p : Room (suc m) e) (b : ℤ) (fb : mag b < 2 ^ 31
   shr-is = ap (λ (z : ℤ). shrZ z 2) (back-i32 b fb ∙ is-b)
 
   H-is : H ≡ h
-  H-is = rw shr-is (toZ-ofZ (fits-i32 h (omega (arith, halved m e p)) (omega (arith, halved m e p))))
+  H-is = rw shr-is (toZ-ofZ (fits-i32 h (omega (arith, halved m e p))))
 
   fits-1 : SFits w32 (pos 52 -ℤ h)
   unfolding over under
-  fits-1 = fits-i32 (pos 52 -ℤ h) (omega (arith, halved m e p, minus (pos 52) h, one-side (pos 52 -ℤ h))) (omega (arith, halved m e p, minus (pos 52) h, one-side (pos 52 -ℤ h)))
+  fits-1 = fits-i32 (pos 52 -ℤ h) (omega (arith, halved m e p, minus (pos 52) h, one-side (pos 52 -ℤ h)))
 
   fits-2 : SFits w32 (pos 52 -ℤ h -ℤ h)
   unfolding over under
   fits-2 =
       let z = pos 52 -ℤ h -ℤ h in
-      fits-i32 z (omega (arith, halved m e p, minus (pos 52) h, minus (pos 52 -ℤ h) h, one-side z)) (omega (arith, halved m e p, minus (pos 52) h, minus (pos 52 -ℤ h) h, one-side z))
+      fits-i32 z (omega (arith, halved m e p, minus (pos 52) h, minus (pos 52 -ℤ h) h, one-side z))
 
   fits-3 : SFits w32 (h -ℤ pos 55)
   unfolding over under
-  fits-3 = fits-i32 (h -ℤ pos 55) (omega (arith, halved m e p, minus h (pos 55), one-side (h -ℤ pos 55))) (omega (arith, halved m e p, minus h (pos 55), one-side (h -ℤ pos 55)))
+  fits-3 = fits-i32 (h -ℤ pos 55) (omega (arith, halved m e p, minus h (pos 55), one-side (h -ℤ pos 55)))
 
   sub-1 : SFits w32 (pos 52 -ℤ H)
   sub-1 = rw H-is fits-1

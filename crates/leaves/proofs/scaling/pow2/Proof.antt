@@ -37,7 +37,7 @@ module _ (c : tie.Start) where
   range = omega (arith, le-yes (negsuc 1021) (c .args .k) (c .pre .0), le-yes (c .args .k) (pos 1023) (c .pre .1), plus (c .args .k) (pos 1023), one-side z)
 
   in-i32 : SFits w32 z
-  in-i32 = fits-i32 z (omega (arith, range)) (omega (arith, range))
+  in-i32 = fits-i32 z (omega (arith, range))
 
   -- what the machine reads of the sum
   read : toZ w32 (ofZ w32 (toZ w32 (ofZ w32 (c .args .k)) +ℤ pos 1023)) ≡ pos (over z)
