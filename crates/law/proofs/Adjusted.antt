@@ -10,7 +10,7 @@ use mathlib.Core.List.{List, [], _∷_, _++_, map}
 use lib.Dec.{eqb, lit≤}
 use lib.IntN.{pos}
 use lib.ListN.{length}
-use lib.Ieee.{Float, nan, binary64, fits, lt, le, eq}
+use lib.Ieee.{Float, nan, binary64, fits, le, eq}
 use Rattle.leaves.specs.Numbers.{_⊗_, zero⁺, one, 1e-10, isFinite}
 use Rattle.leaves.specs.Loops.{fill, nth}
 use Rattle.leaves.specs.Root.{sqrt}
@@ -66,7 +66,7 @@ abbrev Known : Shrinkage → Float → Type 0
 Known S δ = ((δ ≡ nan) × (S ≡ Unshrunk → ⊥)) ⊎ Shrinking.Intensity δ
 
 at-least-nan : (x : Float) → x ≡ nan → le zero⁺ x ≡ true → ⊥
-unfolding le lt eq
+unfolding le
 at-least-nan x z e = subst lib.Dec.T (sym e ∙ ap (le zero⁺) z) tt
 
 module _ (r : List Float) (n P : ℕ) (opens : (ds : List Check) → first (opening r n P 0 [] ++ ds) ≡ first ds) where

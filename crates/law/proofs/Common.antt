@@ -113,4 +113,4 @@ common-lower m e f j n p h z =
     let w = common-above m (λ i. negℤ (e i)) n l (b .1) (z l (b .1)) in
     let x = lowered (binaryExponent (m i)) (e i) (f i) j (h i (a .1)) in
     let y = lowered (binaryExponent (m l)) (e l) (f l) j (h l (b .1)) in
-    same (B +ℤ pos j) A (omega (arith, plus B (pos j), ap over (a .2), ap under (a .2), ap over (b .2), ap under (b .2), u, w, x, y))
+    same (B +ℤ pos j) A (omega (arith, plus B (pos j), ap over (a .2), ap under (a .2), ap over (b .2), ap under (b .2)))

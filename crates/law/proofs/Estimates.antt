@@ -65,11 +65,11 @@ module _ (k : ℕ) (small : k ≤ maxPower) (r : List Float) (sizes : All (Sized
   varies b b' e = ap (λ (o : Option ℕ). whenSome o ZeroVariance) (constant-same R (lit≤ tt) (omega arith) b b' e)
 
   from-sample : Based k n P side Sample Sample (at r n) (at (map (shift (pos k)) r) n) G G'
-  unfolding badEstimate base noVariance
+  unfolding base noVariance
   from-sample = record { bad = refl; sample = refl; given = refl; entries = λ e e' i j a b. moved-within estimateBounds tt (sample-moved k small r sizes n P s i j a b); variance = varies; sampled = λ e i j. (refl, refl) }
 
   from-semi : Based k n P side Semi Semi (at r n) (at (map (shift (pos k)) r) n) G G'
-  unfolding badEstimate base noVariance
+  unfolding base noVariance
   from-semi = record { bad = refl; sample = refl; given = refl; entries = λ e e' i j a b. moved-within estimateBounds tt (semi-moved k small r sizes n P s i j a b); variance = varies; sampled = λ e. no e refl }
 
   from-threshold : (θ θ' : Float) → Sized returnRange θ → θ' ≡ shift (pos k) θ → Based k n P side (SemiBelow θ) (SemiBelow θ') (at r n) (at (map (shift (pos k)) r) n) G G'
@@ -90,7 +90,7 @@ module _ (k : ℕ) (small : k ≤ maxPower) (r : List Float) (sizes : All (Sized
 -- a given matrix, where its slice has the right length
 module _ (k : ℕ) (small : k ≤ maxPower) (n P side : ℕ) (x y : Matrix) (g : List Float) (sizes : All (Sized covarianceRange) g) (full : length g ≡ side * side) where
   from-given : Based k n P side Given Given x y (average side g) (average side (map (shift (pos (k + k))) g))
-  unfolding badEstimate base noVariance
+  unfolding base noVariance
   from-given = record {
     bad = refl;
     sample = refl;

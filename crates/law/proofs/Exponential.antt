@@ -96,13 +96,13 @@ one-plus c few x t b v h = go t v
 
     go : (t : Bool) → Val x t b → (d : ℕ) × Val (one ⊕ x) false d × ((32 - c) * W ≤ d) × (d ≤ (32 + c) * W)
     go false v =
-        let q = add-most (32 + c) (omega arith) one x false false (32 * W) b one-W v (omega (arith, less, more)) in
-        (near (32 * W + b) 1, q .0, least (32 * W + b) (omega (arith, less, more)), q .1)
+        let q = add-most (32 + c) (omega arith) one x false false (32 * W) b one-W v (omega arith) in
+        (near (32 * W + b) 1, q .0, least (32 * W + b) (omega (arith, less)), q .1)
     go true v =
-        let q = add-most (32 + c) (omega arith) one x false true (32 * W) b one-W v (omega (arith, less, more)) in
+        let q = add-most (32 + c) (omega arith) one x false true (32 * W) b one-W v (omega arith) in
         let n = 32 * W - b + (b - 32 * W) in
-        let i : ltb (32 * W) b ≡ false = le-ltb (32 * W) b (omega (arith, less, more)) in
-        (near n 1, subst (λ (s : Bool). Val (one ⊕ x) s (near n 1)) (ap (λ (z : Bool). cond z true false) i) (q .0), least n (omega (arith, less, more)), q .1)
+        let i : ltb (32 * W) b ≡ false = le-ltb (32 * W) b (omega (arith, less)) in
+        (near n 1, subst (λ (s : Bool). Val (one ⊕ x) s (near n 1)) (ap (λ (z : Bool). cond z true false) i) (q .0), least n (omega (arith, less)), q .1)
 
 -- ---- Horner's scheme
 regroup : (W : ℕ) → 16 * W * (44 * W) ≡ 22 * W * (32 * W)
@@ -253,10 +253,10 @@ module _ (y : Float) (Y : ℕ) (v : Val y true Y) (few : Y ≤ argumentMost * W)
     is = go (y ⊘ ln2 ⊕ half) sum (near-most (16 * W - Z) 1 (16 * W) (zero-lt-suc 0) (held-W 16 (lit< tt)) (omega arith));
     few = zero-le;
     near = λ l. zero-le;
-    above = omega (arith, zero-mul NH);
-    below = omega (arith, Z-below, W-large);
+    above = omega arith;
+    below = omega (arith, Z-below);
     none = λ q. refl;
-    some = λ q. absurd (omega (arith, Z-below, W-large));
+    some = λ q. absurd (omega (arith, Z-below));
   }
     where
       plus : (b : Bool) → cond b false (true && ltb (16 * W) Z) ≡ false
@@ -280,7 +280,7 @@ module _ (y : Float) (Y : ℕ) (v : Val y true Y) (few : Y ≤ argumentMost * W)
   other-power h =
       let D = Z - 16 * W in
       let S = near D 1 in
-      let q = add-most 8192 (lit≤ tt) (y ⊘ ln2) half true false Z (16 * W) quotient half-val (omega (arith, Z-above, W-large)) in
+      let q = add-most 8192 (lit≤ tt) (y ⊘ ln2) half true false Z (16 * W) quotient half-val (omega (arith, Z-above)) in
       let sum : Val (y ⊘ ln2 ⊕ half) true S = subst₂ (λ (s : Bool) (n : ℕ). Val (y ⊘ ln2 ⊕ half) s (near n 1)) (rw (le-ltb Z (16 * W) (le-of-lt h), lt-ltb (16 * W) Z h)) (omega arith) (q .0) in
       let c = ceiling (y ⊘ ln2 ⊕ half) S sum in
       let E = near-error D 1 (zero-lt-suc 0) in
@@ -293,10 +293,10 @@ module _ (y : Float) (Y : ℕ) (v : Val y true Y) (few : Y ≤ argumentMost * W)
         K = K;
         is = c .1;
         few = facts .0;
-        near = λ l. le-of-suc-le-suc (lt-of-mul-lt-mul-right U (let f = turns Y Z S D (K * U) U W U-W W-large (omega arith) Z-above (near-above S D 1 E) (c .3) in let u = U-W in let p = W-pos in omega (arith, l, f, u)));
+        near = λ l. le-of-suc-le-suc (lt-of-mul-lt-mul-right U (let f = turns Y Z S D (K * U) U W U-W W-large (omega arith) Z-above (near-above S D 1 E) (c .3) in let u = U-W in let p = W-pos in omega arith));
         above = facts .1;
         below = facts .2;
-        none = λ l. absurd (omega (arith, Z-above, W-large));
+        none = λ l. absurd (omega (arith, Z-above));
         some = λ l. facts .3;
       }
     where
@@ -358,11 +358,11 @@ reduced-val y Y v p =
     first x (inl (z, e)) w =
         let w' : Val x true 0 = subst₂ (λ (s : Bool) (n : ℕ). Val x (not (unlike s false)) n) e (ap (λ (n : ℕ). n * NH) z ∙ zero-mul NH) w in
         let b : p .K * NH ≡ 0 = ap (λ (n : ℕ). n * NH) z ∙ zero-mul NH in
-        let q = add-most 12 (lit≤ tt) y x true true Y 0 v w' (omega (arith, p .below)) in
+        let q = add-most 12 (lit≤ tt) y x true true Y 0 v w' (omega arith) in
         (true, near (Y + 0) 1, q .0, q .1)
     first x (inr e) w =
         let w' : Val x false (p .K * NH) = subst (λ (s : Bool). Val x (not (unlike s false)) (p .K * NH)) e w in
-        let q = add-most 12 (lit≤ tt) y x true false Y (p .K * NH) v w' (omega (arith, p .above, p .below)) in
+        let q = add-most 12 (lit≤ tt) y x true false Y (p .K * NH) v w' (omega arith) in
         (sumSign true Y false (p .K * NH), near (Y - p .K * NH + (p .K * NH - Y)) 1, q .0, q .1)
 
 -- the bounds of a weight
@@ -411,12 +411,12 @@ module _ (K : ℕ) (few : K ≤ 140) (p : Float) (P : ℕ) (fit : T (fits binary
       range-size (h .least) (2 ^ h .most) p (lit≤ tt) fit (val-finite p false P v) (inr (rw m (le-trans lo least))) (rw m (le-trans most hi))
 
   low : under (negℤ (pos K)) ≤ h .grain + over (negℤ (pos K))
-  unfolding over under
-  low = omega (arith, over-neg (pos K), under-neg (pos K))
+  unfolding over
+  low = omega (arith, under-neg (pos K))
 
   high : h .most + over (negℤ (pos K)) ≤ topBits + under (negℤ (pos K))
-  unfolding over under
-  high = omega (arith, over-neg (pos K), under-neg (pos K))
+  unfolding under
+  high = omega (arith, over-neg (pos K))
 
   lowered : pow2Scaled p (negℤ (pos K)) ≡ shift (negℤ (pos K)) p
   lowered = scaled-moves (h .most) p p-range (negℤ (pos K)) low high
@@ -539,7 +539,7 @@ module _ (y : Float) (Y : ℕ) (v : Val y true Y) (some : 0 < Y) (few : Y ≤ ar
       halve a (suc K) P w k e h = let f : a * 2 ≤ a * 2 ^ suc K = mul-le-mul-left a (two-least K) in omega arith
         where
           two-least : (K : ℕ) → 2 ≤ 2 ^ suc K
-          two-least K = let p = pow-pos K in omega (arith, native.Mathlib.Nat.pow-suc 2 K)
+          two-least K = let p = pow-pos K in omega arith
 
   pub expM1-within : ExpM1 y Y
   expM1-within = elim (le-or-lt Y (16 * W)) [ inl h ↦ close h | inr h ↦ beyond h ]

@@ -50,7 +50,7 @@ share-of (inf s) h k = inr (not-lt zero⁺ (inf s) tt tt h, not-lt (inf s) one t
 share-of (fin s m e) h k = inr (not-lt zero⁺ (fin s m e) tt tt h, not-lt (fin s m e) one tt tt k)
 
 zero-share : Share zero⁺
-unfolding le lt eq
+unfolding le
 zero-share = inr (refl, refl)
 
 clamped : (x : Float) → Share (clamp01 x)

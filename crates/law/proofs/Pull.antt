@@ -78,10 +78,10 @@ abbrev Within : ℕ → ℕ → ℤ → Type 0
 Within hi lo j = (over j ≤ hi) × (under j ≤ lo)
 
 plus-small : {a b c d : ℕ} (i j : ℤ) → Within a b i → Within c d j → Within (a + c) (b + d) (i +ℤ j)
-plus-small i j p q = (omega (arith, plus i j, one-side (i +ℤ j), p, q), omega (arith, plus i j, one-side (i +ℤ j), p, q))
+plus-small i j p q = (omega (arith, plus i j, one-side (i +ℤ j)), omega (arith, plus i j, one-side (i +ℤ j)))
 
 neg-small : {a b : ℕ} (j : ℤ) → Within a b j → Within b a (negℤ j)
-neg-small j p = (omega (arith, over-neg j, p), omega (arith, under-neg j, p))
+neg-small j p = (omega (arith, over-neg j), omega (arith, under-neg j))
 
 none-small : (a b : ℕ) → Within a b (pos 0)
 unfolding over under
@@ -89,14 +89,14 @@ none-small a b = (zero-le, zero-le)
 
 -- a number scaled so that its exponent is not above 0 is below 2
 below-two : {g L : ℕ} (h : ℕ) (x : Float) → Range g L (2 ^ h) x → (j : ℤ) → under j ≤ g + over j → h + over j ≤ topBits + under j → (0 < mag x → LeZ (binaryExponent x +ℤ j) (pos 0)) → T (isFinite (pow2Scaled x j)) × (mag (pow2Scaled x j) ≤ 2 ^ suc oneBits)
-unfolding over under
+unfolding over
 below-two {g} {L} h x r j low high not-above = elim (eq-zero-or-pos (mag x)) [
   | inl z ↦ (let e = zero-scaled x j (r .fit) (r .finite) z in (rw e (r .finite), rw (e, z) zero-le))
   | inr p ↦
       let b = binaryExponent x in
       let top = topOf x in
       let q = under-power x x r p (le-refl (mag x)) r in
-      let room : top + over j ≤ suc oneBits + under j = omega (arith, plus b j, one-side b, not-above p, q .0) in
+      let room : top + over j ≤ suc oneBits + under j = omega (arith, plus b j, not-above p) in
       let s : Range (g + over j - under j) 0 (2 ^ suc oneBits) (shift j x) = range-move top x (q .1) j low (le-trans room (omega arith)) (g + over j - under j) 0 (2 ^ suc oneBits) (omega arith) (le-trans (le-of-eq (zero-mul (2 ^ under j))) zero-le)
       (le-trans (le-of-eq (sym (pow-add 2 top (over j)))) (le-trans (pow-mono room) (le-of-eq (pow-add 2 (suc oneBits) (under j))))) in
       rw (scaled-moves h x r j low high) (s .finite, s .most)
@@ -211,7 +211,7 @@ module _ {k n P : ℕ} {x y : Matrix} (small : k ≤ maxPower) (r : Returns k n 
   a'-small = common-in (inverse n m') (λ i. negℤ (f i)) (λ z. under z ≤ onesBelow) n (none-small 0 onesBelow .1) (λ i l.
       let b = binaryExponent (inverse n m' i) in
       let q = inverse-exponent small r i l (p .above i l) in
-      omega (arith, plus b (negℤ (f i)), one-side (b +ℤ negℤ (f i)), over-neg (f i), under-neg (f i), tops i l, q))
+      omega (arith, plus b (negℤ (f i)), one-side (b +ℤ negℤ (f i)), under-neg (f i), tops i l))
 
   b-small : Within meansAbove meansBelow (bOf n (found P n x))
   b-small = common-in (share n m') (λ i. pos 0) (Within meansAbove meansBelow) n (none-small meansAbove meansBelow) (λ i l. plus-small (binaryExponent (share n m' i)) (pos 0) (share-exponent small r i l (p .above i l)) (none-small 0 0))
@@ -220,7 +220,7 @@ module _ {k n P : ℕ} {x y : Matrix} (small : k ≤ maxPower) (r : Returns k n 
   lower = common-lower (inverse n m') e f k n (r .assets) (λ i l. grows small r i l (p .above i l)) (λ i l. inverse-some small r i l (p .above i l))
 
   ones-same : ones n (found P n x) (exponentsOf P n y) ≡ ones n (found P n x) (exponentsOf P n x)
-  unfolding gathered over under
+  unfolding gathered
   ones-same =
       let A = aOf n m' e in
       let B = aOf n m' f in
@@ -235,9 +235,9 @@ module _ {k n P : ℕ} {x y : Matrix} (small : k ≤ maxPower) (r : Returns k n 
       let j = pos 0 -ℤ b in
       let z = share n m' i in
       let c = b-small in
-      let q = below-two (meanShareBounds .most) z (share-range small r i l (p .above i l)) j (omega (arith, minus (pos 0) b, one-side j)) (omega (arith, minus (pos 0) b, one-side j)) (λ s.
+      let q = below-two (meanShareBounds .most) z (share-range small r i l (p .above i l)) j (omega (arith, minus (pos 0) b)) (omega (arith, minus (pos 0) b)) (λ s.
       let w = common-above (share n m') (λ i. pos 0) n i l (eq-zero z (share-range small r i l (p .above i l) .fit) (share-range small r i l (p .above i l) .finite) ∙ ne-eqb (mag z) 0 (λ e. lt-irrefl 0 (subst (λ (n : ℕ). 0 < n) e s))) in
-      omega (arith, plus (binaryExponent z) j, minus (pos 0) b, plus (binaryExponent z) (pos 0), w)) in
+      omega (arith, plus (binaryExponent z) j, minus (pos 0) b, plus (binaryExponent z) (pos 0))) in
       rw (nth-tab n (λ i. pow2Scaled (share n m' i) (pos 0 -ℤ b)) i nan l) (scaled-fits z j, q .0, q .1)
 
   abbrev R : Float
@@ -261,11 +261,10 @@ module _ {k n P : ℕ} {x y : Matrix} (small : k ≤ maxPower) (r : Returns k n 
   S-small = (omega (arith, minus (bOf n m') (aOf n m' e), one-side S, a-small, b-small), omega (arith, minus (bOf n m') (aOf n m' e), one-side S, a-small, b-small))
 
   S-moves : bOf n (found P n x) -ℤ aOf n (found P n x) (exponentsOf P n y) ≡ S +ℤ pos k
-  unfolding over under
   S-moves = same (bOf n m' -ℤ aOf n m' f) (S +ℤ pos k) (omega (arith, minus (bOf n m') (aOf n m' f), minus (bOf n m') (aOf n m' e), plus S (pos k), plus (aOf n m' f) (pos k), ap over lower, ap under lower))
 
   S'-small : Within targetAbove targetBelow (S +ℤ pos k)
-  unfolding over under
+  unfolding under
   S'-small = (omega (arith, ap over S-moves, minus (bOf n m') (aOf n m' f), one-side (bOf n m' -ℤ aOf n m' f), a'-small, b-small), omega (arith, plus S (pos k), one-side (S +ℤ pos k), S-small))
 
   target-is : bayesStein n limit (found P n x) (exponentsOf P n x) .target ≡ pow2Scaled R S
@@ -307,7 +306,7 @@ module _ {k n P : ℕ} {x y : Matrix} (small : k ≤ maxPower) (r : Returns k n 
           range-size (meanIntensityBounds .least) (2 ^ targetMost) (pow2Scaled R S) (lit≤ tt) (scaled-fits R S) F (at-least meanRange (lit≤ tt) (pow2Scaled R S) (mag-val (pow2Scaled R S) (scaled-fits R S) F) a) most
         where
           room : over S + k ≤ targetAbove + under S
-          room = unfold over under in omega (arith, plus S (pos k), one-side (S +ℤ pos k), S'-small)
+          room = unfold over under in omega (arith, plus S (pos k), S'-small)
 
   -- ---- the intensity
   abbrev α : Float
@@ -337,7 +336,7 @@ module _ {k n P : ℕ} {x y : Matrix} (small : k ≤ maxPower) (r : Returns k n 
         record {
           range = scaled-range leftMeanBounds j (exponentAbove returnBounds) (exponentBelow returnBounds) q (c .0) (c .1) (lit≤ tt) (lit≤ tt);
           copy = ap (pow2Scaled z) (grows small r i l (p .above i l)) ∙ scaled-copy j (pos k) z (q .fit) (fits-move (leftMeanBounds .most) z q j (omega arith) (omega arith))
-              (fits-move (leftMeanBounds .most) z q (j +ℤ pos k) (unfold over under in omega (arith, plus j (pos k), one-side (j +ℤ pos k))) (unfold over under in omega (arith, plus j (pos k), one-side (j +ℤ pos k))));
+              (fits-move (leftMeanBounds .most) z q (j +ℤ pos k) (unfold over under in omega (arith, plus j (pos k))) (unfold over under in omega (arith, plus j (pos k))));
         }
 
     mean-finite : AtLeast meanRange t → T (isFinite t) → (t' : Float) → t' ≡ shift (pos k) t → pow2Scaled ((one ⊖ α) ⊗ nth (found P n x .mean) i) (exponentsOf P n y i) ⊕ α ⊗ t' ≡ shift (pos k) (pow2Scaled ((one ⊖ α) ⊗ nth (found P n x .mean) i) (exponentsOf P n x i) ⊕ α ⊗ t)

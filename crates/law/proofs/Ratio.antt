@@ -357,7 +357,7 @@ module _ (n : ℕ) (few : suc n ≤ maxSide) (v : ℕ → Float) (vf : (e : ℕ)
         let d : mag (p e ⊗ p e ⊘ v e) ≤ mag D = sum-least (suc n) (λ e. p e ⊗ p e ⊘ v e) (λ e l. (div-fits binary64 (p e ⊗ p e) (v e), sign-div (p e ⊗ p e) (v e) (sign-mul (p e) (p e) refl ∙ sym (values .plus e l)))) FD e l in
         let f = mul-le-mul d (values .most e l) in
         let g : 1 * values .L ≤ mag D * values .L = mul-le-mul-right (values .L) PD in
-        omega (arith, q, f, g, values .most e l)
+        omega (arith, values .most e l)
 
     -- a square that is not zero
     unit : U ≤ 4 * (mag D * values .L)
@@ -381,7 +381,7 @@ module _ (n : ℕ) (few : suc n ≤ maxSide) (v : ℕ → Float) (vf : (e : ℕ)
     squared =
         let e = P .0 in
         let q = product (p e) (p e) (pf e (P .1)) (pf e (P .1)) (div-finite (p e ⊗ p e) (v e) (term e (P .1))) .halved in
-        omega (arith, q, square e (P .1), unit)
+        omega (arith, square e (P .1), unit)
 
     term-most : (e : ℕ) → e < suc n → mag (p e ⊗ m e ⊘ v e) * values .L ≤ 2 ^ termMost * Pm
     term-most e l =

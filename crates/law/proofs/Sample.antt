@@ -55,7 +55,7 @@ average-moved {k} {b} T c u u' t p f each fine room =
 module _ {k n T : ℕ} {b : Bounds} {x y : Matrix} (r : Returns k n T b x y) (fine : fractionBits + periodBits ≤ b .grain) (room : deviationOf b .most + k ≤ topBits) where
   pub mean-moved : (i : ℕ) → i < n → Moved k (averageOf b) (mean T x i) (mean T y i)
   unfolding mean
-  mean-moved i a = average-moved T T (λ t. x t i) (λ t. y t i) (r .most) (omega (arith, r .periods)) (r .most) (λ t l. r .entries t i l a) fine (omega arith)
+  mean-moved i a = average-moved T T (λ t. x t i) (λ t. y t i) (r .most) (omega arith) (r .most) (λ t l. r .entries t i l a) fine (omega arith)
 
   -- the means' bounds cover the returns' and their own
   returns-covered : lib.Dec.T (covers (averageOf b) b)
@@ -92,10 +92,10 @@ Squares k b = (fractionBits + periodBits ≤ b .grain) × (oneBits + fractionBit
 
 module _ {k n T : ℕ} {b : Bounds} {x y : Matrix} (r : Returns k n T b x y) (q : Squares k b) where
   some : 0 < T - 1
-  some = omega (arith, r .periods)
+  some = omega arith
 
   few : T - 1 ≤ maxPeriods
-  few = omega (arith, r .most)
+  few = omega arith
 
   pub covariance-moved : (i j : ℕ) → i < n → j < n → Moved (k + k) (covarianceOf b) (covariance T x i j) (covariance T y i j)
   unfolding covariance
@@ -123,7 +123,7 @@ module _ {k n T : ℕ} {b : Bounds} {x y : Matrix} (r : Returns k n T b x y) (q 
   unfolding semicovarianceBelow
   semicovarianceBelow-moved {θ} {θ'} u i j a c =
       let z = shortfall-moved (λ i. θ) (λ i. θ') (returns-covered r (q .0) (q .2)) (λ i a. u) in
-      gram-moved T T (r .most) (omega (arith, r .periods)) (r .most) (q .1) (q .3) (shortfall (λ a. θ) x) (shortfall (λ a. θ') y) i j (λ t l. z t i l a) (λ t l. z t j l c)
+      gram-moved T T (r .most) (omega arith) (r .most) (q .1) (q .3) (shortfall (λ a. θ) x) (shortfall (λ a. θ') y) i j (λ t l. z t i l a) (λ t l. z t j l c)
 
 -- a covariance or semicovariance of returns in their range
 abbrev pub Sampled : ℕ → Float → Float → Type 0

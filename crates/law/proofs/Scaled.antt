@@ -94,10 +94,10 @@ module _ {k : ℕ} {b : Bounds} {A A' : Float} (a : Moved k b A A') (wide : Scal
 
     module _ {d d' : Float} (m : Moved k b d d') (e : mag d ≤ mag A) where
       in-low : under (negℤ (binaryExponent A)) ≤ b .grain + over (negℤ (binaryExponent A))
-      in-low = omega (arith, over-neg (binaryExponent A), under-neg (binaryExponent A), bounds, inner, wide)
+      in-low = omega (arith, under-neg (binaryExponent A), bounds)
 
       in-high : top + over (negℤ (binaryExponent A)) ≤ topBits + under (negℤ (binaryExponent A))
-      in-high = omega (arith, over-neg (binaryExponent A), under-neg (binaryExponent A), bounds, inner)
+      in-high = omega (arith, over-neg (binaryExponent A), under-neg (binaryExponent A), inner)
 
       down-fits : T (fits binary64 (shift (negℤ (binaryExponent A)) d))
       down-fits = fits-move top d (under-top m e) (negℤ (binaryExponent A)) in-low in-high
@@ -112,10 +112,10 @@ module _ {k : ℕ} {b : Bounds} {A A' : Float} (a : Moved k b A A') (wide : Scal
           let i' : under (negℤ (binaryExponent A)) ≡ over (binaryExponent A) = under-neg (binaryExponent A) in
           let c = b .grain + under (binaryExponent A) - over (binaryExponent A) in
           let s : Bounded (multiples c (suc oneBits)) (shift (negℤ (binaryExponent A)) d) =
-          range-move top d (under-top m e) (negℤ (binaryExponent A)) in-low in-high c (2 ^ c) (2 ^ suc oneBits) (omega (arith, wide))
-          (le-trans (le-of-eq (sym (pow-add 2 c (under (negℤ (binaryExponent A)))))) (le-trans (pow-mono {i = c + under (negℤ (binaryExponent A))} {j = b .least + over (negℤ (binaryExponent A))} (omega (arith, wide))) (le-of-eq (pow-add 2 (b .least) (over (negℤ (binaryExponent A)))))))
+          range-move top d (under-top m e) (negℤ (binaryExponent A)) in-low in-high c (2 ^ c) (2 ^ suc oneBits) (omega arith)
+          (le-trans (le-of-eq (sym (pow-add 2 c (under (negℤ (binaryExponent A)))))) (le-trans (pow-mono {i = c + under (negℤ (binaryExponent A))} {j = b .least + over (negℤ (binaryExponent A))} (omega arith)) (le-of-eq (pow-add 2 (b .least) (over (negℤ (binaryExponent A)))))))
           (le-of-eq (sym (pow-add 2 top (over (negℤ (binaryExponent A)))) ∙ ap (λ (z : ℕ). 2 ^ z) (omega arith) ∙ pow-add 2 (suc oneBits) (under (negℤ (binaryExponent A))))) in
-          finer c s (omega (arith, inner, one-side (binaryExponent A)))
+          finer c s (omega arith)
         where
           finer : (c : ℕ) {x : Float} → Bounded (multiples c (suc oneBits)) x → unitOf b .grain ≤ c → Bounded (unitOf b) x
           finer c r f = range-finer (unitOf b .grain) f (range-weaken (2 ^ unitOf b .least) (2 ^ suc oneBits) (pow-mono f) (le-refl (2 ^ suc oneBits)) r)
@@ -145,10 +145,10 @@ scaled-back {k} {b} {c} {A} {A'} {y} s m low high =
     let e = c .most in
     let q = s .small in
     let f : T (fits binary64 (shift i y)) = fits-move e y (m .range) i (omega arith) (omega arith) in
-    let f' : T (fits binary64 (shift (i +ℤ n) y)) = fits-move e y (m .range) (i +ℤ n) (omega (arith, plus i n, one-side (i +ℤ n))) (omega (arith, plus i n, s .few)) in
+    let f' : T (fits binary64 (shift (i +ℤ n) y)) = fits-move e y (m .range) (i +ℤ n) (omega (arith, plus i n)) (omega (arith, plus i n)) in
     ap (pow2Scaled y) (s .exponent) ∙ scaled-copy i n y (m .range .fit) f f' ∙ ap (shift n) (scaled-moves e y (m .range) i (omega arith) (omega arith))
     ∙ shift-shift i n y ∙ ap (shift (i +ℤ n)) (m .copy) ∙ shift-shift (pos (s .still)) (i +ℤ n) y
-    ∙ ap (λ (z : ℤ). shift z y) (same (pos (s .still) +ℤ (i +ℤ n)) (i +ℤ pos k) (omega (arith, plus (pos (s .still)) (i +ℤ n), plus i n, plus i (pos k), s .few)))
+    ∙ ap (λ (z : ℤ). shift z y) (same (pos (s .still) +ℤ (i +ℤ n)) (i +ℤ pos k) (omega (arith, plus (pos (s .still)) (i +ℤ n), plus i n, plus i (pos k))))
     ∙ sym (shift-shift i (pos k) y) ∙ ap (shift (pos k)) (sym (scaled-moves e y (m .range) i (omega arith) (omega arith)))
 
 -- its range
@@ -174,8 +174,8 @@ scaled-least b A r p wide =
     let u : over (negℤ i) ≡ under i = over-neg i in
     let u' : under (negℤ i) ≡ over i = under-neg i in
     let whole : Range (b .grain) (mag A) (2 ^ h) A = record { fit = r .fit; finite = r .finite; count = r .count; grain = r .grain; least = λ p. le-refl (mag A); most = r .most } in
-    let low : under (negℤ i) ≤ b .grain + over (negℤ i) = omega (arith, wide) in
-    let high : h + over (negℤ i) ≤ topBits + under (negℤ i) = omega (arith, one-side i, wide) in
+    let low : under (negℤ i) ≤ b .grain + over (negℤ i) = omega arith in
+    let high : h + over (negℤ i) ≤ topBits + under (negℤ i) = omega arith in
     let n = h + over (negℤ i) in
     let c = b .grain + over (negℤ i) - under (negℤ i) in
     let s : Range c (2 ^ oneBits) (2 ^ n) (shift (negℤ i) A) =

@@ -92,7 +92,7 @@ pub record Regularized (k : ℕ) (H H' : Regularization) : Type 0 where
   pub nans : (a : Matrix) (i j : ℕ) → a i j ≡ nan → (regularized H a i j ≡ nan) × (regularized H' a i j ≡ nan)
 
 pub unregularized : (k : ℕ) → Regularized k Unregularized Unregularized
-unfolding badRegularization isAdjusted regularized
+unfolding regularized
 unregularized k = record { bad = refl; adjusts = λ δ. refl; entries = λ a a' i j u. moved-within adjustedBounds tt u; nans = λ a i j e. (e, e) }
 
 pub ridge : (k : ℕ) → k ≤ maxPower + maxPower → (ε ε' : Float) → Moved k covarianceBounds ε ε' → Regularized k (Ridge ε) (Ridge ε')

@@ -10,7 +10,7 @@ use lib.Dec.{T, ltb, eqb, lit≤}
 use lib.IntN.{ℤ, pos, negℤ}
 use lib.ListN.{length, getD}
 use lib.Pow.{pow-add}
-use lib.Ieee.{Float, nan, inf, fin, binary64, fits, eq, lt, le, below, level, up, down, unlike, div, ofInt, round}
+use lib.Ieee.{Float, nan, inf, fin, binary64, fits, eq, lt, le, below, level, up, down, unlike, div, ofInt}
 use lib.Ieee.Bits.{is-true}
 use lib.Ieee.Fits.{and-l, and-r}
 use mir.Facts.{or-yes}
@@ -54,7 +54,7 @@ val-number (inf t) s a v = absurd v
 val-number (fin t m e) s a v = tt
 
 numbers : (x y : Float) → le x y ≡ true → T (number x) × T (number y)
-unfolding le lt eq
+unfolding le
 numbers nan y h = absurd (subst T (sym h) tt)
 numbers (inf s) nan h = absurd (subst T (sym h) tt)
 numbers (inf s) (inf t) h = (tt, tt)
@@ -87,7 +87,7 @@ below-level true false a b = ap (λ (c : Bool). ltb 0 (a + b) || c) (both-zero a
 below-level true true a b = ap (λ (c : Bool). ltb b a || c) (and-true (eqb a b)) ∙ equal-or b a (eqb a b) (λ e. sym (eqb-true a b e)) (λ e i. eqb-false a b e (sym i))
 
 le-is : (x y : Float) → T (number x) → T (number y) → le x y ≡ not (lt y x)
-unfolding le lt eq
+unfolding le
 le-is nan y p q = absurd p
 le-is (inf s) nan p q = absurd q
 le-is (inf true) (inf true) p q = refl
@@ -129,7 +129,7 @@ unfolding U
 pow2-val j n e = (refl, rw (up-is j, down-is j) (ap (λ (z : ℕ). z * 2 ^ oneBits) (one-mul (2 ^ over j)) ∙ sym (pow-add 2 (over j) oneBits) ∙ ap (λ (z : ℕ). 2 ^ z) (omega arith) ∙ pow-add 2 n (under j)))
 
 pub two-is : count 2 ≡ two
-unfolding ofInt round
+unfolding ofInt
 two-is = refl
 
 minus-val : (l : ℕ) → l ≤ oneBits → Val (pow2 (negℤ (pos l))) false (2 ^ (oneBits - l))

@@ -54,7 +54,7 @@ module _ (R : Float) (fit : T (fits binary64 R)) (finite : T (isFinite R)) (h : 
       down = omega arith
 
       up : h + over j ≤ topBits + under j
-      up = unfold over under in omega (arith, plus j (pos k), room)
+      up = unfold over under in omega (arith, plus j (pos k))
 
       down' : under (j +ℤ pos k) ≤ under j + over (j +ℤ pos k)
       down' = unfold over under in omega (arith, plus j (pos k))

@@ -92,7 +92,7 @@ module _ {k n T : ℕ} {x y : Matrix} (small : k ≤ maxPower) (r : Returns k n 
 
   all-above : 0 < mag (sumTo T (nth w))
   all-above =
-      let l : 0 < T = omega (arith, r .periods) in
+      let l : 0 < T = omega arith in
       lt-of-lt-of-le (W .above 0 l) (sum-least T (nth w) (λ t l. (W .range t l .fit, W .plus t l)) (all-moved .range .finite) 0 l)
 
   module _ (i : ℕ) (a : i < n) where

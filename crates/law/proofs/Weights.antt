@@ -218,17 +218,17 @@ module _ (P : ℕ) (periods : 2 ≤ P) (most : P ≤ maxPeriods) (h : Float) (fi
       let b = below .near-zero (omega arith) in
       let s = span-within in
       let e : (m ≤ 16 * above .E) × (above .E ≤ 3 * 2 ^ periodBits * m) = elim (le-or-lt span (16 * W)) [
-        | inl q ↦ (let z = above .near-zero q in (omega (arith, z, s), omega (arith, z, s)))
-        | inr q ↦ (let z = above .far q in (omega (arith, z, s), omega (arith, z, s)))
+        | inl q ↦ (let z = above .near-zero q in (omega arith, omega arith))
+        | inr q ↦ (let z = above .far q in (omega arith, omega arith))
       ] in
       let p = log-val h fit ok .1 in
       let turn : above .E * (2 * mag (exp (logDecay h))) ≡ 2 * mag (exp (logDecay h)) * above .E = mul-comm (above .E) (2 * mag (exp (logDecay h))) in
       let least : 20 * W ≤ 2 * mag (exp (logDecay h)) = (let l = le-trans (x .least) (le-of-eq (sym k)) in omega arith) in
       let most : 2 * mag (exp (logDecay h)) ≤ 108 * W = (let l = exp-most in omega arith) in
       let g = near (2 * mag (exp (logDecay h)) * above .E) U in
-      let q₁ = product-least (above .E) (2 * mag (exp (logDecay h))) g W U U-W W-pos (omega (arith, e)) least (le-trans (le-of-eq (ap (λ (z : ℕ). 2 * z) turn)) (n .halved)) in
+      let q₁ = product-least (above .E) (2 * mag (exp (logDecay h))) g W U U-W W-pos (omega arith) least (le-trans (le-of-eq (ap (λ (z : ℕ). 2 * z) turn)) (n .halved)) in
       let q₂ = product-most (above .E) (2 * mag (exp (logDecay h))) 108 g W U U-W W-pos most (le-trans (n .doubled) (le-of-eq (ap (λ (z : ℕ). 2 * z) (sym turn)))) in
-      (omega (arith, b, p), omega (arith, b, e, q₁), omega (arith, b, e, q₂))
+      (omega arith, omega arith, omega arith)
 
   apart : 8 * W < mag (logDecay h) → (5 * W ≤ E₂) × (E₂ ≤ 32 * W) × (2 ^ denominatorBounds .least ≤ dividend)
   unfolding E₂ dividend E₁ factor
@@ -236,7 +236,7 @@ module _ (P : ℕ) (periods : 2 ≤ P) (most : P ≤ maxPeriods) (h : Float) (fi
       let b = below .far (omega arith) in
       let s = span-within in
       let r = log-exp .range log-bound in
-      let e : 1 * W ≤ 2 * above .E = elim (le-or-lt span (16 * W)) [ inl q ↦ (let z = above .near-zero q .0 in omega (arith, s)) | inr q ↦ (let z = above .far q .0 in omega arith) ] in (
+      let e : 1 * W ≤ 2 * above .E = elim (le-or-lt span (16 * W)) [ inl q ↦ (let z = above .near-zero q .0 in omega arith) | inr q ↦ (let z = above .far q .0 in omega arith) ] in (
         b .0,
         b .1,
         near-least (2 * mag (exp (logDecay h)) * above .E) U (2 ^ denominatorBounds .least) U-pos (held-pow (denominatorBounds .least))

@@ -107,7 +107,7 @@ number-cond true x y p q = p
 number-cond false x y p q = q
 
 number-units : (s : Bool) (q k : ℕ) → T (number (units binary64 s q k))
-unfolding units odd
+unfolding units
 number-units s q k = number-cond (ltb (q * 2 ^ k) (2 ^ suc topBits)) (odd 54 s q k oneBits) (inf s) (go q) tt
   where
     go : (q : ℕ) → T (number (odd 54 s q k oneBits))
@@ -161,7 +161,7 @@ pub plus-square : (x : Float) → T (number x) → Plus (x ⊗ x)
 plus-square x n = (number-square x n, sign-mul x x refl)
 
 pub plus-add : (x y : Float) → Plus x → Plus y → Plus (x ⊕ y)
-unfolding add sum sign
+unfolding add sign
 plus-add x y p q = (go x y (p .0) (q .0) (p .1) (q .1), sign-add x y (p .1) (q .1))
   where
     go : (x y : Float) → T (number x) → T (number y) → sign x ≡ false → sign y ≡ false → T (number (x ⊕ y))
