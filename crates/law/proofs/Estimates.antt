@@ -115,7 +115,6 @@ estimate-chain k small r sizes n P s side limit S H H' E E' g g' (semiBelow {x =
     ends (then (from-threshold k small r sizes n P s side (average side g) (average side g') θ θ' q (copy-shift k θ θ' (sized-fits returnRange θ q) (sized-fits returnRange θ' q') c)) refl)
 estimate-chain {Q} k small r sizes n P s side limit S H H' E E' g g' given q q' known then =
     let m = known refl in
-    let y = map (shift (pos (k + k))) g in
     subst (λ (g' : List Float). (Based k n P side Given Given (at r n) (at (map (shift (pos k)) r) n) (average side g) (average side g') → decompositionOf (settings Given S H' limit) side (average side g') ≡ decompositionOf (settings Given S H limit) side (average side g) → Q)
     → Chain Q (ofGiven (settings Given S H limit) g side (decompositionOf (settings Given S H limit) side (average side g))) (ofGiven (settings Given S H' limit) g' side (decompositionOf (settings Given S H' limit) side (average side g')))) (sym (m .1))
     (λ then. given-chain (k + k) (omega arith) side limit g (m .0) S S H H' (λ full. then (from-given k small n P side (at r n) (at (map (shift (pos k)) r) n) g (m .0) full) (decomposition-same (k + k) (omega arith) side limit g (m .0) full))) then

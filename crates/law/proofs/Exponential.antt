@@ -200,7 +200,6 @@ ceiling (fin true m e) S v =
     let K = n / down e in
     let q = div-add-mod' n (down e) in
     let l = mod-lt n (down-pos e) in
-    let p = down-pos e in
     let low : m * up e ≤ K * down e = omega arith in
     let high : K * down e < m * up e + down e = omega arith in (
       K,

@@ -143,7 +143,6 @@ scaled-back {k} {b} {c} {A} {A'} {y} s m low high =
     let i = binaryExponent A in
     let n = pos (k - s .still) in
     let e = c .most in
-    let q = s .small in
     let f : T (fits binary64 (shift i y)) = fits-move e y (m .range) i (omega arith) (omega arith) in
     let f' : T (fits binary64 (shift (i +ℤ n) y)) = fits-move e y (m .range) (i +ℤ n) (omega (arith, plus i n)) (omega (arith, plus i n)) in
     ap (pow2Scaled y) (s .exponent) ∙ scaled-copy i n y (m .range .fit) f f' ∙ ap (shift n) (scaled-moves e y (m .range) i (omega arith) (omega arith))
@@ -169,7 +168,6 @@ pub scaled-least : (b : Bounds) (A : Float) → Bounded b A → 0 < mag A → Sc
 scaled-least b A r p wide =
     let i = binaryExponent A in
     let h = b .most in
-    let q = exponent-within b A r p (wide .1) (wide .3) in
     let e = exponent-range b A r p in
     let u : over (negℤ i) ≡ under i = over-neg i in
     let u' : under (negℤ i) ≡ over i = under-neg i in

@@ -133,7 +133,6 @@ module _ (P : ℕ) (periods : 2 ≤ P) (most : P ≤ maxPeriods) (h : Float) (fi
   weight-range j few =
       let v = exponent-val j few in
       let x = weight j few in
-      let p = W-pos in
       (x .range (le-trans (v .1) (omega arith)), x .plus, exp-above x)
 
   -- ---- the denominator
