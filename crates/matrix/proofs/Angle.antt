@@ -22,7 +22,7 @@ use Rattle.matrix.proofs.Squares.{Close, InCircle, square-back, half-u,
 
 -- ---- units
 pub near-close : (n d : ℕ) → 0 < d → Close (near n d) n d
-near-close n d D = let e = near-error n d D in record { hi = omega (arith, e .above); lo = omega (arith, e .below) }
+near-close n d D = let e = near-error n d D in record { hi = omega arith; lo = omega (arith, e .below) }
 
 pub near-under : (n d b : ℕ) → 0 < d → 2 * n < b * d → near n d < b
 near-under n d b D h = lt-of-mul-lt-mul-right d (lt-of-le-of-lt (near-error n d D .doubled) h)
@@ -76,7 +76,7 @@ module _ (t : Float) (σ : Bool) (n : ℕ) (v : Val t σ n) where
   -- where it does not: w is t² + 1, of W units
   module _ (w : Float) (Z W : ℕ) (cz : Close Z (n * n) U) (cw : Close W (Z + U) 1) (vw : Val w false W) (under : W < Top) (fw : T (fits binary64 w)) where
     root : Nearest w
-    root = nearest-of w fw (val-finite w false W vw) (lt-val zero⁺ w false false 0 W (zero-val false (pos 0)) vw ∙ lt-ltb 0 W (omega (arith, cw .lo, U-big)))
+    root = nearest-of w fw (val-finite w false W vw) (lt-val zero⁺ w false false 0 W (zero-val false (pos 0)) vw ∙ lt-ltb 0 W (omega (arith, U-big)))
 
     unfoldable R : ℕ
     R = mag (sqrt w)

@@ -60,7 +60,7 @@ module _ (n : ℕ) (P : ℕ → State → Type 0) (step : (r p q : ℕ) (st : St
 pub rowPairs-most : (n m : ℕ) → rowPairs n m ≤ m * n
 unfolding rowPairs
 rowPairs-most n zero = zero-le
-rowPairs-most n (suc m) = omega (arith, rowPairs-most n m, suc-mul m n)
+rowPairs-most n (suc m) = omega (arith, rowPairs-most n m)
 
 pub square-most : {n : ℕ} → n ≤ maxSide → n * n ≤ maxSide * maxSide
 square-most h = mul-le-mul h h

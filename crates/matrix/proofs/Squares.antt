@@ -61,7 +61,7 @@ module _ (l t z w u : ℕ) (big : 2 ^ 30 ≤ l) (cz : Close z (t * t) l) (cw : C
     -- so c² (1 + t²) is hardly more than 1
     about-c : c * c * (l * l + t * t) * 2 ^ 11 ≤ l * l * (l * l) * (2 ^ 11 + 1)
     about-c =
-        let h : c * u * 2 ^ 16 ≤ l * l * (2 ^ 16 + 1) = omega (arith, cc .hi) in
+        let h : c * u * 2 ^ 16 ≤ l * l * (2 ^ 16 + 1) = omega arith in
         let p : c * c * ((l * l + t * t) * 2 ^ 16) ≤ c * c * (u * u * (2 ^ 16 + 8)) = mul-le-mul-left (c * c) about-u in
         let q : c * u * 2 ^ 16 * (c * u * 2 ^ 16) ≤ l * l * (2 ^ 16 + 1) * (l * l * (2 ^ 16 + 1)) = mul-le-mul h h in
         step (c * c * (l * l + t * t)) (c * c * (u * u)) (l * l * (l * l)) (omega arith) (omega arith)
@@ -113,10 +113,10 @@ module _ (l c s p q x y z w r t : ℕ) (pos : 0 < l) (unit : InCircle l c s) (cx
   far = elim (le-or-lt x y) [ inl h ↦ below (omega arith) | inr h ↦ above (omega arith) ]
     where
       below : x + distance x y ≡ y → distance x y * l * 2 ^ 20 ≤ distance (c * p) (s * q) * 2 ^ 20 + (c * p + s * q) + 2 * (l * 2 ^ 20)
-      below e = let f = ap (λ (v : ℕ). v * l) e in let m : s * q ≤ c * p + distance (c * p) (s * q) = omega arith in omega (arith, cx .lo, cy .hi)
+      below e = let f = ap (λ (v : ℕ). v * l) e in let m : s * q ≤ c * p + distance (c * p) (s * q) = omega arith in omega arith
 
       above : y + distance x y ≡ x → distance x y * l * 2 ^ 20 ≤ distance (c * p) (s * q) * 2 ^ 20 + (c * p + s * q) + 2 * (l * 2 ^ 20)
-      above e = let f = ap (λ (v : ℕ). v * l) e in let m : c * p ≤ s * q + distance (c * p) (s * q) = omega arith in omega (arith, cx .hi, cy .lo)
+      above e = let f = ap (λ (v : ℕ). v * l) e in let m : c * p ≤ s * q + distance (c * p) (s * q) = omega arith in omega arith
 
   -- (cp - sq)² + (sp + cq)² = (c² + s²) (p² + q²)
   exact : distance (c * p) (s * q) * distance (c * p) (s * q) + (s * p + c * q) * (s * p + c * q) ≡ (c * c + s * s) * (p * p + q * q)
@@ -132,7 +132,7 @@ module _ (l c s p q x y z w r t : ℕ) (pos : 0 < l) (unit : InCircle l c s) (cx
   turned =
       let m = distance (c * p) (s * q) in
       let a = square r m (c * p) (s * q) (result r (distance x y) m (c * p + s * q) far (omega arith) cr) in
-      let b = square t (s * p + c * q) (s * p) (c * q) (result t (z + w) (s * p + c * q) (s * p + c * q) (omega (arith, cz .hi, cw .hi)) (omega arith) ct) in
+      let b = square t (s * p + c * q) (s * p) (c * q) (result t (z + w) (s * p + c * q) (s * p + c * q) (omega arith) (omega arith) ct) in
       let u = mul-le-mul-right (p * p + q * q) unit in
       cancel (r * r + t * t) (p * p + q * q) (l * l) (mul-pos pos pos)
       (collect (r * l * 2 ^ 20 * (r * l * 2 ^ 20)) (t * l * 2 ^ 20 * (t * l * 2 ^ 20)) (m * m) ((s * p + c * q) * (s * p + c * q)) (c * p * (c * p) + s * q * (s * q)) (s * p * (s * p) + c * q * (c * q)) ((c * c + s * s) * (p * p + q * q)) (l * l) (l * l * (p * p + q * q)) ((r * r + t * t) * (l * l)) (omega arith) (omega arith) exact (omega arith) (omega arith) (omega arith))
