@@ -188,7 +188,7 @@ module _ (k : ℕ) (small : k ≤ maxPower) (r : List Float) (sizes : All (Sized
       chain-must (allFinite n n a) CovarianceNotFinite (finite-same n n a' a (λ i j l m. ap isFinite (f' i j l m ∙ sym (f i j l m)))) (λ e₈.
       not-finite-nan (sym (ap isFinite (f 0 0 (s .0) (s .0))) ∙ finite-all n n a e₈ 0 0 (s .0) (s .0)))
 
-  pub settings-chain : Chain Done (ofSettings (settings E S H limit) δ P n side x b a) (ofSettings (settings E' S H' limit) δ P n side y b' a')
+  settings-chain : Chain Done (ofSettings (settings E S H limit) δ P n side x b a) (ofSettings (settings E' S H' limit) δ P n side y b' a')
   unfolding ofSettings
   settings-chain =
       chain-same (badRegularization H) (h .bad) (λ e₁.

@@ -128,7 +128,7 @@ module _ {k n P : ℕ} {x y : Matrix} (small : k ≤ maxPower) (r : Returns k n 
     v-above = above-zero (Σ n m i i) (sizeOf P n x i) (v-range i a) tolerance-range (variance-plus i a) size-plus h
 
     -- the column is not zero: the volatility of zeros is a zero, for their bounds leave room for nothing else
-    pub not-zero : 0 < mag (largest P x i)
+    not-zero : 0 < mag (largest P x i)
     not-zero = elim (eq-zero-or-pos (mag A)) [ inr p ↦ p | inl z ↦ absurd (zeros z) ]
       where
         same-column : covariance P (λ t j. scaled (exponentsOf P n x) x t i) i i ≡ covariance P (scaled (exponentsOf P n x) x) i i
@@ -161,7 +161,7 @@ module _ {k n P : ℕ} {x y : Matrix} (small : k ≤ maxPower) (r : Returns k n 
         (near-least (mag 1e-10 * mag (sizeOf P n x i)) U (2 ^ tenBillionthBounds .least) U-pos (held-pow (tenBillionthBounds .least)) (le-trans (le-of-eq (ap (λ (z : ℕ). 2 ^ tenBillionthBounds .least * z) U-is)) (mul-le-mul (ten-billionth-moved .range .least ten-billionth-above) one))) in
         le-of-lt (lt-of-le-of-lt least (le-no (sqrt (Σ n m i i)) t (plus-val (sqrt (Σ n m i i)) (v-range i a .fit) (v-range i a .finite) (sign-sqrt (Σ n m i i) (variance-plus i a))) (plus-val t (tolerance-range .fit) (tolerance-range .finite) (sign-mul 1e-10 (sizeOf P n x i) (unfold sign ofBits in sym size-plus))) h))
 
-    pub v-moved : Moved 0 steadyVolatilityBounds (sqrt (Σ n (found P n x) i i)) (sqrt (Σ n (found P n x) i i))
+    v-moved : Moved 0 steadyVolatilityBounds (sqrt (Σ n (found P n x) i i)) (sqrt (Σ n (found P n x) i i))
     v-moved = still steadyVolatilityBounds (range-size (steadyVolatilityBounds .least) (2 ^ steadyVolatilityBounds .most) (sqrt (Σ n m i i)) (lit≤ tt) (v-range i a .fit) (v-range i a .finite) (inr v-least) (v-range i a .most))
 
     -- its inverse, and the mean over it

@@ -71,7 +71,7 @@ module _ (c : ℕ) (few : c ≤ 8192) (x y : Float) (s t : Bool) (a b : ℕ) (v 
   div-most : 0 < b → a * U ≤ c * W * b → Val (x ⊘ y) (unlike s t) (near (a * U) b) × (near (a * U) b ≤ c * W)
   div-most B h = within c few (x ⊘ y) (unlike s t) (a * U) b B (div-rounded x y s t a b v w B) h
 
-  pub add-most : total s a t b ≤ c * W → Val (x ⊕ y) (sumSign s a t b) (near (total s a t b) 1) × (near (total s a t b) 1 ≤ c * W)
+  add-most : total s a t b ≤ c * W → Val (x ⊕ y) (sumSign s a t b) (near (total s a t b) 1) × (near (total s a t b) 1 ≤ c * W)
   add-most h = within c few (x ⊕ y) (sumSign s a t b) (total s a t b) 1 (zero-lt-suc 0) (add-rounded x y s t a b v w) (le-trans h (le-of-eq (sym (mul-one (c * W)))))
 
 half-val : Val half false (16 * W)
@@ -82,7 +82,7 @@ one-W : Val one false (32 * W)
 one-W = subst (Val one false) U-W one-val
 
 -- 1 + t, for a t of c / 32 at most
-pub one-plus : (c : ℕ) → c ≤ 31 → (x : Float) (t : Bool) (b : ℕ) → Val x t b → b ≤ c * W → (d : ℕ) × Val (one ⊕ x) false d × ((32 - c) * W ≤ d) × (d ≤ (32 + c) * W)
+one-plus : (c : ℕ) → c ≤ 31 → (x : Float) (t : Bool) (b : ℕ) → Val x t b → b ≤ c * W → (d : ℕ) × Val (one ⊕ x) false d × ((32 - c) * W ≤ d) × (d ≤ (32 + c) * W)
 one-plus c few x t b v h = go t v
   where
     less : (32 - c) * W + c * W ≡ 32 * W
@@ -121,7 +121,7 @@ module _ (r : Float) (s : Bool) (a : ℕ) (v : Val r s a) (small-r : a ≤ 16 * 
       along c m W U = omega arith
 
   -- while it divides by 2 or more
-  pub horner-within : (d n : ℕ) → suc n + suc d ≤ 15 → (p : Float) (b : ℕ) → Val p false b → 20 * W ≤ b → b ≤ 44 * W → (e : ℕ) × Val (horner r (suc d) n p) false e × (20 * W ≤ e) × (e ≤ 44 * W)
+  horner-within : (d n : ℕ) → suc n + suc d ≤ 15 → (p : Float) (b : ℕ) → Val p false b → 20 * W ≤ b → b ≤ 44 * W → (e : ℕ) × Val (horner r (suc d) n p) false e × (20 * W ≤ e) × (e ≤ 44 * W)
   unfolding horner
   horner-within d zero few p b w lo hi = (b, w, lo, hi)
   horner-within d (suc n) few p b w lo hi =
@@ -129,7 +129,7 @@ module _ (r : Float) (s : Bool) (a : ℕ) (v : Val r s a) (small-r : a ≤ 16 * 
       horner-within d n (omega arith) (one ⊕ r ⊗ p ⊘ count (suc n + suc d)) (q .0) (q .1) (q .2) (q .3)
 
   -- to the division by 1
-  pub horner-last : (n : ℕ) → n ≤ 13 → (p : Float) (b : ℕ) → Val p false b → 20 * W ≤ b → b ≤ 44 * W → (e : ℕ) × Val (horner r 0 n p) false e × (10 * W ≤ e) × (e ≤ 54 * W)
+  horner-last : (n : ℕ) → n ≤ 13 → (p : Float) (b : ℕ) → Val p false b → 20 * W ≤ b → b ≤ 44 * W → (e : ℕ) × Val (horner r 0 n p) false e × (10 * W ≤ e) × (e ≤ 54 * W)
   unfolding horner
   horner-last zero few p b w lo hi = (b, w, omega arith, omega arith)
   horner-last (suc zero) few p b w lo hi = step (suc zero + 0) p b 22 (lit≤ tt) (lit≤ tt) w hi (lit≤ tt) (lit≤ tt)

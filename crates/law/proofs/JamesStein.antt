@@ -155,7 +155,7 @@ module _ {k n P : ℕ} {x y : Matrix} (small : k ≤ maxPower) (r : Returns k n 
   pub decomposition-same : (limit : ℕ) → shrunk limit P n y .decomposition ≡ shrunk limit P n x .decomposition
   decomposition-same limit = ap (λ (m : Moments). jamesStein n limit m (binaryExponent (amax P n y)) .decomposition) found-same
 
-  pub james-copied : (limit : ℕ) → AtLeast meanRange (shrunk limit P n x .intensity) → Copied k n (shrunk limit P n x) (shrunk limit P n y)
+  james-copied : (limit : ℕ) → AtLeast meanRange (shrunk limit P n x .intensity) → Copied k n (shrunk limit P n x) (shrunk limit P n y)
   james-copied limit a =
       let same = found-same in
       let w : Moments → Shrinking = λ m. jamesStein n limit m (binaryExponent (amax P n y)) in

@@ -77,7 +77,7 @@ module _ (r : List Float) (n P : ℕ) (slice : List Float) where
       let q = pass-append (opening r n P n slice) cs (all-pass (first (opening r n P n slice ++ cs)) slice _ h) .1 in
       pass-must (d .found) Singular (pass-cons (when (not (d .found)) Singular) [] (pass-cons c (when (not (d .found)) Singular ∷ []) q .1) .0)
 
-  pub james-limit : (limit limit′ : ℕ) → limit ≤ limit′ → limit′ ≤ maxSweeps → Accepted (jamesSteinMean r n P limit slice) → jamesSteinMean r n P limit′ slice ≡ jamesSteinMean r n P limit slice
+  james-limit : (limit limit′ : ℕ) → limit ≤ limit′ → limit′ ≤ maxSweeps → Accepted (jamesSteinMean r n P limit slice) → jamesSteinMean r n P limit′ slice ≡ jamesSteinMean r n P limit slice
   james-limit limit limit′ l h a =
       let f = james-found (uneven r n P limit) (sweepLimit limit) (subst Accepted (james-is r n P limit slice) a) in
       let m = inUnit r n P in
@@ -91,7 +91,7 @@ module _ (r : List Float) (n P : ℕ) (slice : List Float) where
       let q₃ = pass-cons _ _ (q₂ .1) in
       pass-must (d .found) Singular (pass-cons _ _ (q₃ .1) .0)
 
-  pub bayes-limit : (limit limit′ : ℕ) → limit ≤ limit′ → limit′ ≤ maxSweeps → Accepted (bayesSteinMean r n P limit slice) → bayesSteinMean r n P limit′ slice ≡ bayesSteinMean r n P limit slice
+  bayes-limit : (limit limit′ : ℕ) → limit ≤ limit′ → limit′ ≤ maxSweeps → Accepted (bayesSteinMean r n P limit slice) → bayesSteinMean r n P limit′ slice ≡ bayesSteinMean r n P limit slice
   bayes-limit limit limit′ l h a =
       let m = found P n (at r n) in
       let f = bayes-found (taken limit n m) (sweepLimit limit) (subst Accepted (bayes-is r n P limit slice) a) in
@@ -144,7 +144,7 @@ module _ (r : List Float) (n P : ℕ) (s : Settings) (given : List Float) (side 
       let a = ofAnswer r n P s given side in
       pass-append o cs (pass-append (o ++ cs) a (all-pass (first (o ++ cs ++ a)) slice _ h) .0) .1
 
-  pub covariance-limit : (limit limit′ : ℕ) → limit ≤ limit′ → limit′ ≤ maxSweeps → Accepted (adjustedCovariance r n P (limited s limit) given side slice)
+  covariance-limit : (limit limit′ : ℕ) → limit ≤ limit′ → limit′ ≤ maxSweeps → Accepted (adjustedCovariance r n P (limited s limit) given side slice)
       → adjustedCovariance r n P (limited s limit′) given side slice ≡ adjustedCovariance r n P (limited s limit) given side slice
   unfolding g
   covariance-limit limit limit′ l h a =

@@ -82,13 +82,13 @@ copies-shift k [] (y ∷ l') t u c = absurd c
 copies-shift k (x ∷ l) [] t u c = absurd c
 copies-shift k (x ∷ l) (y ∷ l') t u c = ap₂ (λ (z : Float) (zs : List Float). z ∷ zs) (copy-shift k x y (t .0) (u .0) (c .0)) (copies-shift k l l' (t .1) (u .1) (c .1))
 
-pub each-tab : (R : Float → Float → Type 0) (n : ℕ) (f f' : ℕ → Float) → ((i : ℕ) → i < n → R (f i) (f' i)) → Each R (tab n f) (tab n f')
+each-tab : (R : Float → Float → Type 0) (n : ℕ) (f f' : ℕ → Float) → ((i : ℕ) → i < n → R (f i) (f' i)) → Each R (tab n f) (tab n f')
 unfolding tab
 each-tab R zero f f' h = tt
 each-tab R (suc n) f f' h = (h 0 (omega arith), each-tab R n (λ i. f (suc i)) (λ i. f' (suc i)) (λ i l. h (suc i) (omega arith)))
 
 -- the answer's part of a slice
-pub take-fill : (n : ℕ) (f : ℕ → Float) (slice : List Float) → take n (fill n f slice) ≡ tab n f
+take-fill : (n : ℕ) (f : ℕ → Float) (slice : List Float) → take n (fill n f slice) ≡ tab n f
 unfolding fill
 take-fill n f slice = ap (λ (k : ℕ). take k (tab n f ++ drop n slice)) (sym (length-tab f n)) ∙ take-append-seam (tab n f) (drop n slice)
 
@@ -103,7 +103,7 @@ each-back R S f [] (y ∷ l') h = absurd h
 each-back R S f (x ∷ l) [] h = absurd h
 each-back R S f (x ∷ l) (y ∷ l') h = (f x y (h .0), each-back R S f l l' (h .1))
 
-pub times-back : (j k : ℤ) → ((a b : ℤ) → TimesPower j a b → TimesPower k b a) → (x y : Float) → Times j x y → Times k y x
+times-back : (j k : ℤ) → ((a b : ℤ) → TimesPower j a b → TimesPower k b a) → (x y : Float) → Times j x y → Times k y x
 times-back j k f nan nan h = tt
 times-back j k f nan (inf t) h = absurd h
 times-back j k f nan (fin t n d) h = absurd h

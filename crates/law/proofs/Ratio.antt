@@ -306,7 +306,7 @@ module _ (n : ℕ) (few : suc n ≤ maxSide) (v : ℕ → Float) (fit : (e : ℕ
               let d : 2 * L ≤ (4 * B + 1) * 2 ^ fractionBits = le-of-mul-le-mul-right {k = z} c p in
               omega arith
 
-pub positive : (n : ℕ) → suc n ≤ maxSide → (v : ℕ → Float) → ((e : ℕ) → e < suc n → T (fits binary64 (v e))) → ((e : ℕ) → e < suc n → T (number (v e))) → le (minTo (suc n) v) (count (suc n) ⊗ ε ⊗ maxTo (suc n) v) ≡ false → Positive (suc n) v
+positive : (n : ℕ) → suc n ≤ maxSide → (v : ℕ → Float) → ((e : ℕ) → e < suc n → T (fits binary64 (v e))) → ((e : ℕ) → e < suc n → T (number (v e))) → le (minTo (suc n) v) (count (suc n) ⊗ ε ⊗ maxTo (suc n) v) ≡ false → Positive (suc n) v
 unfolding minTo maxTo
 positive n few v fit nums h =
     let M = picked v n fit nums larger (λ a b. b ≤ a) (λ a b c p q. le-trans q p) larger-key (suc n) (le-refl (suc n)) in
@@ -437,7 +437,7 @@ module _ (n : ℕ) (few : suc n ≤ maxSide) (v : ℕ → Float) (vf : (e : ℕ)
             top : Top ≤ 2 ^ suc sideBits * 2 ^ (topBits - sideBits)
             top = unfold Top in lit≤ tt
 
-    pub ratio-finite-most : T (isFinite (N ⊘ D)) → mag (N ⊘ D) ≤ 2 ^ ratioMost
+    ratio-finite-most : T (isFinite (N ⊘ D)) → mag (N ⊘ D) ≤ 2 ^ ratioMost
     ratio-finite-most F =
         let L = values .L in
         let X = mag D * L in

@@ -29,7 +29,7 @@ abbrev tinyBits : ℕ
 tinyBits = suc fractionBits + maxPower
 
 -- how far j may lie from 0
-abbrev pub farthest : ℕ
+abbrev farthest : ℕ
 farthest = 1022 - maxPower
 
 module _ (R : Float) (fit : T (fits binary64 R)) (finite : T (isFinite R)) (h : ℕ) (most : mag R ≤ 2 ^ h) (j : ℤ) (k : ℕ) (small : k ≤ maxPower) (low : under j ≤ farthest) (high : over j ≤ farthest) (room : h + over (j +ℤ pos k) ≤ topBits + under (j +ℤ pos k)) where

@@ -75,7 +75,7 @@ zero-average = zero-by (λ x. x ⊘ two) go
 pub is-zero : (x : Float) → Zero x → eq x zero⁺ ≡ true
 is-zero x p = ap (λ (x : Float). eq x zero⁺) (p .1) ∙ zero-is-zero (p .0) (pos 0)
 
-pub zero-fits : (s : Bool) → T (fits binary64 (fin s zero (pos 0)))
+zero-fits : (s : Bool) → T (fits binary64 (fin s zero (pos 0)))
 unfolding fits
 zero-fits s = tt
 

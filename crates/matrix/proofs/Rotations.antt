@@ -13,10 +13,10 @@ use Rattle.matrix.proofs.Rotated.{rotate-cases}
 use Rattle.matrix.proofs.Counts.{rowPairs, pairs, row-keeps, rows-keep, sweep-keeps, sweeps-keep}
 use Rattle.matrix.proofs.Sweeps.{begun, decompose-reached}
 
-abbrev pub AtMost : ℕ → State → Type 0
+abbrev AtMost : ℕ → State → Type 0
 AtMost r st = st .rotations ≤ r
 
-pub rotate-count : (n r p q : ℕ) (st : State) → p < q → q < n → AtMost r st → AtMost (suc r) (rotate n p q st)
+rotate-count : (n r p q : ℕ) (st : State) → p < q → q < n → AtMost r st → AtMost (suc r) (rotate n p q st)
 unfolding rotateBy rotated
 rotate-count n r p q st a b h = rotate-cases (AtMost (suc r)) n p q st (le-step h) (λ τ. suc-le-suc h)
 
