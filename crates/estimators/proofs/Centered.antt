@@ -10,9 +10,13 @@ use lib.Ieee.Fits.{sub-fits}
 use Rattle.leaves.specs.Numbers.{_⊖_, _⊗_, _⊘_, count, zero⁺}
 use Rattle.leaves.specs.Loops.{amaxTo, tab, nth}
 use Rattle.leaves.specs.Scaling.{binaryExponent, pow2Scaled}
-use Rattle.leaves.proofs.Loops.{sum-ext, amax-ext, length-tab}
+use Rattle.leaves.proofs.Loops.{sum-ext, amax-ext}
+use Rattle.leaves.proofs.Lists.{nth-stored, tab-long}
 use Rattle.matrix.specs.Matrix.{Matrix, at, rows, amax, trace, total, sumOver, every, Symmetric}
 use Rattle.matrix.proofs.Stored.{rows-at, rows-ext}
+use Rattle.matrix.proofs.OfStored.{at-stored}
+use Rattle.matrix.proofs.SumOver.{sum-over-ext}
+use Rattle.matrix.proofs.Largest.{amax-columns}
 use Rattle.estimators.specs.Sample.{mean, deviation, gram, scaled, volatility}
 use Rattle.estimators.specs.LedoitWolf.{apart, averageCorrelation, variation, covariation, targetVariation, error, distance, intensityBy, intensityOf, ledoitWolf, secondMoments, intensityFrom, crossVariation, distance²}
 use Rattle.estimators.specs.Rows.{inUnit, formed, rowsOf}
@@ -20,12 +24,9 @@ use Rattle.estimators.specs.Powers.{Factored}
 use Rattle.estimators.specs.declared.Target.{Target}
 use Rattle.estimators.specs.declared.Target.the-variants.{ConstantVariance, ConstantCorrelation}
 use Rattle.estimators.specs.declared.rows.Row.the-variants.{Deviation, Scaled}
-use Rattle.estimators.proofs.Stored.{nth-stored, at-stored}
-use Rattle.matrix.proofs.SumOver.{sum-over-ext}
 use Rattle.estimators.proofs.GramSymmetric.{gram-symmetric}
 use Rattle.estimators.proofs.Samples.{row-bare}
 use Rattle.estimators.proofs.SameReturns.{gram-ext}
-use Rattle.estimators.proofs.Largest.{amax-columns}
 
 -- ---- of numbers that are alike in T periods of n assets
 
@@ -93,7 +94,7 @@ module _ (T n : ℕ) (x : Matrix) {centers : List Float} (ec : centers ≡ tab n
   -- the largest of the columns' largest
   pub largest-is : {sizes : List Float} {m : Float} → sizes ≡ tab n (λ i. amaxTo T (λ t. rowsOf Deviation n [] centers [] x t i)) → m ≡ amaxTo (length sizes) (nth sizes) → m ≡ amax T n (deviation T x)
   largest-is {sizes} es em =
-      em ∙ ap (λ (k : ℕ). amaxTo k (nth sizes)) (ap length es ∙ length-tab _ n)
+      em ∙ ap (λ (k : ℕ). amaxTo k (nth sizes)) (tab-long n _ sizes es)
       ∙ amax-ext n (nth sizes) (λ i. amaxTo T (λ t. deviation T x t i))
       (λ i h. nth-stored n _ es i h ∙ amax-ext T _ _ (λ t ht. deviation-formed t i h))
       ∙ sym (amax-columns T n (deviation T x) (λ t i. unfold deviation in sub-fits binary64 (x t i) (mean T x i)))

@@ -5,10 +5,11 @@ use Prim.Native.Nat.{ℕ, _<_}
 use lib.Ieee.{Float}
 use Rattle.leaves.specs.Loops.{firstTo, tab, nth}
 use Rattle.leaves.specs.Root.{sqrt}
-use Rattle.leaves.proofs.Loops.{first-ext}
+use Rattle.leaves.proofs.First.{first-ext}
+use Rattle.leaves.proofs.Lists.{nth-stored}
 use Rattle.matrix.specs.Matrix.{Matrix, at, rows}
+use Rattle.matrix.proofs.OfStored.{at-stored}
 use Rattle.estimators.specs.Sample.{volatility, isConstant, constantAsset}
-use Rattle.estimators.proofs.Stored.{nth-stored, at-stored}
 
 pub constant-ext : (n : ℕ) (v w x y : ℕ → Float) → ((i : ℕ) → i < n → v i ≡ w i) → ((i : ℕ) → i < n → x i ≡ y i)
     → firstTo n (λ i. isConstant (v i) (x i)) ≡ firstTo n (λ i. isConstant (w i) (y i))

@@ -17,7 +17,7 @@ use Rattle.leaves.specs.Scaling.{pow2, pow2Scaled, cut}
 use Rattle.leaves.proofs.Whole.{over, under, one-side, minus, same, le-or-lt}
 use Rattle.leaves.proofs.Scale.{pow2-fits, scaled-once, scaled-exact, times-one}
 use Rattle.leaves.proofs.ScaleSteps.{cut-range, scale-last, scale-step}
-use Rattle.estimators.specs.Powers.{Factored}
+use Rattle.estimators.specs.Powers.{Factored, UnitsTo}
 use Rattle.estimators.specs.Exponents.{exponentAt, maxExponent}
 use Rattle.estimators.proofs.Exponents.{size-is}
 
@@ -50,10 +50,6 @@ factored k size near far e e′ x =
     whole h = ap (λ (j : ℤ). x ⊗ pow2 j ⊗ pow2 (k -ℤ j)) h ∙ ap (λ (z : ℤ). x ⊗ pow2 k ⊗ pow2 z) (+ℤ-invr k) ∙ times-one (x ⊗ pow2 k) (mul-fits binary64 x (pow2 k)) ∙ scale-last x k h
 
 -- ---- a list of factors, one column more
-
--- the first k of n columns have theirs
-abbrev pub UnitsTo : ℕ → ℕ → List ℤ → List Float → Type 0
-UnitsTo n k es units = (i : ℕ) → i < k → Factored (nth units i) (nth units (n + i)) (negℤ (exponentAt es i))
 
 module _ (n i : ℕ) (es : List ℤ) (out : List Float) (near far : Float) (h : i < n) (len : length out ≡ n + n) where
   abbrev next : List Float

@@ -9,10 +9,11 @@ use borrow.Author.Tests.{le-leb, lt-leb}
 use Rattle.leaves.specs.Numbers.{_⊗_}
 use Rattle.leaves.specs.Loops.{tab, nth}
 use Rattle.leaves.proofs.Loops.{tab-ext}
+use Rattle.leaves.proofs.Lists.{tab-then}
 use Rattle.matrix.specs.Matrix.{at}
+use Rattle.matrix.proofs.Replaced.{part-nth}
 use Rattle.estimators.specs.Rows.{inUnit, formed, rowsOf}
 use Rattle.estimators.specs.declared.rows.Row.{Row}
-use Rattle.estimators.proofs.Stored.{tab-then, part-nth}
 
 module _ (row : Row) (n : ℕ) (xs units centers : List Float) (w : Float) where
   -- the row, formed of the scaled numbers where there are units, and of the numbers where there are none

@@ -7,6 +7,7 @@ use lib.Ieee.{Float}
 use Rattle.leaves.specs.Numbers.{_⊖_, _⊗_, _⊘_, count, min0}
 use Rattle.leaves.specs.Loops.{tab, nth}
 use Rattle.leaves.specs.Root.{sqrt}
+use Rattle.leaves.proofs.Lists.{nth-stored}
 use Rattle.matrix.specs.Matrix.{Matrix, rows}
 use Rattle.matrix.proofs.Stored.{rows-ext}
 use Rattle.estimators.specs.Sample.{gram}
@@ -14,7 +15,6 @@ use Rattle.estimators.specs.Semi.{shortfall, below}
 use Rattle.estimators.specs.Weighted.{weights, denominator, weightedMean, weightedCovariance}
 use Rattle.estimators.specs.Rows.{formed, rowsOf}
 use Rattle.estimators.specs.declared.rows.Row.the-variants as Row
-use Rattle.estimators.proofs.Stored.{nth-stored}
 use Rattle.estimators.proofs.Halves.{rows-over}
 use Rattle.estimators.proofs.Samples.{row-bare}
 use Rattle.estimators.proofs.SameReturns.{gram-ext}

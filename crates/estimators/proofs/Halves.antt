@@ -10,16 +10,17 @@ use lib.Ieee.{Float}
 use borrow.Author.Tests.{ltb-true, ltb-false}
 use Rattle.leaves.specs.Numbers.{_⊘_, zero⁺, count}
 use Rattle.leaves.specs.Loops.{loop, sumTo, tab, nth}
-use Rattle.matrix.specs.Matrix.{Matrix, at, rows, Symmetric}
 use Rattle.leaves.proofs.Loops.{sum-ext}
 use Rattle.leaves.proofs.Commutative.{product-comm}
+use Rattle.leaves.proofs.Lists.{tab-then}
+use Rattle.matrix.specs.Matrix.{Matrix, at, rows, Symmetric}
 use Rattle.matrix.proofs.Stored.{rows-ext}
+use Rattle.matrix.proofs.OfStored.{at-stored}
 use Rattle.estimators.specs.Sample.{gram}
 use Rattle.estimators.specs.LedoitWolf.{variation, covariation, distance²}
 use Rattle.estimators.specs.Rows.{factor, joined, summand, start, plus, summed, mirrored}
 use Rattle.estimators.specs.declared.tables.Term.{Term}
 use Rattle.estimators.specs.declared.tables.Term.the-variants.{Product, Square, Cube}
-use Rattle.estimators.proofs.Stored.{at-stored, tab-then}
 use Rattle.estimators.proofs.Sums.{start-low, whole-sum}
 
 -- ---- half of a table

@@ -10,6 +10,7 @@ use Rattle.leaves.specs.Numbers.{_⊗_, _⊘_}
 use Rattle.leaves.specs.Loops.{sumTo, tab, nth}
 use Rattle.leaves.specs.Scaling.{binaryExponent, pow2Scaled}
 use Rattle.leaves.proofs.Loops.{sum-ext, tab-ext}
+use Rattle.leaves.proofs.Lists.{getD-stored, nth-stored, tab-then}
 use Rattle.matrix.specs.Matrix.{Matrix}
 use Rattle.estimators.specs.Exponents.{exponentAt}
 use Rattle.estimators.specs.Sample.{largest, scaled}
@@ -17,7 +18,6 @@ use Rattle.estimators.specs.Weighted.{scaledMean, weightedMean}
 use Rattle.estimators.specs.Rows.{formed, rowsOf}
 use Rattle.estimators.specs.Powers.{Units}
 use Rattle.estimators.specs.declared.rows.Row.the-variants as Row
-use Rattle.estimators.proofs.Stored.{getD-stored, nth-stored, tab-then}
 use Rattle.estimators.proofs.Samples.{unit-scaled}
 
 module _ (T n : ℕ) (x : Matrix) (es : List ℤ) (w : List Float) where

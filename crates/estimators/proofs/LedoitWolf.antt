@@ -5,14 +5,14 @@ use Prim.Native.Nat.{ℕ}
 use lib.Ieee.{Float}
 use Rattle.leaves.specs.Numbers.{_⊖_, _⊗_, _⊘_}
 use Rattle.leaves.specs.Loops.{tab, nth}
+use Rattle.leaves.proofs.Lists.{nth-stored}
 use Rattle.matrix.specs.Matrix.{Matrix, at, rows, trace, total, sumOver}
+use Rattle.matrix.proofs.OfStored.{at-stored, total-stored, trace-stored}
+use Rattle.matrix.proofs.SumOver.{sum-over-ext}
 use Rattle.estimators.specs.Sample.{volatility}
 use Rattle.estimators.specs.LedoitWolf.{apart, averageCorrelation, variation, covariation, targetVariation, error, distance, intensityBy, intensityOf, crossVariation}
 use Rattle.estimators.specs.declared.Target.{Target}
 use Rattle.estimators.specs.declared.Target.the-variants.{ConstantVariance, ConstantCorrelation}
-use Rattle.estimators.proofs.Stored.{nth-stored, at-stored}
-use Rattle.matrix.proofs.SumOver.{sum-over-ext}
-use Rattle.estimators.proofs.Entries.{total-stored, trace-stored}
 
 -- δ, from the error and γ
 pub intensity-is : (F : Target) (T n : ℕ) (z s : Matrix) {γ e r : Float} → γ ≡ distance F n s → e ≡ error F T n z s → r ≡ intensityBy e T γ → r ≡ intensityOf F T n z s

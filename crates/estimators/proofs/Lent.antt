@@ -1,7 +1,7 @@
 -- What `search` is handed, beside `needs`, where a function lends a part of an array of the largest size: the part has the length asked for, the n and the
 -- n × n numbers of n assets have room, n × n fits a usize, and a list of n numbers or a table of n × n is that long.
 -- And what a part holds of an array that holds one number everywhere (`part-at`). Assumes nothing.
-use mathlib.Core.Path.{_≡_, ap, _∙_}
+use mathlib.Core.Path.{_≡_, _∙_}
 use mathlib.Core.List.{List}
 use Prim.Native.Nat.{ℕ, _*_, _≤_, _<_}
 use native.Mathlib.Omega.{arith}
@@ -12,12 +12,10 @@ use mir.Syntax.{w64}
 use mir.Val.{Fits}
 use mir.Facts.{fits-below}
 use borrow.Author.Needs.{needs}
-use Rattle.leaves.specs.Loops.{tab}
-use Rattle.leaves.proofs.Loops.{length-tab}
+use Rattle.leaves.proofs.Lists.{tab-long}
 use Rattle.matrix.specs.Limits.{maxSide}
-use Rattle.matrix.specs.Matrix.{Matrix, rows}
 use Rattle.matrix.proofs.Counts.{square-most}
-use Rattle.matrix.proofs.Stored.{length-rows}
+use Rattle.matrix.proofs.OfStored.{rows-long}
 
 pub vector-room : {n : ℕ} (l : List Float) → length l ≡ maxSide → n ≤ maxSide → n ≤ length l
 vector-room l e h = omega arith
@@ -27,12 +25,6 @@ table-room l e h = omega (arith, square-most h)
 
 pub square-fits : (n : ℕ) → n ≤ maxSide → Fits w64 (n * n)
 square-fits n h = fits-below tt (square-most h)
-
-pub tab-long : {A : Type 0} (n : ℕ) (f : ℕ → A) (l : List A) → l ≡ tab n f → length l ≡ n
-tab-long n f l e = ap length e ∙ length-tab f n
-
-pub rows-long : (n : ℕ) (f : Matrix) (l : List Float) → l ≡ rows n n f → length l ≡ n * n
-rows-long n f l e = ap length e ∙ length-rows f n n
 
 pub ruleset lent = (needs, length-take-le, vector-room, table-room, square-most, square-fits, tab-long, rows-long)
 

@@ -1,5 +1,4 @@
 -- The laws that the proofs of the estimators share.
-pub mod Stored
 pub mod Formed
 pub mod Sums
 pub mod Passes
@@ -11,8 +10,6 @@ pub mod Shapes
 pub mod Opened
 pub mod Estimated
 pub mod LedoitWolfCall
-pub mod Entries
-pub mod Largest
 pub mod LedoitWolf
 pub mod Centered
 pub mod OfGiven

@@ -13,6 +13,7 @@ use lib.Ieee.{Float}
 use Rattle.leaves.specs.Loops.{tab, nth}
 use Rattle.leaves.specs.Scaling.{binaryExponent, pow2Scaled}
 use Rattle.leaves.proofs.Loops.{tab-ext}
+use Rattle.leaves.proofs.Lists.{nth-stored}
 use Rattle.matrix.specs.Limits.{maxSweeps}
 use Rattle.matrix.specs.Matrix.{Matrix, at, amax, allFinite}
 use Rattle.estimators.specs.Exponents.{exponentAt}
@@ -31,7 +32,6 @@ use Rattle.estimators.specs.declared.Refusal.{Refusal}
 use Rattle.estimators.specs.declared.Refusal.the-variants.{ZeroVariance, Singular, BadSetting}
 use Rattle.estimators.specs.declared.Field.the-variants.{SweepLimitField}
 use Rattle.estimators.specs.declared.Answer.the-variants.{Refused, Mean}
-use Rattle.estimators.proofs.Stored.{nth-stored}
 use Rattle.estimators.proofs.Firsts.{first-alone}
 use Rattle.estimators.proofs.Passed.{first-rest, first-passes}
 use Rattle.estimators.proofs.Constant.{constant-sizes}

@@ -6,7 +6,7 @@ use lib.Ieee.{Float}
 use Rattle.leaves.specs.Numbers.{zero⁺}
 use Rattle.leaves.specs.Loops.{loop, tab, nth}
 use Rattle.leaves.proofs.Loops.{tab-ext, loop-more}
-use Rattle.estimators.proofs.Stored.{tab-then}
+use Rattle.leaves.proofs.Lists.{tab-then}
 
 -- after t periods, of which period t changes column i's number by F t i
 abbrev pub after : ℕ → (ℕ → ℕ → Float → Float) → ℕ → List Float

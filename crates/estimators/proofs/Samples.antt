@@ -1,5 +1,5 @@
--- Laws of the sample moments: they are the code's sums over its counts, of the returns in their units. And the checks of the returns, by the stored
--- covariance. Assumes nothing.
+-- Laws of the sample moments: they are the code's sums over its counts, of the returns in their units. And the checks of the returns and the correlations, by the stored
+-- covariance and volatilities. Assumes nothing.
 use mathlib.Core.Path.{_≡_, sym, ap, _∙_}
 use mathlib.Core.Bool.{Bool, not}
 use mathlib.Core.List.{List, [], _∷_, _++_}
@@ -13,18 +13,18 @@ use lib.Seq.{take-at}
 use lib.Ieee.{Float}
 use Rattle.leaves.specs.Numbers.{_⊖_, _⊘_, count}
 use Rattle.leaves.specs.Loops.{sumTo, amaxTo, tab, nth}
-use Rattle.leaves.proofs.Loops.{length-tab}
+use Rattle.leaves.proofs.Lists.{nth-stored, tab-long, tab-then}
 use Rattle.matrix.specs.Matrix.{Matrix, at, rows, firstNotFinite, allFinite}
-use Rattle.matrix.proofs.Stored.{length-rows, rows-ext}
+use Rattle.matrix.proofs.Stored.{rows-ext}
 use Rattle.matrix.proofs.Alike.{finite-alike}
+use Rattle.matrix.proofs.OfStored.{at-stored, rows-long}
 use Rattle.estimators.specs.Exponents.{exponentAt}
-use Rattle.estimators.specs.Sample.{mean, deviation, gram, covariance, largest, scaled}
+use Rattle.estimators.specs.Sample.{mean, deviation, gram, covariance, largest, volatility, correlationBy, correlation, scaled}
 use Rattle.estimators.specs.Moments.{moments, momentsOf}
 use Rattle.estimators.specs.Rows.{inUnit, formed, rowsOf, inUnits}
 use Rattle.estimators.specs.Powers.{Units}
 use Rattle.estimators.specs.declared.rows.Row.{Row}
 use Rattle.estimators.specs.declared.rows.Row.the-variants.{Plain, Deviation}
-use Rattle.estimators.proofs.Stored.{nth-stored, at-stored, tab-then}
 use Rattle.estimators.specs.Refusals.{Check, when, whenSome, first}
 use Rattle.estimators.specs.Order.{notFinite, byReturns}
 use Rattle.estimators.specs.declared.Refusal.the-variants.{NotFinite, CovarianceNotFinite}
@@ -69,9 +69,9 @@ unfolding inUnit scaled
 unit-scaled n es units x e u t i h = rw (le-leb (n + n) (length units) (omega arith)) (u i h (x t i))
 
 -- the largest, of rows that are the returns
-pub largest-of : (n T : ℕ) (centers weights : List Float) (x : Matrix) → tab n (λ i. amaxTo T (λ t. rowsOf Plain n [] centers weights x t i)) ≡ tab n (largest T x)
+pub largest-of : (n T : ℕ) (centers : List Float) (x : Matrix) → tab n (λ i. amaxTo T (λ t. rowsOf Plain n [] centers [] x t i)) ≡ tab n (largest T x)
 unfolding rowsOf formed largest
-largest-of n T centers weights x = largest-same n T (inUnits n [] x) x (λ t i ht. unit-none n x t i)
+largest-of n T centers x = largest-same n T (inUnits n [] x) x (λ t i ht. unit-none n x t i)
 
 -- ---- the moments, as the first numbers of two arrays
 
@@ -79,8 +79,8 @@ pub moments-held : (n T : ℕ) (y : Matrix) (μ rest Σ others : List Float) (k 
     → momentsOf (take n (μ ++ rest)) (take (n * n) (Σ ++ others)) k ≡ moments T n y
 unfolding moments
 moments-held n T y μ rest Σ others k e e′ e″ =
-    let m = take-at μ rest n (ap length e ∙ length-tab (mean T y) n) ∙ e in
-    let s = take-at Σ others (n * n) (ap length e′ ∙ length-rows (covariance T y) n n) ∙ e′ in
+    let m = take-at μ rest n (tab-long n (mean T y) μ e) ∙ e in
+    let s = take-at Σ others (n * n) (rows-long n (covariance T y) Σ e′) ∙ e′ in
     λ i. momentsOf (m i) (s i) (e″ i)
 
 -- ---- the checks of the returns
@@ -91,3 +91,8 @@ unfolding notFinite first
 returns-pass T n x l ok k none-bad e e′ e″ =
     e″ ∙ ap (λ (b : Bool). when (not b) CovarianceNotFinite) (e′ ∙ finite-alike n n (at l n) (covariance T x) (at-stored n (covariance T x) e)) ∙ first-alone _
     ∙ (λ k. first (whenSome (sym none-bad k) (λ p. NotFinite (p .0) (p .1)) ∷ when (not (allFinite n n (covariance T x))) CovarianceNotFinite ∷ []))
+
+-- ---- correlations by volatilities that are stored
+
+pub correlation-stored : (n : ℕ) (s : Matrix) {v : List Float} → v ≡ tab n (volatility s) → (i j : ℕ) → i < n → j < n → correlationBy (nth v) s i j ≡ correlation s i j
+correlation-stored n s e i j hi hj t = s i j ⊘ nth-stored n (volatility s) e i hi t ⊘ nth-stored n (volatility s) e j hj t

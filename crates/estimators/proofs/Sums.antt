@@ -10,13 +10,16 @@ use lib.Ieee.{Float}
 use borrow.Author.Tests.{eq-eqb, ne-eqb, le-leb, lt-leb}
 use Rattle.leaves.specs.Numbers.{_⊕_, _⊖_, _⊗_, zero⁺}
 use Rattle.leaves.specs.Loops.{loop, sumTo, tab, nth}
-use Rattle.leaves.proofs.Loops.{row, length-tab, loop-more, loop-ext}
+use Rattle.leaves.proofs.Loops.{loop-more, loop-ext}
+use Rattle.leaves.proofs.Cells.{row}
+use Rattle.leaves.proofs.Lists.{nth-stored, tab-long}
 use Rattle.matrix.specs.Matrix.{Matrix, at, rows}
 use Rattle.matrix.proofs.Stored.{rows-ext}
+use Rattle.matrix.proofs.Replaced.{part-nth, replaced, row-replaced}
+use Rattle.matrix.proofs.OfStored.{rows-then}
 use Rattle.estimators.specs.Rows.{factor, joined, summand, start, plus, summed, Sized}
 use Rattle.estimators.specs.declared.tables.Term.{Term}
 use Rattle.estimators.specs.declared.tables.Term.the-variants.{Product, Square, Cube}
-use Rattle.estimators.proofs.Stored.{nth-stored, part-nth, replaced, row-replaced, rows-then}
 
 -- ---- what of s is read
 
@@ -67,7 +70,7 @@ module _ (term : Term) (n i a m from : ℕ) (l : List Float) (len : length l ≡
       → replaced a m l ys ≡ rows n n (λ p q. cond (eqb p i) (g p q (at l n p q)) (at l n p q))
   replaced-by ys g x e before new =
       row-replaced n i from a m l ys (λ p q. cond (eqb p i) (g p q (at l n p q)) (at l n p q)) len hi (omega (arith, low)) ea (omega arith)
-      (ap length e ∙ length-tab (λ k. x k (nth (take m (drop a l)) k)) (length (take m (drop a l))) ∙ part-count ∙ omega arith)
+      (tab-long (length (take m (drop a l))) _ ys e ∙ part-count ∙ omega arith)
       (λ p q hp hq ne. rw (ne-eqb p i ne))
       (λ q h. rw (eq-eqb i i refl) (sym (before q (at l n i q) h)))
       (λ q h hq. rw (eq-eqb i i refl) (here q h hq))

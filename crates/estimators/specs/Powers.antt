@@ -14,6 +14,9 @@ use Rattle.estimators.specs.Exponents.{exponentAt}
 abbrev pub Factored : Float → Float → ℤ → Type 0
 Factored near far k = (x : Float) → x ⊗ near ⊗ far ≡ pow2Scaled x k
 
--- each of n columns has its 2 ^ -e in the list, the near factor at its column's place and the far one n places on
+-- the first k of n columns have their 2 ^ -e in the list, the near factor at the column's place and the far one n places on
+abbrev pub UnitsTo : ℕ → ℕ → List ℤ → List Float → Type 0
+UnitsTo n k es units = (i : ℕ) → i < k → Factored (nth units i) (nth units (n + i)) (negℤ (exponentAt es i))
+
 abbrev pub Units : ℕ → List ℤ → List Float → Type 0
-Units n es units = (i : ℕ) → i < n → Factored (nth units i) (nth units (n + i)) (negℤ (exponentAt es i))
+Units n = UnitsTo n n

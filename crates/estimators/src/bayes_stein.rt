@@ -19,7 +19,7 @@ ghost use Rattle.estimators.specs.Exponents.{exponentAt, Exponents, twoE
 ghost use Rattle.estimators.specs.Held.{held};
 ghost use Rattle.estimators.specs.Moments.{momentsOf};
 ghost use Rattle.estimators.specs.Calls.{answered};
-ghost use Rattle.estimators.specs.Stein.{pullOf, Pulls, bayesSteinOf};
+ghost use Rattle.estimators.specs.Stein.{pullOf, BayesSteinPulls, bayesSteinOf};
 ghost use Rattle.estimators.specs.Order.{byCorrelations, byDecomposition};
 ghost use Rattle.estimators.specs.BayesStein.{pulledBy};
 use crate::Answer;
@@ -95,7 +95,7 @@ fn pull_in(
     q: &mut [f64],
 ) -> Pulled
     requires { ⌜ (n ≤ maxSide) × (length (now means) ≡ n) × (length (now volatilities) ≡ n) × (length (now exponents) ≡ n) × Exponents (now exponents) × (length (now values) ≡ n) × (length (now vectors) ≡ n * n) × (length (now ones) ≡ n) × (length (now scaled) ≡ n) × (length (now p) ≡ n) × (length (now q) ≡ n) ⌝ }
-    ensures { λ r. ⌜ Pulls n (now (means .entry)) (now (volatilities .entry)) (now (exponents .entry)) periods (now (values .entry)) (now (vectors .entry)) (r .intensity) (r .target) ⌝ }
+    ensures { λ r. ⌜ BayesSteinPulls n (now (means .entry)) (now (volatilities .entry)) (now (exponents .entry)) periods (now (values .entry)) (now (vectors .entry)) (r .intensity) (r .target) ⌝ }
 {
     let a = gather_ones(volatilities, exponents, n, ones);
     let b = gather_means(means, volatilities, n, scaled);
@@ -114,7 +114,7 @@ fn pull(
     vectors: &[f64],
 ) -> Pulled
     requires { ⌜ (n ≤ maxSide) × (length (now means) ≡ n) × (length (now volatilities) ≡ n) × (length (now exponents) ≡ n) × Exponents (now exponents) × (length (now values) ≡ n) × (length (now vectors) ≡ n * n) ⌝ }
-    ensures { λ r. ⌜ Pulls n (now (means .entry)) (now (volatilities .entry)) (now (exponents .entry)) periods (now (values .entry)) (now (vectors .entry)) (r .intensity) (r .target) ⌝ }
+    ensures { λ r. ⌜ BayesSteinPulls n (now (means .entry)) (now (volatilities .entry)) (now (exponents .entry)) periods (now (values .entry)) (now (vectors .entry)) (r .intensity) (r .target) ⌝ }
 {
     let mut ones = [0.0; matrix::MAX_SIDE];
     let mut scaled = [0.0; matrix::MAX_SIDE];

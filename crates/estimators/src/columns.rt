@@ -1,5 +1,6 @@
 // Sums and largest sizes of the columns of a matrix's rows, with the period outermost.
 ghost use mathlib.Core.Path.{_≡_};
+ghost use mathlib.Core.List.{[]};
 ghost use Prim.Native.Nat.{ℕ, _*_, _≤_, _<_};
 ghost use lib.ListN.{length};
 ghost use Rattle.leaves.specs.Numbers.{_⊕_, abs, larger};
@@ -39,17 +40,16 @@ fn raise_period(
     n: usize,
     periods: usize,
     t: usize,
-    units: &[f64],
     centers: &[f64],
-    weights: &[f64],
     out: &mut [f64],
 )
     requires { ⌜ (length (now r) ≡ periods * n) × (n ≤ maxSide) × (t < periods) × (length (now centers) ≡ n) × (length (now out) ≡ n) ⌝ }
-    ensures { λ _. ⌜ now (out .exit) ≡ tab n (λ (i : ℕ). larger (nth (now (out .entry)) i) (abs (rowsOf row n (now (units .entry)) (now (centers .entry)) (now (weights .entry)) (at (now (r .entry)) n) t i))) ⌝ }
+    ensures { λ _. ⌜ now (out .exit) ≡ tab n (λ (i : ℕ). larger (nth (now (out .entry)) i) (abs (rowsOf row n [] (now (centers .entry)) [] (at (now (r .entry)) n) t i))) ⌝ }
 {
+    let none = [0.0; 0];
     let mut buffer = [0.0; matrix::MAX_SIDE];
     let d = &mut buffer[..n];
-    form(row, r, n, periods, t, units, centers, weights, d);
+    form(row, r, n, periods, t, &none, centers, &none, d);
     vectors::raise(d, out);
 }
 
@@ -81,18 +81,16 @@ pub(crate) fn largest(
     r: &[f64],
     n: usize,
     periods: usize,
-    units: &[f64],
     centers: &[f64],
-    weights: &[f64],
     out: &mut [f64],
 )
     requires { ⌜ (length (now r) ≡ periods * n) × (n ≤ maxSide) × (length (now centers) ≡ n) × (length (now out) ≡ n) ⌝ }
-    ensures { λ _. ⌜ now (out .exit) ≡ tab n (λ (i : ℕ). amaxTo periods (λ (t : ℕ). rowsOf row n (now (units .entry)) (now (centers .entry)) (now (weights .entry)) (at (now (r .entry)) n) t i)) ⌝ }
+    ensures { λ _. ⌜ now (out .exit) ≡ tab n (λ (i : ℕ). amaxTo periods (λ (t : ℕ). rowsOf row n [] (now (centers .entry)) [] (at (now (r .entry)) n) t i)) ⌝ }
 {
     vectors::fill(0.0, out);
     let mut t = 0;
     while t < periods {
-        raise_period(row, r, n, periods, t, units, centers, weights, out);
+        raise_period(row, r, n, periods, t, centers, out);
         t += 1;
     }
 }

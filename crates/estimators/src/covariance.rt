@@ -274,9 +274,8 @@ fn adjusted_in(
     if let Check::Refuses(refusal) = opened {
         return Answer::Refused(refusal);
     }
-    let examined = examine_given(settings, given, side, averaged);
     let size = n * n;
-    match examined {
+    match examine_given(settings, given, side, averaged) {
         Examined::Refused(refusal) => Answer::Refused(refusal),
         Examined::Accepted(sweeps, rotations) => estimate_in(
             settings,

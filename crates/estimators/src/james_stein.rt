@@ -15,7 +15,7 @@ ghost use Rattle.estimators.specs.Exponents.{maxExponent};
 ghost use Rattle.estimators.specs.Moments.{momentsOf};
 ghost use Rattle.estimators.specs.JamesStein as JamesStein;
 ghost use Rattle.estimators.specs.Calls.{answered};
-ghost use Rattle.estimators.specs.Stein.{PullsEven, jamesSteinOf};
+ghost use Rattle.estimators.specs.Stein.{JamesSteinPulls, jamesSteinOf};
 use crate::Answer;
 use crate::Refusal;
 use crate::moments::Moments;
@@ -33,8 +33,8 @@ fn grand_mean(m: Moments, n: usize) -> f64
 }
 
 // The largest distance of a mean from the target.
-fn unevenness(means: &[f64], target: f64) -> f64
-    ensures { λ r. ⌜ r ≡ JamesStein.unevenness (length (now (means .entry))) (nth (now (means .entry))) target ⌝ }
+fn largest_deviation(means: &[f64], target: f64) -> f64
+    ensures { λ r. ⌜ r ≡ JamesStein.largestDeviation (length (now (means .entry))) (nth (now (means .entry))) target ⌝ }
 {
     let mut m = 0.0;
     let mut i = 0;
@@ -71,7 +71,7 @@ fn intensity(
     largest: f64,
     values: &[f64],
 ) -> f64
-    requires { ⌜ (0 < n) × (length (now means) ≡ n) × (length (now covariance) ≡ n * n) × (length (now values) ≡ n) × (largest ≡ JamesStein.unevenness n (nth (now means)) target) × (eq largest zero⁺ ≡ false) ⌝ }
+    requires { ⌜ (0 < n) × (length (now means) ≡ n) × (length (now covariance) ≡ n * n) × (length (now values) ≡ n) × (largest ≡ JamesStein.largestDeviation n (nth (now means)) target) × (eq largest zero⁺ ≡ false) ⌝ }
     ensures { λ r. ⌜ ((d : Decomposition) → d .values ≡ now (values .entry) → r ≡ JamesStein.jamesSteinIntensity n (momentsOf (now (means .entry)) (now (covariance .entry)) periods) target d) ⌝ }
 {
     let shift = exponent(largest);
@@ -100,9 +100,9 @@ fn pull(
     vectors: &mut [f64],
 ) -> Pulled
     requires { ⌜ (0 < n) × (n ≤ maxSide) × (limit ≤ maxSweeps) × (length (now means) ≡ n) × (length (now covariance) ≡ n * n) × (length (now values) ≡ n) × (length (now vectors) ≡ n * n) ⌝ }
-    ensures { λ r. ⌜ PullsEven n limit (momentsOf (now (means .entry)) (now (covariance .entry)) periods) target (r .found) (r .intensity) (r .sweeps) (r .rotations) ⌝ }
+    ensures { λ r. ⌜ JamesSteinPulls n limit (momentsOf (now (means .entry)) (now (covariance .entry)) periods) target (r .found) (r .intensity) (r .sweeps) (r .rotations) ⌝ }
 {
-    let largest = unevenness(means, target);
+    let largest = largest_deviation(means, target);
     if largest == 0.0 {
         return Pulled {
             found: true,
@@ -124,7 +124,7 @@ fn pull(
 // `pull` of the moments, in arrays of the largest size.
 fn pull_held(m: Moments, n: usize, target: f64, limit: usize) -> Pulled
     requires { ⌜ (0 < n) × (n ≤ maxSide) × (limit ≤ maxSweeps) ⌝ }
-    ensures { λ r. ⌜ PullsEven n limit (held n m) target (r .found) (r .intensity) (r .sweeps) (r .rotations) ⌝ }
+    ensures { λ r. ⌜ JamesSteinPulls n limit (held n m) target (r .found) (r .intensity) (r .sweeps) (r .rotations) ⌝ }
 {
     let size = n * n;
     let mean = m.mean;

@@ -173,8 +173,7 @@ fn largest_exponent(r: &[f64], n: usize, periods: usize, means: &[f64], sizes: &
     requires { ⌜ (n ≤ maxSide) × (length (now r) ≡ periods * n) × (length (now means) ≡ n) × (length (now sizes) ≡ n) ⌝ }
     ensures { λ e. ⌜ (natAbs e ≤ maxExponent) × (now (means .entry) ≡ tab n (Sample.mean periods (at (now (r .entry)) n)) → e ≡ binaryExponent (amax periods n (Sample.deviation periods (at (now (r .entry)) n)))) ⌝ }
 {
-    let none = [0.0; 0];
-    columns::largest(Row::Deviation, r, n, periods, &none, means, &none, sizes);
+    columns::largest(Row::Deviation, r, n, periods, means, sizes);
     exponent(leaves::sums::amax(sizes))
 }
 

@@ -69,9 +69,8 @@ pub(crate) fn largest(r: &[f64], n: usize, periods: usize, out: &mut [f64])
     requires { ⌜ (length (now r) ≡ periods * n) × (n ≤ maxSide) × (length (now out) ≡ n) ⌝ }
     ensures { λ _. ⌜ now (out .exit) ≡ tab n (Sample.largest periods (at (now (r .entry)) n)) ⌝ }
 {
-    let none = [0.0; 0];
     let zeros = [0.0; matrix::MAX_SIDE];
-    columns::largest(Row::Plain, r, n, periods, &none, &zeros[..n], &none, out);
+    columns::largest(Row::Plain, r, n, periods, &zeros[..n], out);
 }
 
 // The square root of each variance.

@@ -15,7 +15,7 @@ use Rattle.leaves.specs.Numbers.{_⊗_, zero⁺, one, 1e-10, isFinite}
 use Rattle.leaves.specs.Loops.{fill, nth}
 use Rattle.leaves.specs.Root.{sqrt}
 use Rattle.leaves.specs.Shift.{shift}
-use Rattle.leaves.proofs.Loops.{first-all}
+use Rattle.leaves.proofs.First.{first-all}
 use Rattle.leaves.proofs.Shift.{isFinite-shift, eq-shift, shift-zero⁺}
 use Rattle.leaves.proofs.Units.{sign}
 use Rattle.leaves.proofs.Bounds.{zero-bounded}

@@ -10,7 +10,7 @@ use lib.Ieee.Fits.{add-fits}
 use Rattle.leaves.specs.Numbers.{_⊗_, 1e-10}
 use Rattle.leaves.specs.Root.{sqrt}
 use Rattle.leaves.specs.Shift.{shift}
-use Rattle.leaves.proofs.Loops.{first-all}
+use Rattle.leaves.proofs.First.{first-all}
 use Rattle.leaves.proofs.Whole.{over}
 use Rattle.matrix.specs.Limits.{maxSweeps}
 use Rattle.matrix.specs.Matrix.{at, allFinite}

@@ -2,7 +2,7 @@
 -- its exponent grows by k; its volatility is not far below its unit. Assumes nothing.
 use mathlib.Core.Path.{_≡_, refl, sym, ap, _∙_, subst}
 use mathlib.Core.Logic.{inl, inr}
-use Prim.Native.Nat.{ℕ, _-_, _*_, _^_, _≤_, _<_, zero-le}
+use Prim.Native.Nat.{ℕ, _*_, _^_, _≤_, _<_, zero-le}
 use native.Mathlib.Nat.{le-antisymm, le-refl, le-trans, le-of-eq, le-of-lt, lt-of-lt-of-le, lt-of-le-of-lt, lt-irrefl, mul-le-mul, mul-le-mul-right, mul-le-mul-left, eq-zero-or-pos}
 use mathlib.Core.Bool.{false}
 use lib.Dec.{lit≤, lit<}
@@ -13,7 +13,8 @@ use Rattle.leaves.specs.Numbers.{_⊗_, _⊘_, zero⁺, one, 1e-10}
 use Rattle.leaves.specs.Loops.{nth}
 use Rattle.leaves.specs.Root.{sqrt}
 use Rattle.leaves.specs.Scaling.{binaryExponent, pow2Scaled}
-use Rattle.leaves.proofs.Loops.{first-ext, nth-tab}
+use Rattle.leaves.proofs.Loops.{nth-tab}
+use Rattle.leaves.proofs.First.{first-ext}
 use Rattle.leaves.proofs.Whole.{over, under}
 use Rattle.leaves.proofs.SqrtNearest.{moved-sqrt}
 use Rattle.leaves.proofs.Rounding.{near-least, held-pow}

@@ -7,15 +7,14 @@ use mathlib.Core.List.{List}
 use lib.Ieee.{Float, lt, eq}
 use Rattle.leaves.specs.Numbers.{zero⁺}
 use Rattle.leaves.specs.Loops.{loop}
-use Rattle.leaves.proofs.First.{first-none, first-at}
+use Rattle.leaves.proofs.Search.{first-none, first-at}
 use Rattle.matrix.specs.Matrix.{Matrix, at, divided, amax, allFinite}
 use Rattle.matrix.specs.Rotation.{State}
 use Rattle.matrix.specs.Jacobi.{Decomposition, Test, test, converged, stops, isConverged, afterSweeps, stopping, sweeping, start, tolerance, initial, swept, scaledBack, decompose, unturned}
-use Rattle.matrix.proofs.Alike.{decompose-is}
-use Rattle.matrix.proofs.Sweeps.{sweeping-is, sweeps-bound}
+use Rattle.matrix.proofs.Sweeps.{sweeping-is, sweeps-bound, decompose-is}
 use Rattle.matrix.proofs.Rotations.{rotations-bound}
 use Rattle.estimators.specs.Given.{decomposeGiven}
-use Rattle.estimators.specs.JamesStein.{decomposeUneven}
+use Rattle.estimators.specs.JamesStein.{decomposeUnequal}
 use Rattle.estimators.specs.Adjusted.{isGiven, decompositionOf}
 use Rattle.estimators.specs.Calls.{ledoitWolfIntensity, exponentiallyWeightedMean}
 use Rattle.estimators.specs.declared.Settings.{Settings}
@@ -51,9 +50,9 @@ given-few limit n a = go (lt zero⁺ (amax n n a))
     go true = decompose-few limit n (divided a (amax n n a))
     go false = none-few n n limit true
 
-uneven-few : (limit n : ℕ) (u : Float) (Σ : Matrix) → FewOf n limit (decomposeUneven limit n u Σ)
-unfolding decomposeUneven
-uneven-few limit n u Σ = go (eq u zero⁺)
+unequal-few : (limit n : ℕ) (u : Float) (Σ : Matrix) → FewOf n limit (decomposeUnequal limit n u Σ)
+unfolding decomposeUnequal
+unequal-few limit n u Σ = go (eq u zero⁺)
   where
     go : (b : Bool) → FewOf n limit (elim b [ true ↦ unturned n true | false ↦ decompose limit n Σ ])
     go true = none-few n n limit true
@@ -94,7 +93,7 @@ pub counted : (r : List Float) (n P : ℕ) (q : Question) (slice : List Float) �
 counted r n P (Law.adjusted s given side) slice = rw (covariance-is r n P s given side slice) (settled (Counted side (s .limit)) (λ c. tt) _ slice _ (λ h. settings-few s side (average side given)))
 counted r n P (Law.intensity F) slice = unfold ledoitWolfIntensity in settled (Counted 0 0) (λ c. tt) _ _ _ (λ h. tt)
 counted r n P (Law.weightedMean halfLife) slice = unfold exponentiallyWeightedMean in settled (Counted 0 0) (λ c. tt) _ slice _ (λ h. tt)
-counted r n P (Law.jamesStein limit) slice = rw (james-is r n P limit slice) (settled (Counted n limit) (λ c. tt) _ slice _ (λ h. uneven-few limit n _ _))
+counted r n P (Law.jamesStein limit) slice = rw (james-is r n P limit slice) (settled (Counted n limit) (λ c. tt) _ slice _ (λ h. unequal-few limit n _ _))
 counted r n P (Law.bayesStein limit) slice = rw (bayes-is r n P limit slice) (settled (Counted n limit) (λ c. tt) _ slice _ (λ h. decompose-few limit n (correlations n (found P n (at r n)))))
 
 -- ---- the first test

@@ -18,13 +18,14 @@ use Rattle.leaves.proofs.Loops.{kept-loop}
 use Rattle.leaves.proofs.First.{none-first}
 use Rattle.leaves.proofs.Zero.{no, other-is-not, not-above, zero-not-above}
 use Rattle.leaves.proofs.Units.{sign, nonzero-pos}
+use Rattle.leaves.proofs.Keys.{number}
 use Rattle.matrix.specs.Matrix.{Matrix, at, rows, amax, averaged, sumOver, squares, firstEntry, allFinite, symmetrized, divided}
 use Rattle.matrix.specs.Jacobi.{Decomposition, Test, fails, converged, goesOn, offDiagonal, test, start, decompose, unturned, tolerance, initial}
 use Rattle.matrix.proofs.Stored.{rows-at, by-cell, amax-finite}
 use Rattle.matrix.proofs.Identity.{scaledEntry, start-is, quotients-finite}
-use Rattle.matrix.proofs.Alike.{decompose-is, finite-all}
+use Rattle.matrix.proofs.Alike.{finite-all}
+use Rattle.matrix.proofs.Sweeps.{decompose-is}
 use Rattle.estimators.specs.Given.{decomposeGiven}
-use Rattle.law.proofs.Sizes.{number}
 use Rattle.law.proofs.Counts.{begins, found-at-once}
 use Rattle.law.proofs.Given.{average}
 use Rattle.law.proofs.Zeros.{Zero, Plus, zero-is, zero-add, zero-square, zero-half, zero-double, zero-average, is-zero, zero-over, number-zero-plus, number-twice, number-half, plus-square, plus-add, plus-tolerance, zero-below}
@@ -40,7 +41,7 @@ module _ (n : ℕ) (l : List Float) (numbers : (i j : ℕ) → i < n → j < n �
       go i j hi hj t q false e = q
 
   norm-plus : Plus (squares n (at l n))
-  unfolding squares sumOver
+  unfolding squares sumOver isNan
   norm-plus = kept-loop Plus n _ zero⁺ (tt, unfold sign in refl) (λ i hi s p. kept-loop Plus n _ s p (λ j hj t q. plus-add t (at l n i j ⊗ at l n i j) q (plus-square (at l n i j) (numbers i j hi hj))))
 
   passes-test : test n (tolerance n l) (initial n l) ≡ converged
@@ -80,6 +81,7 @@ module _ (n : ℕ) (a : Matrix) (fit : (i j : ℕ) → i < n → j < n → T (fi
       zero-half (scaledEntry (amax n n a) a i j ⊕ scaledEntry (amax n n a) a j i) (zero-add (scaledEntry (amax n n a) a i j) (scaledEntry (amax n n a) a j i) (q i j hi hj d) (q j i hj hi (λ e. d (sym e))))
 
   begun-number : (i j : ℕ) → i < n → j < n → T (number (begun i j))
+  unfolding isNan
   begun-number i j hi hj = go (eqb i j) refl
     where
       finite-number : (x : Float) → T (isFinite x) → T (number x)

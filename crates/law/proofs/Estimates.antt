@@ -14,7 +14,7 @@ use lib.Ieee.{Float, eq}
 use borrow.Author.Tests.{eqb-true, not-false}
 use Rattle.leaves.specs.Numbers.{zero⁺, isFinite}
 use Rattle.leaves.specs.Shift.{shift}
-use Rattle.leaves.proofs.Loops.{first-ext}
+use Rattle.leaves.proofs.First.{first-ext}
 use Rattle.leaves.proofs.Shift.{isFinite-shift, eq-shift, shift-zero⁺}
 use Rattle.leaves.proofs.Zero.{no}
 use Rattle.leaves.proofs.Operations.{moved-within}

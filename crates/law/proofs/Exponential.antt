@@ -141,7 +141,7 @@ module _ (r : Float) (s : Bool) (a : ℕ) (v : Val r s a) (small-r : a ≤ 16 * 
 unfoldable pub N : ℕ
 N = 6243314768165359 * 2 ^ 1021
 
-unfoldable NH : ℕ
+unfoldable pub NH : ℕ
 NH = 2977044471 * 2 ^ 1042
 
 unfoldable NL : ℕ
@@ -211,7 +211,7 @@ ceiling (fin true m e) S v =
     turn : (a d K S U : ℕ) → 0 < U → a * U ≡ S * d → K * d < a + d → K * U * d < (S + U) * d
     turn a d K S U p e h = let f = native.Mathlib.Nat.mul-lt-mul-of-pos-right h p in omega arith
 
-record Power (y : Float) (Y : ℕ) : Type 0 where
+pub record Power (y : Float) (Y : ℕ) : Type 0 where
   pub K : ℕ
   pub is : nearestPower y ≡ negℤ (pos K)
   pub few : K ≤ 140
@@ -370,20 +370,18 @@ Weight w = Bounded weightBounds w
 
 -- ---- exp y, for y = -Y from -96 to 0: P / 2 ^ K with P from 5/16 to 27/16
 pub record Exp (y : Float) (Y : ℕ) : Type 0 where
-  pub K : ℕ
+  pub power : Power y Y
   pub P : ℕ
-  pub none : Y ≤ 8 * W → K ≡ 0
-  pub some : 16 * W < Y → 0 < K
   pub least : 10 * W ≤ P
   pub most : P ≤ 54 * W
   pub fit : T (fits binary64 (exp y))
   pub finite : T (isFinite (exp y))
   pub range : Y ≤ ageMost * W → Weight (exp y)
   pub plus : sign (exp y) ≡ false
-  pub is : mag (exp y) * 2 ^ K ≡ P
+  pub is : mag (exp y) * 2 ^ power .K ≡ P
 
 pub exp-above : {y : Float} {Y : ℕ} → Exp y Y → 0 < mag (exp y)
-exp-above {y} x = first-pos (mag (exp y)) (2 ^ (x .K)) (subst (λ (n : ℕ). 0 < n) (sym (x .is)) (lt-of-lt-of-le (mul-pos (lit< {m = 0} {n = 10} tt) W-pos) (x .least)))
+exp-above {y} x = first-pos (mag (exp y)) (2 ^ (x .power .K)) (subst (λ (n : ℕ). 0 < n) (sym (x .is)) (lt-of-lt-of-le (mul-pos (lit< {m = 0} {n = 10} tt) W-pos) (x .least)))
 
 pub exp-val : {y : Float} {Y : ℕ} → Exp y Y → Val (exp y) false (mag (exp y))
 exp-val {y} x = plus-val (exp y) (x .fit) (x .finite) (x .plus)
@@ -459,10 +457,8 @@ module _ (y : Float) (Y : ℕ) (v : Val y true Y) (few : Y ≤ argumentMost * W)
       let e : exp y ≡ shift (negℤ (pos K)) p = rw (not-less, not-above) (ap (λ (k : ℤ). pow2Scaled (horner (reduced y k) 0 13 one) k) (w .is) ∙ lowered K (w .few) p (h .0) fit (h .1) (h .2) (h .3)) in
       let R = lowered-range K (w .few) p (h .0) fit (h .1) (h .2) (h .3) in
       record {
-        K = K;
+        power = w;
         P = h .0;
-        none = w .none;
-        some = w .some;
         least = h .2;
         most = h .3;
         fit = subst (λ (z : Float). T (fits binary64 z)) (sym e) (R .fit);
@@ -521,7 +517,7 @@ module _ (y : Float) (Y : ℕ) (v : Val y true Y) (some : 0 < Y) (few : Y ≤ ar
       let x = exp-within y Y v few in
       let e : expM1 y ≡ exp y ⊖ one = rw (half-test ∙ lt-ltb (16 * W) Y h) in
       let a = mag (exp y) in
-      let b : a ≤ 27 * W = halve a (x .K) (x .P) W (x .some h) (x .is) (x .most) in
+      let b : a ≤ 27 * W = halve a (x .power .K) (x .P) W (x .power .some h) (x .is) (x .most) in
       let q = add-most 32 (lit≤ tt) (exp y) (neg one) false true a (32 * W) (exp-val x) (neg-val one false (32 * W) one-W) (omega arith) in
       let n = a - 32 * W + (32 * W - a) in
       let s : (cond (ltb a (32 * W)) true (false && ltb (32 * W) a)) ≡ true = rw (lt-ltb a (32 * W) (let p = W-pos in omega arith)) in

@@ -6,6 +6,7 @@ use native.Mathlib.Nat.{le-of-eq, lt-of-lt-of-le, zero-add}
 use native.Mathlib.Omega.{arith}
 use mathlib.Core.Bool.{Bool, true, false}
 use mathlib.Core.List.{List, map}
+use lib.Arith.{digits-lt}
 use lib.Dec.{eqb, ltb, lit≤}
 use lib.IntN.{pos}
 use lib.ListN.{length, length-map}
@@ -13,7 +14,6 @@ use lib.Ieee.{Float, fits, lt, ofBits}
 use borrow.Author.Tests.{eqb-true}
 use Rattle.leaves.specs.Numbers.{_⊖_, _⊗_, _⊘_, zero⁺, 1e-12, isFinite, abs}
 use Rattle.leaves.specs.Shift.{shift}
-use Rattle.leaves.proofs.Loops.{cell}
 use Rattle.leaves.proofs.Shift.{lt-shift, shift-zero⁺}
 use Rattle.leaves.proofs.Units.{U, mag}
 use Rattle.leaves.proofs.Arithmetic.{div-alike}
@@ -53,7 +53,7 @@ module _ (k : ℕ) (small : k ≤ maxPower + maxPower) (side limit : ℕ) (g : L
   module _ (full : length g ≡ side * side) where
     given-moved : (i j : ℕ) → i < side → j < side → Moved k covarianceBounds (at g side i j) (at g' side i j)
     given-moved i j a b =
-        let in-g : i * side + j < length g = lt-of-lt-of-le (cell i side j side a b) (le-of-eq (sym full)) in
+        let in-g : i * side + j < length g = lt-of-lt-of-le (digits-lt a b) (le-of-eq (sym full)) in
         sized-moved k covarianceRange (lit≤ tt) (at g side i j) (at g' side i j) (all-at (Sized covarianceRange) g (i * side + j) sizes in-g) (at-copy (pos k) g side i j)
 
     pub average-moved : (i j : ℕ) → i < side → j < side → Moved k averagedBounds (average side g i j) (average side (map (shift (pos k)) g) i j)

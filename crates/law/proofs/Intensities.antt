@@ -5,7 +5,7 @@ use mathlib.Core.Logic.{_⊎_, inl, inr}
 use Prim.Native.Nat.{ℕ, _*_, _≤_}
 use mathlib.Core.Bool.{true, false, _&&_, and-eq-true-iff}
 use mathlib.Core.List.{List, _++_}
-use lib.Ieee.{Float, nan, inf, fin, lt, le, eq}
+use lib.Ieee.{Float, nan, inf, fin, lt, le, eq, isNan}
 use Rattle.leaves.specs.Numbers.{zero⁺, one, clamp01}
 use Rattle.leaves.proofs.Signs.{sign-count}
 use Rattle.matrix.specs.Limits.{maxSide}
@@ -37,7 +37,7 @@ use Rattle.law.proofs.JamesStein.{clamp-cases, james-cases}
 use Rattle.law.proofs.Pull.{pull-unit}
 use Rattle.law.proofs.Chain.{pass-must}
 use Rattle.law.proofs.Passing.{pass-opening, settled}
-use Rattle.law.proofs.Calls.{ofAnswer, covariance-is, inUnit, centre, uneven, james-is, bayes-is}
+use Rattle.law.proofs.Calls.{ofAnswer, covariance-is, inUnit, centre, unequal, james-is, bayes-is}
 use Rattle.law.proofs.Given.{average}
 
 abbrev pub Share : Float → Type 0
@@ -45,6 +45,7 @@ Share x = (x ≡ nan) ⊎ ((le zero⁺ x ≡ true) × (le x one ≡ true))
 
 -- ---- from comparisons
 share-of : (x : Float) → lt x zero⁺ ≡ false → lt one x ≡ false → Share x
+unfolding isNan
 share-of nan h k = inl refl
 share-of (inf s) h k = inr (not-lt zero⁺ (inf s) tt tt h, not-lt (inf s) one tt tt k)
 share-of (fin s m e) h k = inr (not-lt zero⁺ (fin s m e) tt tt h, not-lt (fin s m e) one tt tt k)
@@ -93,5 +94,5 @@ reported r n P (Law.adjusted s given side) slice =
     second h = unfold ofSettings in pass-cons _ _ (pass-cons _ _ h .1) .0
 reported r n P (Law.intensity F) slice = unfold ledoitWolfIntensity in settled Reported (λ c. tt) _ _ _ (λ h. ledoitWolf-share F P n (at r n))
 reported r n P (Law.weightedMean halfLife) slice = unfold exponentiallyWeightedMean in settled Reported (λ c. tt) _ slice _ (λ h. tt)
-reported r n P (Law.jamesStein limit) slice = rw (james-is r n P limit slice) (settled Reported (λ c. tt) _ slice _ (λ h. james-share n (inUnit r n P) (centre r n P) (uneven r n P limit)))
+reported r n P (Law.jamesStein limit) slice = rw (james-is r n P limit slice) (settled Reported (λ c. tt) _ slice _ (λ h. james-share n (inUnit r n P) (centre r n P) (unequal r n P limit)))
 reported r n P (Law.bayesStein limit) slice = rw (bayes-is r n P limit slice) (settled Reported (λ c. tt) (first (opening r n P n slice ++ _)) slice _ (λ h. bayes-share r limit n P (pass-opening r n P n slice (pass-append (opening r n P n slice) _ h .0) .0)))

@@ -15,7 +15,7 @@ use Rattle.matrix.specs.Jacobi.{Decomposition, decompose, unturned}
 use Rattle.matrix.proofs.LargerLimit.{larger-limit}
 use Rattle.estimators.specs.Refusals.{Check, passes, when, first}
 use Rattle.estimators.specs.Given.{decomposeGiven}
-use Rattle.estimators.specs.JamesStein.{unevenness, decomposeUneven}
+use Rattle.estimators.specs.JamesStein.{largestDeviation, decomposeUnequal}
 use Rattle.estimators.specs.Adjusted.{decompositionOf, adjusted}
 use Rattle.estimators.specs.Order.{opening, sweepLimit, ofGiven, ofSettings}
 use Rattle.estimators.specs.Calls.{adjustedCovariance, jamesSteinMean, bayesSteinMean}
@@ -35,7 +35,7 @@ use Rattle.law.specs.Law.{Question, ask}
 use Rattle.law.proofs.Columns.{found, taken}
 use Rattle.law.proofs.Chain.{pass-must}
 use Rattle.law.proofs.Passing.{Accepted, all-pass}
-use Rattle.law.proofs.Calls.{ofAnswer, covarianceBy, covariance-is, inUnit, centre, uneven, jamesBy, james-is, bayesBy, bayes-is}
+use Rattle.law.proofs.Calls.{ofAnswer, covarianceBy, covariance-is, inUnit, centre, unequal, jamesBy, james-is, bayesBy, bayes-is}
 use Rattle.law.proofs.Given.{average}
 
 -- ---- the check of the limit
@@ -47,9 +47,9 @@ same-limit : (limit limit′ : ℕ) → limit ≤ limit′ → limit′ ≤ maxS
 same-limit limit limit′ l h = limit-passes limit′ h ∙ sym (limit-passes limit (le-trans l h))
 
 -- ---- the decompositions that the calls ask for
-uneven-larger : (limit limit′ n : ℕ) (u : Float) (Σ : Matrix) → limit ≤ limit′ → decomposeUneven limit n u Σ .found ≡ true → decomposeUneven limit′ n u Σ ≡ decomposeUneven limit n u Σ
-unfolding decomposeUneven
-uneven-larger limit limit′ n u Σ l = go (eq u zero⁺)
+unequal-larger : (limit limit′ n : ℕ) (u : Float) (Σ : Matrix) → limit ≤ limit′ → decomposeUnequal limit n u Σ .found ≡ true → decomposeUnequal limit′ n u Σ ≡ decomposeUnequal limit n u Σ
+unfolding decomposeUnequal
+unequal-larger limit limit′ n u Σ l = go (eq u zero⁺)
   where
     chosen : Bool → Decomposition → Decomposition
     chosen b d = elim b [ true ↦ unturned n true | false ↦ d ]
@@ -79,9 +79,9 @@ module _ (r : List Float) (n P : ℕ) (slice : List Float) where
 
   james-limit : (limit limit′ : ℕ) → limit ≤ limit′ → limit′ ≤ maxSweeps → Accepted (jamesSteinMean r n P limit slice) → jamesSteinMean r n P limit′ slice ≡ jamesSteinMean r n P limit slice
   james-limit limit limit′ l h a =
-      let f = james-found (uneven r n P limit) (sweepLimit limit) (subst Accepted (james-is r n P limit slice) a) in
+      let f = james-found (unequal r n P limit) (sweepLimit limit) (subst Accepted (james-is r n P limit slice) a) in
       let m = inUnit r n P in
-      james-is r n P limit′ slice ∙ ap₂ (jamesBy r n P slice) (uneven-larger limit limit′ n (unevenness n (nth (m .mean)) (centre r n P)) (at (m .covariance) n) l f) (same-limit limit limit′ l h) ∙ sym (james-is r n P limit slice)
+      james-is r n P limit′ slice ∙ ap₂ (jamesBy r n P slice) (unequal-larger limit limit′ n (largestDeviation n (nth (m .mean)) (centre r n P)) (at (m .covariance) n) l f) (same-limit limit limit′ l h) ∙ sym (james-is r n P limit slice)
 
   bayes-found : (d : Decomposition) (c : Check) → Accepted (bayesBy r n P slice d c) → d .found ≡ true
   bayes-found d c h =

@@ -2,19 +2,19 @@
 -- refuse alike, or both go on with returns of the granted sizes, the second's each 2 ^ k times the first's: with the three covariances of such returns in one range, and each column over the power of two
 -- of its largest. Assumes nothing.
 use mathlib.Core.Path.{_≡_, refl, sym, ap, ap₂, _∙_}
-use Prim.Native.Nat.{ℕ, _+_, _-_, _*_, _≤_, _<_, zero-le}
+use Prim.Native.Nat.{ℕ, _+_, _*_, _≤_, _<_, zero-le}
 use native.Mathlib.Nat.{le-of-eq, lt-of-lt-of-le}
 use native.Mathlib.Omega.{arith}
 use mathlib.Core.Bool.{true, not}
 use mathlib.Core.List.{List, [], _++_, map}
 use mathlib.Core.Option.{Option}
+use lib.Arith.{digits-lt}
 use lib.Dec.{lit≤}
 use lib.IntN.{ℤ, pos}
 use lib.ListN.{length, getD, length-map, List·getD-map}
 use lib.Ieee.{Float, nan}
 use Rattle.leaves.specs.Numbers.{isFinite}
 use Rattle.leaves.specs.Shift.{shift}
-use Rattle.leaves.proofs.Loops.{cell}
 use Rattle.leaves.proofs.Shift.{isFinite-shift, shift-nan}
 use Rattle.leaves.proofs.Units.{oneBits, fractionBits}
 use Rattle.leaves.proofs.Operations.{Moved}
@@ -69,7 +69,7 @@ module _ (k : ℕ) (small : k ≤ maxPower) (r : List Float) (sizes : All (Sized
     periods = periods;
     most = most;
     entries = λ t i a b.
-        let in-r : t * n + i < length r = lt-of-lt-of-le (cell t T i n a b) (le-of-eq (sym full)) in
+        let in-r : t * n + i < length r = lt-of-lt-of-le (digits-lt a b) (le-of-eq (sym full)) in
         sized-moved k returnRange (lit≤ tt) (at r n t i) (at r' n t i) (all-at (Sized returnRange) r (t * n + i) sizes in-r) (at-copy (pos k) r n t i);
   }
 

@@ -4,12 +4,13 @@ use mathlib.Core.Path.{_≡_, refl, sym, ap, _∙_, subst}
 use Prim.Native.Nat.{ℕ, _+_, _*_, _≤_, _<_}
 use mathlib.Core.Bool.{true, false, not}
 use mathlib.Core.List.{List, [], _∷_, _++_}
+use lib.Arith.{digits-lt}
 use lib.ListN.{length, drop}
 use lib.Seq.{drop-at}
 use lib.Ieee.{Float, nan, eq}
 use Rattle.leaves.specs.Numbers.{zero⁺, isFinite}
 use Rattle.leaves.specs.Loops.{tab, fill, nth}
-use Rattle.leaves.proofs.Loops.{cell, length-tab, length-fill, fill-at}
+use Rattle.leaves.proofs.Loops.{length-tab, fill-at}
 use Rattle.matrix.specs.Matrix.{Matrix, at, trace, allFinite}
 use Rattle.matrix.specs.Jacobi.{Decomposition}
 use Rattle.matrix.proofs.Alike.{trace-alike, finite-all}
@@ -24,6 +25,7 @@ use Rattle.estimators.specs.declared.Answer.{Answer}
 use Rattle.estimators.specs.declared.Answer.the-variants.{Refused, Covariance, Intensity, Mean, Shrunk}
 use Rattle.estimators.proofs.Firsts.{pass-append}
 use Rattle.estimators.proofs.Passed.{pass-test, pass-cons}
+use Rattle.estimators.proofs.Opened.{settle-length}
 use Rattle.law.specs.Law as Law
 use Rattle.law.specs.Law.{Question, ask}
 use Rattle.law.proofs.Calls.{estimated, covariances, ofAnswer, covariance-is}
@@ -48,12 +50,11 @@ IsRefused (Shrunk α μ₀ s r) = ⊥
 
 settle-kept : (needed : ℕ) (old : List Float) (A : Answer) (f : ℕ → Float) (c : Check) → (IsRefused A → ⊥) → (c ≡ passes → needed ≤ length old) → Kept needed old (settle c old (answered A (fill needed f old)))
 unfolding settle
-settle-kept needed old A f passes other room = record {
-  refused = λ c e. absurd (other (subst IsRefused (sym e) tt));
-  later = unfold fill in drop-at (tab needed f) (drop needed old) needed (length-tab f needed);
-  long = length-fill f needed old (room refl);
-}
-settle-kept needed old A f (refuses c) other room = record { refused = λ c e. refl; later = refl; long = refl }
+settle-kept needed old A f k other room = record { refused = kept k .0; later = kept k .1; long = settle-length k A needed f old room }
+  where
+    kept : (k : Check) → let w = settle k old (answered A (fill needed f old)) in ((c : Refusal) → w .answer ≡ Refused c → w .slice ≡ old) × (drop needed (w .slice) ≡ drop needed old)
+    kept passes = (λ c e. absurd (other (subst IsRefused (sym e) tt)), unfold fill in drop-at (tab needed f) (drop needed old) needed (length-tab f needed))
+    kept (refuses c) = (λ c e. refl, refl)
 
 -- whatever is checked after the opening
 opened-kept : (r : List Float) (n P needed : ℕ) (old : List Float) (A : Answer) (f : ℕ → Float) (cs : List Check) → (IsRefused A → ⊥)
@@ -95,7 +96,7 @@ last-checks s δ P n side x b a h =
 
 usable : (n : ℕ) (a old : List Float) → allFinite n n (at a n) ≡ true → eq (trace n (at a n)) zero⁺ ≡ false → Usable n (fill (n * n) (nth a) old)
 usable n a old f t =
-    let entry : (i j : ℕ) → i < n → j < n → at (fill (n * n) (nth a) old) n i j ≡ at a n i j = λ i j k l. fill-at (nth a) (n * n) old (i * n + j) nan (cell i n j n k l) in
+    let entry : (i j : ℕ) → i < n → j < n → at (fill (n * n) (nth a) old) n i j ≡ at a n i j = λ i j k l. fill-at (nth a) (n * n) old (i * n + j) nan (digits-lt k l) in
     record {
       finite = λ i j k l. ap isFinite (entry i j k l) ∙ finite-all n n (at a n) f i j k l;
       traced = ap (λ (z : Float). eq z zero⁺) (trace-alike n (at (fill (n * n) (nth a) old) n) (at a n) entry) ∙ t;

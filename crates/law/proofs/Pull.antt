@@ -33,8 +33,8 @@ use Rattle.leaves.proofs.PowersOfTwo.{range-move, scaled-moves, zero-scaled, fi
 use Rattle.matrix.specs.Limits.{maxSweeps, maxSide}
 use Rattle.matrix.specs.Matrix.{Matrix, at, amax}
 use Rattle.matrix.specs.Jacobi.{Decomposition, decompose, unturned, scaledBack, swept, start}
-use Rattle.matrix.proofs.Alike.{decompose-cases}
-use Rattle.matrix.proofs.Turn.{Limit}
+use Rattle.matrix.proofs.Sweeps.{decompose-cases}
+use Rattle.matrix.proofs.Turn.{TurnMost}
 use Rattle.matrix.proofs.Vectors.{Small, vectors-small}
 use Rattle.estimators.specs.Moments.{Moments, moments}
 use Rattle.estimators.specs.BayesStein.{singular, commonExponent, gathered, project, form, ratioOf, distanceOf, intensityAt, bayesSteinPull, pulled, exponentsOf, correlations, bayesStein}
@@ -125,10 +125,10 @@ project-most limit n a few short z each e l F =
           (near-most (mag (W t e) * mag (z t)) U (2 ^ turnedMost) U-pos (held-pow turnedMost) (le-trans (mul-le-mul (s .1) (each t b .2)) (le-of-eq powers))),
     )))
   where
-    powers : Limit * 2 ^ suc oneBits ≡ 2 ^ turnedMost * U
-    powers = unfold U Limit in refl
+    powers : TurnMost * 2 ^ suc oneBits ≡ 2 ^ turnedMost * U
+    powers = unfold U TurnMost in refl
 
-    vector : (x : Float) → Small x → T (isFinite x) → T (fits binary64 x) × (mag x ≤ Limit)
+    vector : (x : Float) → Small x → T (isFinite x) → T (fits binary64 x) × (mag x ≤ TurnMost)
     vector x (inl z) f = absurd (unfold isFinite in subst (λ (y : Float). T (isFinite y)) z f)
     vector x (inr r) f = (r .fit, r .most)
 

@@ -5,39 +5,40 @@
 use mathlib.Core.Path.{_≡_, refl, sym, ap, ap₂, _∙_, subst, subst₂}
 use mathlib.Core.Logic.{inl, inr}
 use Prim.Native.Nat.{ℕ, zero, suc, _+_, _-_, _*_, _/_, _^_, _≤_, _<_, zero-le}
-use native.Mathlib.Nat.{le-refl, le-add-right, sub-le, sub-le-sub-left, le-trans, le-of-eq, le-of-lt, lt-of-lt-of-le, lt-of-le-of-lt, lt-irrefl, lt-suc-self, lt-trans, mul-le-mul, mul-le-mul-left, mul-le-mul-right, mul-pos, mul-assoc, mul-comm, mul-right-comm, one-mul, le-of-mul-le-mul-right, zero-lt-suc, eq-zero-or-pos, not-suc-le-zero, le-div-iff-mul-le, div-mul-le-self, eq-or-lt-of-le, le-of-suc-le-suc, add-zero}
+use native.Mathlib.Nat.{le-add-right, sub-le, sub-le-sub-left, le-trans, le-of-eq, le-of-lt, lt-of-lt-of-le, lt-of-le-of-lt, lt-irrefl, lt-suc-self, lt-trans, mul-le-mul, mul-le-mul-left, mul-le-mul-right, mul-pos, mul-assoc, mul-comm, mul-right-comm, one-mul, le-of-mul-le-mul-right, zero-lt-suc, eq-zero-or-pos, not-suc-le-zero, le-div-iff-mul-le, div-mul-le-self, eq-or-lt-of-le, le-of-suc-le-suc, add-zero}
 use native.Mathlib.Omega.{arith}
 use mathlib.Core.Bool.{Bool, true, false, cond}
-use lib.Dec.{T, ltb, eqb·suc-zero, lit≤, lit<}
+use lib.Dec.{T, eqb·suc-zero, lit≤, lit<}
 use lib.IntN.{pos}
 use lib.Arith.{add-le-cancel-left, add-lt-cancel-left}
 use lib.Pow.{pow-add, pow-pos, pow-mono}
-use lib.Ieee.{Float, nan, inf, fin, binary64, fits, mul, div, unlike, lt, le, size, below}
+use lib.Ieee.{Float, nan, inf, fin, binary64, fits, mul, div, unlike, le, size, isNan}
 use lib.Ieee.Digits.{size-lt, size-reaches}
 use lib.Ieee.Fits.{mul-fits, div-fits}
 use Rattle.leaves.proofs.Laws.{size-pos}
 use Rattle.leaves.proofs.Whole.{le-or-lt}
-use borrow.Author.Tests.{lt-ltb, le-ltb, ltb-true, ltb-false}
+use borrow.Author.Tests.{ltb-true}
 use Rattle.leaves.specs.Numbers.{_⊕_, _⊗_, _⊘_, ε, count, isFinite, larger, smaller}
 use Rattle.leaves.specs.Loops.{loop, sumTo, minTo, maxTo}
 use Rattle.leaves.proofs.Rounding.{near, Near, near-most, near-error, near-held, held-times}
-use Rattle.leaves.proofs.Units.{oneBits, topBits, fractionBits, val-pos, U, U-pos, Top, pow-under-Top, Val, zero-mag, sign, mag, val-mag, mag-val, mag-held, finite-fin, fin-val, fin-under-Top, finite-mag, rounded-val, lt-val}
+use Rattle.leaves.proofs.Units.{oneBits, topBits, fractionBits, val-pos, U, U-pos, Top, Val, zero-mag, sign, mag, val-mag, mag-val, mag-held, finite-fin, fin-val, fin-under-Top, finite-mag, rounded-val}
 use Rattle.leaves.proofs.Arithmetic.{add-finite, mul-finite, div-finite, mul-rounded, div-rounded}
 use Rattle.leaves.proofs.Range.{count-val, range-most, range-null}
 use Rattle.leaves.proofs.Bounds.{multiples, sumOf, only-zero}
 use Rattle.leaves.proofs.Operations.{Moved, still, moved-add}
 use Rattle.leaves.proofs.Signs.{sign-mul, sign-div}
 use Rattle.leaves.proofs.Totals.{moved-sum}
+use Rattle.leaves.proofs.Keys.{number, key, lt-key, Fine, larger-by, smaller-by, picked}
 use Rattle.matrix.specs.Limits.{maxSide}
-use Rattle.matrix.proofs.Turn.{limitBits}
+use Rattle.matrix.proofs.Turn.{turnBits}
 use Rattle.law.proofs.Bits.{sideBits, side-bits}
 use Rattle.law.proofs.Ranges.{zeroBounds}
-use Rattle.law.proofs.Sizes.{over-inf, number, val-number, le-or}
+use Rattle.law.proofs.Sizes.{over-inf, val-number, le-or}
 use Rattle.law.proofs.Weighted.{sum-fits, sum-least}
 
 -- a product of an entry of V and a number below 2, and a projection, which is a sum of such
 abbrev pub turnedMost : ℕ
-turnedMost = suc limitBits
+turnedMost = suc turnBits
 
 abbrev pub projectedMost : ℕ
 projectedMost = sideBits + turnedMost
@@ -106,87 +107,6 @@ sum-some (suc n) f h F p =
         let null : (z : Float) → T (fits binary64 z) → T (isFinite z) → mag z ≡ 0 → Moved 0 zeroBounds z z = λ z t f e. still b (range-null z t f e (b .grain) (2 ^ b .least) (2 ^ b .most)) in
         lt-irrefl 0 (subst (λ (n : ℕ). 0 < n) (only-zero (sumOf 1 b) (lit< tt) (moved-add b tt tt (null x fx nx zx) (null y fy ny zy) (lit≤ tt) .range)) p)
 
--- ---- the order of values that are not NaN, by a number for each
-unfoldable key : Float → ℕ
-key nan = 0
-key (inf s) = cond s 0 (Top + Top)
-key (fin s m e) = cond s (Top - mag (fin s m e)) (Top + mag (fin s m e))
-
-ltb-same : (a b c d : ℕ) → (a < b → c < d) → (c < d → a < b) → ltb a b ≡ ltb c d
-ltb-same a b c d f g = go (ltb a b) refl
-  where
-    go : (x : Bool) → ltb a b ≡ x → x ≡ ltb c d
-    go true e = sym (lt-ltb c d (f (ltb-true a b e)))
-    go false e = sym (le-ltb c d (back (ltb-false a b e)))
-      where
-        back : b ≤ a → d ≤ c
-        back h = elim (le-or-lt d c) [ inl l ↦ l | inr l ↦ absurd (lt-irrefl a (lt-of-lt-of-le (g l) h)) ]
-
--- a finite number's key lies between those of the infinities
-inside : (t : Bool) (b : ℕ) → b < Top → (0 < cond t (Top - b) (Top + b)) × (cond t (Top - b) (Top + b) < Top + Top)
-inside true b l = (omega arith, omega arith)
-inside false b l = (omega arith, omega arith)
-
-below-key : (s t : Bool) (a b : ℕ) → a < Top → b < Top → below s a t b ≡ ltb (cond s (Top - a) (Top + a)) (cond t (Top - b) (Top + b))
-below-key false false a b l k = ltb-same a b (Top + a) (Top + b) (λ h. omega arith) (λ h. omega arith)
-below-key false true a b l k = sym (le-ltb (Top + a) (Top - b) (omega arith))
-below-key true false a b l k = ltb-same 0 (a + b) (Top - a) (Top + b) (λ h. omega arith) (λ h. omega arith)
-below-key true true a b l k = ltb-same b a (Top - a) (Top - b) (λ h. omega arith) (λ h. omega arith)
-
-lt-key : (x y : Float) → T (fits binary64 x) → T (fits binary64 y) → T (number x) → T (number y) → lt x y ≡ ltb (key x) (key y)
-unfolding lt key
-lt-key nan y tx ty p q = absurd p
-lt-key (inf s) nan tx ty p q = absurd q
-lt-key (fin s m e) nan tx ty p q = absurd q
-lt-key (inf true) (inf true) tx ty p q = sym (le-ltb 0 0 (lit≤ tt))
-lt-key (inf true) (inf false) tx ty p q = sym (lt-ltb 0 (Top + Top) (let t = pow-under-Top 0 (lit≤ tt) in omega arith))
-lt-key (inf false) (inf true) tx ty p q = sym (le-ltb (Top + Top) 0 zero-le)
-lt-key (inf false) (inf false) tx ty p q = sym (le-ltb (Top + Top) (Top + Top) (le-refl (Top + Top)))
-lt-key (inf true) (fin t n d) tx ty p q = sym (lt-ltb 0 (cond t (Top - mag (fin t n d)) (Top + mag (fin t n d))) (inside t (mag (fin t n d)) (fin-under-Top t n d ty) .0))
-lt-key (inf false) (fin t n d) tx ty p q = sym (le-ltb (Top + Top) (cond t (Top - mag (fin t n d)) (Top + mag (fin t n d))) (le-of-lt (inside t (mag (fin t n d)) (fin-under-Top t n d ty) .1)))
-lt-key (fin s m e) (inf true) tx ty p q = sym (le-ltb (cond s (Top - mag (fin s m e)) (Top + mag (fin s m e))) 0 zero-le)
-lt-key (fin s m e) (inf false) tx ty p q = sym (lt-ltb (cond s (Top - mag (fin s m e)) (Top + mag (fin s m e))) (Top + Top) (inside s (mag (fin s m e)) (fin-under-Top s m e tx) .1))
-lt-key (fin s m e) (fin t n d) tx ty p q =
-    lt-val (fin s m e) (fin t n d) s t (mag (fin s m e)) (mag (fin t n d)) (fin-val s m e tx) (fin-val t n d ty)
-    ∙ below-key s t (mag (fin s m e)) (mag (fin t n d)) (fin-under-Top s m e tx) (fin-under-Top t n d ty)
-
-le-key : (x y : Float) → T (fits binary64 x) → T (fits binary64 y) → T (number x) → T (number y) → le x y ≡ false → key y < key x
-le-key x y fx fy p q h = ltb-true (key y) (key x) (sym (lt-key y x fy fx q p) ∙ le-or x y p q h)
-
--- ---- the smallest and the largest
-abbrev Fine : Float → Type 0
-Fine x = T (fits binary64 x) × T (number x)
-
--- of two, the one that a test takes stands to both as the test says
-chosen-key : (R : ℕ → ℕ → Type 0) → ((a : ℕ) → R a a) → (m x : Float) → Fine m → Fine x → (c : Bool) → (c ≡ true → R (key x) (key m)) → (c ≡ false → R (key m) (key x)) → Fine (cond c x m) × R (key (cond c x m)) (key m) × R (key (cond c x m)) (key x)
-chosen-key R itself m x a b true f g = (b, f refl, itself (key x))
-chosen-key R itself m x a b false f g = (a, itself (key m), g refl)
-
-larger-key : (m x : Float) → Fine m → Fine x → Fine (larger m x) × (key m ≤ key (larger m x)) × (key x ≤ key (larger m x))
-unfolding larger
-larger-key m x a b =
-    let e = lt-key m x (a .0) (b .0) (a .1) (b .1) in
-    chosen-key (λ k l. l ≤ k) le-refl m x a b (lt m x) (λ t. le-of-lt (ltb-true (key m) (key x) (sym e ∙ t))) (λ t. ltb-false (key m) (key x) (sym e ∙ t))
-
-smaller-key : (m x : Float) → Fine m → Fine x → Fine (smaller m x) × (key (smaller m x) ≤ key m) × (key (smaller m x) ≤ key x)
-unfolding smaller
-smaller-key m x a b =
-    let e = lt-key x m (b .0) (a .0) (b .1) (a .1) in
-    chosen-key (λ k l. k ≤ l) le-refl m x a b (lt x m) (λ t. le-of-lt (ltb-true (key x) (key m) (sym e ∙ t))) (λ t. ltb-false (key x) (key m) (sym e ∙ t))
-
-module _ (f : ℕ → Float) (n : ℕ) (fit : (t : ℕ) → t < suc n → T (fits binary64 (f t))) (nums : (t : ℕ) → t < suc n → T (number (f t))) where
-  -- the loop's number stands to each as a step's does
-  picked : (pick : Float → Float → Float) (R : ℕ → ℕ → Type 0) → ((a b c : ℕ) → R a b → R b c → R a c)
-      → ((m x : Float) → Fine m → Fine x → Fine (pick m x) × R (key (pick m x)) (key m) × R (key (pick m x)) (key x))
-      → (k : ℕ) → k ≤ suc n → Fine (loop k (λ k m. pick m (f k)) (f 0)) × ((t : ℕ) → t < k → R (key (loop k (λ k m. pick m (f k)) (f 0))) (key (f t)))
-  unfolding loop
-  picked pick R trans step zero h = ((fit 0 (zero-lt-suc n), nums 0 (zero-lt-suc n)), λ t l. absurd (not-suc-le-zero l))
-  picked pick R trans step (suc k) h =
-      let r = picked pick R trans step k (le-trans (le-of-lt (lt-suc-self k)) h) in
-      let m = loop k (λ k m. pick m (f k)) (f 0) in
-      let q = step m (f k) (r .0) (fit k h, nums k h) in
-      (q .0, λ t l. elim (eq-or-lt-of-le (le-of-suc-le-suc l)) [ inl e ↦ subst (λ (i : ℕ). R (key (pick m (f k))) (key (f i))) (sym e) (q .2) | inr i ↦ trans (key (pick m (f k))) (key m) (key (f t)) (q .1) (r .1 t i) ])
-
 -- ---- values that pass the test of Bayes and Stein
 -- 2 ^ -52, in units, and n of them
 abbrev tinyBits : ℕ
@@ -209,10 +129,15 @@ pub record Positive (n : ℕ) (v : ℕ → Float) : Type 0 where
   pub most : (e : ℕ) → e < n → mag (v e) ≤ L
   pub least : (e : ℕ) → e < n → L ≤ 2 ^ suc fractionBits * mag (v e)
 
+-- what is not at most another has the larger key
+le-key : (x y : Float) → T (fits binary64 x) → T (fits binary64 y) → T (number x) → T (number y) → le x y ≡ false → key y < key x
+le-key x y fx fy p q h = ltb-true (key y) (key x) (sym (lt-key y x fy fx q p) ∙ le-or x y p q h)
+
 -- by the largest, Λ
 module _ (n : ℕ) (few : suc n ≤ maxSide) (v : ℕ → Float) (fit : (e : ℕ) → e < suc n → T (fits binary64 (v e))) (nums : (e : ℕ) → e < suc n → T (number (v e))) where
   by-largest : (Λ : Float) → T (fits binary64 Λ) → T (number Λ) → ((e : ℕ) → e < suc n → key (v e) ≤ key Λ) → (m : Float) → T (fits binary64 m) → T (number m) → ((e : ℕ) → e < suc n → key m ≤ key (v e))
       → le m (count (suc n) ⊗ ε ⊗ Λ) ≡ false → Positive (suc n) v
+  unfolding isNan
   by-largest nan t p hi m tm pm lo h = absurd p
   by-largest (inf s) t p hi m tm pm lo h = absurd (lt-irrefl (key m) (lt-of-le-of-lt (le-trans (lo 0 (zero-lt-suc n)) (hi 0 (zero-lt-suc n))) (le-key m (inf s) tm (unfold fits in tt) pm tt (ap (le m) (sym (bar-is s)) ∙ h))))
     where
@@ -309,16 +234,14 @@ module _ (n : ℕ) (few : suc n ≤ maxSide) (v : ℕ → Float) (fit : (e : ℕ
 positive : (n : ℕ) → suc n ≤ maxSide → (v : ℕ → Float) → ((e : ℕ) → e < suc n → T (fits binary64 (v e))) → ((e : ℕ) → e < suc n → T (number (v e))) → le (minTo (suc n) v) (count (suc n) ⊗ ε ⊗ maxTo (suc n) v) ≡ false → Positive (suc n) v
 unfolding minTo maxTo
 positive n few v fit nums h =
-    let M = picked v n fit nums larger (λ a b. b ≤ a) (λ a b c p q. le-trans q p) larger-key (suc n) (le-refl (suc n)) in
-    let m = picked v n fit nums smaller (λ a b. a ≤ b) (λ a b c p q. le-trans p q) smaller-key (suc n) (le-refl (suc n)) in
+    let each : (e : ℕ) → e < suc n → Fine (v e) = λ e l. (fit e l, nums e l) in
+    let M = picked key Fine Fine larger (λ a b. b ≤ a) (λ a b c p q. le-trans q p) (λ m x a b. larger-by key Fine m x a b (lt-key m x (a .0) (b .0) (a .1) (b .1))) (suc n) v (v 0) (each 0 (zero-lt-suc n)) each in
+    let m = picked key Fine Fine smaller (λ a b. a ≤ b) (λ a b c p q. le-trans p q) (λ m x a b. smaller-by key Fine m x a b (lt-key x m (b .0) (a .0) (b .1) (a .1))) (suc n) v (v 0) (each 0 (zero-lt-suc n)) each in
     by-largest n few v fit nums (loop (suc n) (λ k m. larger m (v k)) (v 0)) (M .0 .0) (M .0 .1) (M .1) (loop (suc n) (λ k m. smaller m (v k)) (v 0)) (m .0 .0) (m .0 .1) (m .1) h
 
 -- ---- the largest of numbers
 largest-of : (n : ℕ) (a : ℕ → ℕ) → (e : ℕ) × (e < suc n) × ((i : ℕ) → i < suc n → a i ≤ a e)
-largest-of zero a = (0, zero-lt-suc 0, λ i l. le-of-eq (ap a (zero-only i l)))
-  where
-    zero-only : (i : ℕ) → i < 1 → i ≡ 0
-    zero-only i l = omega arith
+largest-of zero a = (0, zero-lt-suc 0, λ i l. let z : i ≡ 0 = omega arith in le-of-eq (ap a z))
 largest-of (suc n) a =
     let r = largest-of n a in
     elim (le-or-lt (a (suc n)) (a (r .0))) [
@@ -336,7 +259,7 @@ module _ (n : ℕ) (few : suc n ≤ maxSide) (v : ℕ → Float) (vf : (e : ℕ)
   D = sumTo (suc n) (λ e. p e ⊗ p e ⊘ v e)
 
   over-number : (x y : Float) → T (isFinite (x ⊘ y)) → T (number y)
-  unfolding div isFinite
+  unfolding div isFinite isNan
   over-number nan nan f = f
   over-number (inf s) nan f = f
   over-number (fin s k e) nan f = f
@@ -422,11 +345,7 @@ module _ (n : ℕ) (few : suc n ≤ maxSide) (v : ℕ → Float) (vf : (e : ℕ)
         ]
           where
             some : 0 < size Q
-            some = go Q q
-              where
-                go : (Q : ℕ) → 0 < Q → 0 < size Q
-                go zero q = absurd (lt-irrefl 0 q)
-                go (suc k) q = size-pos k
+            some = size-pos Q q
 
             reach : 2 ^ (size Q - 1) ≤ Q
             reach = size-reaches Q (size Q - 1) (let k = some in omega arith)
@@ -467,7 +386,7 @@ module _ (n : ℕ) (few : suc n ≤ maxSide) (v : ℕ → Float) (vf : (e : ℕ)
   ratio-most F = go D refl (div-finite N D F) F
     where
       go : (d : Float) → D ≡ d → T (isFinite N) → T (isFinite (N ⊘ D)) → mag (N ⊘ D) ≤ 2 ^ ratioMost
-      go nan e f g = absurd (over-number N nan (subst (λ (z : Float). T (isFinite (N ⊘ z))) e g))
+      go nan e f g = unfold isNan in absurd (over-number N nan (subst (λ (z : Float). T (isFinite (N ⊘ z))) e g))
       go (inf s) e f g = let q = over-inf N s f in le-trans (le-of-eq (ap (λ (z : Float). mag (N ⊘ z)) e ∙ ap mag (q .1) ∙ zero-mag (q .0) (pos 0))) zero-le
       go (fin s zero d) e f g = absurd (by-zero N (subst (λ (z : Float). T (isFinite (N ⊘ z))) e g))
         where

@@ -13,14 +13,14 @@ use Rattle.leaves.specs.Numbers.{_⊖_, _⊗_, _⊘_, zero⁺, count, 1e-10, is
 use Rattle.leaves.specs.Loops.{sumTo}
 use Rattle.leaves.specs.Root.{sqrt}
 use Rattle.leaves.specs.Shift.{shift}
-use Rattle.leaves.proofs.Loops.{first-ext}
+use Rattle.leaves.proofs.First.{first-ext}
 use Rattle.leaves.proofs.Shift.{le-shift, min0-shift}
 use Rattle.leaves.proofs.SqrtLaws.{sqrt-shift}
 use Rattle.leaves.proofs.Units.{oneBits, topBits, fractionBits, U, mag}
 use Rattle.leaves.proofs.Range.{sized, range-sized, range-count, count-pos}
 use Rattle.leaves.proofs.Bounds.{Bounds, Bounded, zero-bounded, productOf, covers, is-covered}
 use Rattle.leaves.proofs.Operations.{Moved, moved-sub, moved-mul, moved-over, still}
-use Rattle.leaves.proofs.Totals.{moved-amax, moved-sum, amax-most}
+use Rattle.leaves.proofs.Totals.{moved-amax, moved-sum, amax-finite-most}
 use Rattle.matrix.specs.Matrix.{Matrix}
 use Rattle.matrix.specs.Limits.{maxSide}
 use Rattle.estimators.specs.Sample.{mean, deviation, gram, covariance, largest, constantAsset}
@@ -78,7 +78,7 @@ largest-moved {T = T} {x = x} {y = y} r i a = moved-amax T (λ t. x t i) (λ t. 
 
 pub largest-above : {k n T : ℕ} {b : Bounds} {x y : Matrix} → Returns k n T b x y → (t i : ℕ) → t < T → i < n → mag (x t i) ≤ mag (largest T x i)
 unfolding largest
-largest-above {T = T} {x = x} r t i l a = amax-most (λ t. x t i) T (λ t m. (r .entries t i m a .range .fit, r .entries t i m a .range .finite)) t l
+largest-above {T = T} {x = x} r t i l a = amax-finite-most (λ t. x t i) T (λ t m. (r .entries t i m a .range .fit, r .entries t i m a .range .finite)) t l
 
 -- ---- sums of products over a count
 gram-moved : {k : ℕ} {b : Bounds} (T c : ℕ) → T ≤ maxPeriods → 0 < c → c ≤ maxPeriods → oneBits + fractionBits + periodBits ≤ b .grain + b .grain → averageOf (productOf b b) .most + (k + k) ≤ topBits

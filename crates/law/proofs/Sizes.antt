@@ -10,7 +10,7 @@ use lib.Dec.{T, ltb, eqb, lit≤}
 use lib.IntN.{ℤ, pos, negℤ}
 use lib.ListN.{length, getD}
 use lib.Pow.{pow-add}
-use lib.Ieee.{Float, nan, inf, fin, binary64, fits, eq, lt, le, below, level, up, down, unlike, div, ofInt}
+use lib.Ieee.{Float, nan, inf, fin, binary64, fits, eq, lt, le, below, level, up, down, unlike, div, ofInt, isNan}
 use lib.Ieee.Bits.{is-true}
 use lib.Ieee.Fits.{and-l, and-r}
 use mir.Facts.{or-yes}
@@ -19,6 +19,7 @@ use Rattle.leaves.specs.Numbers.{_⊘_, zero⁺, two, count, isFinite, abs}
 use Rattle.leaves.specs.Scaling.{pow2}
 use Rattle.leaves.proofs.Whole.{over, under, over-neg, under-neg, up-is, down-is}
 use Rattle.leaves.proofs.Units.{oneBits, fractionBits, U, Val, abs-val, sign, mag, zero-val, mag-val, lt-val, eq-zero}
+use Rattle.leaves.proofs.Keys.{number}
 use Rattle.leaves.proofs.Range.{range-size, range-null, count-val}
 use Rattle.leaves.proofs.Bounds.{Bounded}
 use Rattle.law.specs.Law.{All, Sized, AtLeast}
@@ -42,19 +43,14 @@ over-inf (inf r) s f = absurd f
 over-inf (fin r m e) s f = (unlike r s, refl)
 
 -- ---- comparisons
--- what is not NaN
-abbrev pub number : Float → Bool
-number nan = false
-number (inf s) = true
-number (fin s m e) = true
-
 pub val-number : (x : Float) (s : Bool) (a : ℕ) → Val x s a → T (number x)
+unfolding isNan
 val-number nan s a v = absurd v
 val-number (inf t) s a v = absurd v
 val-number (fin t m e) s a v = tt
 
 numbers : (x y : Float) → le x y ≡ true → T (number x) × T (number y)
-unfolding le
+unfolding le isNan
 numbers nan y h = absurd (subst T (sym h) tt)
 numbers (inf s) nan h = absurd (subst T (sym h) tt)
 numbers (inf s) (inf t) h = (tt, tt)
@@ -87,7 +83,7 @@ below-level true false a b = ap (λ (c : Bool). ltb 0 (a + b) || c) (both-zero a
 below-level true true a b = ap (λ (c : Bool). ltb b a || c) (and-true (eqb a b)) ∙ equal-or b a (eqb a b) (λ e. sym (eqb-true a b e)) (λ e i. eqb-false a b e (sym i))
 
 le-is : (x y : Float) → T (number x) → T (number y) → le x y ≡ not (lt y x)
-unfolding le
+unfolding le isNan
 le-is nan y p q = absurd p
 le-is (inf s) nan p q = absurd q
 le-is (inf true) (inf true) p q = refl

@@ -22,11 +22,11 @@ use Rattle.leaves.proofs.Range.{count-val, range-size}
 use Rattle.leaves.proofs.Bounds.{Bounded}
 use Rattle.leaves.proofs.Whole.{le-or-lt}
 use Rattle.leaves.proofs.Signs.{sign-round}
-use Rattle.law.proofs.Sizes.{le-yes, two-val}
-use Rattle.law.proofs.Exponential.{W, ageMost, argumentMost, U-W, W-pos, W-large, N, N-is, ln2-val, near-above, mul-most, Exp, exp-within, product-least, product-most, ExpM1, expM1-within, exp-above, Weight, exp-val}
 use Rattle.estimators.specs.Weighted.{minLogDecay, logDecay, accepted, denominator}
 use Rattle.estimators.specs.Order.{maxPeriods}
 use Rattle.law.specs.Law.{maxHalfLives}
+use Rattle.law.proofs.Sizes.{le-yes, two-val}
+use Rattle.law.proofs.Exponential.{W, ageMost, argumentMost, U-W, W-pos, W-large, N, N-is, ln2-val, near-above, mul-most, Exp, exp-within, product-least, product-most, ExpM1, expM1-within, exp-above, Weight, exp-val}
 use Rattle.law.proofs.Bits.{periodBits, period-bits, halfLifeBits}
 use Rattle.law.proofs.Ranges.{weightBounds, denominatorBounds}
 
@@ -175,7 +175,7 @@ module _ (P : ℕ) (periods : 2 ≤ P) (most : P ≤ maxPeriods) (h : Float) (fi
   factor = 2 * mag (exp (logDecay h))
 
   exp-most : mag (exp (logDecay h)) ≤ 54 * W
-  exp-most = let x = log-exp in le-trans (le-trans (le-of-eq (sym (mul-one (mag (exp (logDecay h)))))) (mul-le-mul-left (mag (exp (logDecay h))) (pow-pos (x .K)))) (le-trans (le-of-eq (x .is)) (x .most))
+  exp-most = let x = log-exp in le-trans (le-trans (le-of-eq (sym (mul-one (mag (exp (logDecay h)))))) (mul-le-mul-left (mag (exp (logDecay h))) (pow-pos (x .power .K)))) (le-trans (le-of-eq (x .is)) (x .most))
 
   factor-val : Val (two ⊗ exp (logDecay h)) false factor
   unfolding factor
@@ -212,7 +212,7 @@ module _ (P : ℕ) (periods : 2 ≤ P) (most : P ≤ maxPeriods) (h : Float) (fi
   unfolding E₂ dividend E₁ factor
   close c =
       let x = log-exp in
-      let k : mag (exp (logDecay h)) ≡ x .P = sym (mul-one (mag (exp (logDecay h)))) ∙ ap (λ (n : ℕ). mag (exp (logDecay h)) * 2 ^ n) (sym (x .none c)) ∙ x .is in
+      let k : mag (exp (logDecay h)) ≡ x .P = sym (mul-one (mag (exp (logDecay h)))) ∙ ap (λ (n : ℕ). mag (exp (logDecay h)) * 2 ^ n) (sym (x .power .none c)) ∙ x .is in
       let n = near-error (2 * mag (exp (logDecay h)) * above .E) U U-pos in
       let b = below .near-zero (omega arith) in
       let s = span-within in

@@ -7,7 +7,7 @@ use mathlib.Core.Bool.{Bool, true, false, cond}
 use lib.Dec.{T, ltb, lit≤}
 use lib.Pow.{pow-pos}
 use lib.IntN.{ℤ, pos, negsuc}
-use lib.Ieee.{Float, nan, inf, fin, binary64, up, down, unlike, odd, units, round, sum, add, mul, div, lt, le, eq, fits}
+use lib.Ieee.{Float, nan, inf, fin, binary64, up, down, unlike, odd, units, round, sum, add, mul, div, lt, le, eq, fits, isNan}
 use lib.Ieee.Fits.{div-fits, round-is}
 use borrow.Author.Tests.{le-ltb}
 use Rattle.leaves.specs.Numbers.{_⊕_, _⊗_, _⊘_, zero⁺, half, two, ε, isFinite}
@@ -19,7 +19,8 @@ use Rattle.leaves.proofs.Rounding.{near, near-most, held-small}
 use Rattle.leaves.proofs.Units.{oneBits, topBits, U, Top, sign, mag, Val, mag-val, zero-val, val-unique, rounded, rounded-val, pow-under-Top}
 use Rattle.leaves.proofs.Arithmetic.{div-rounded}
 use Rattle.leaves.proofs.Signs.{sign-add, sign-mul, sign-sqrt}
-use Rattle.law.proofs.Sizes.{number, not-lt}
+use Rattle.leaves.proofs.Keys.{number}
+use Rattle.law.proofs.Sizes.{not-lt}
 
 -- ---- zeros of either sign
 abbrev pub Zero : Float → Type 0
@@ -107,7 +108,7 @@ number-cond true x y p q = p
 number-cond false x y p q = q
 
 number-units : (s : Bool) (q k : ℕ) → T (number (units binary64 s q k))
-unfolding units
+unfolding units isNan
 number-units s q k = number-cond (ltb (q * 2 ^ k) (2 ^ suc topBits)) (odd 54 s q k oneBits) (inf s) (go q) tt
   where
     go : (q : ℕ) → T (number (odd 54 s q k oneBits))
@@ -133,26 +134,26 @@ unfolding mul
 number-times s t m n e d = number-round (unlike s t) (m * up e * (n * up d)) (down e * down d)
 
 pub number-zero-plus : (x : Float) → T (number x) → T (number (zero⁺ ⊕ x))
-unfolding add
+unfolding add isNan
 number-zero-plus nan n = n
 number-zero-plus (inf s) n = tt
 number-zero-plus (fin s m e) n = number-plus false s 0 m (pos 0) e
 
 pub number-twice : (x : Float) → T (number x) → T (number (x ⊕ x))
-unfolding add
+unfolding add isNan
 number-twice nan n = n
 number-twice (inf true) n = tt
 number-twice (inf false) n = tt
 number-twice (fin s m e) n = number-plus s s m m e e
 
 pub number-half : (x : Float) → T (number x) → T (number (x ⊗ half))
-unfolding mul
+unfolding mul isNan
 number-half nan n = n
 number-half (inf s) n = tt
 number-half (fin s m e) n = number-times s false m 1 e (negsuc 0)
 
 number-square : (x : Float) → T (number x) → T (number (x ⊗ x))
-unfolding mul
+unfolding mul isNan
 number-square nan n = n
 number-square (inf s) n = tt
 number-square (fin s m e) n = number-times s s m m e e
@@ -161,7 +162,7 @@ pub plus-square : (x : Float) → T (number x) → Plus (x ⊗ x)
 plus-square x n = (number-square x n, sign-mul x x refl)
 
 pub plus-add : (x y : Float) → Plus x → Plus y → Plus (x ⊕ y)
-unfolding add sign
+unfolding add sign isNan
 plus-add x y p q = (go x y (p .0) (q .0) (p .1) (q .1), sign-add x y (p .1) (q .1))
   where
     go : (x y : Float) → T (number x) → T (number y) → sign x ≡ false → sign y ≡ false → T (number (x ⊕ y))
@@ -178,14 +179,14 @@ plus-add x y p q = (go x y (p .0) (q .0) (p .1) (q .1), sign-add x y (p .1) (q .
     go (fin false m e) (fin false n d) a b p q = number-round false (m * up e * down d + n * up d * down e) (down e * down d)
 
 number-shift : (k : ℤ) (x : Float) → T (number x) → T (number (shift k x))
-unfolding shift
+unfolding shift isNan
 number-shift k nan n = n
 number-shift k (inf s) n = tt
 number-shift k (fin s zero e) n = tt
 number-shift k (fin s (suc m) e) n = tt
 
 number-sqrt : (x : Float) → T (number x) → sign x ≡ false → T (number (sqrt x))
-unfolding sqrt sign
+unfolding sqrt sign isNan
 number-sqrt nan n p = n
 number-sqrt (inf true) n p = no refl p
 number-sqrt (inf false) n p = tt
@@ -194,7 +195,7 @@ number-sqrt (fin true (suc m) e) n p = no refl p
 number-sqrt (fin false (suc m) e) n p = number-shift _ (round binary64 false _ 1) (number-round false _ 1)
 
 number-epsilon : (x : Float) → T (number x) → T (number (ε ⊗ x))
-unfolding mul
+unfolding mul isNan
 number-epsilon nan n = n
 number-epsilon (inf s) n = tt
 number-epsilon (fin s m e) n = number-times false s 1 m (negsuc 51) e
@@ -213,4 +214,5 @@ never-below true (fin false m e) q = refl
 never-below false (fin false m e) q = le-ltb _ _ (le-trans (le-of-eq (ap (λ (z : ℕ). z * down e) (zero-mul 1) ∙ zero-mul (down e))) zero-le)
 
 pub zero-below : (s : Bool) (y : Float) → Plus y → le (fin s zero (pos 0)) y ≡ true
+unfolding isNan
 zero-below s y p = not-lt (fin s zero (pos 0)) y tt (p .0) (never-below s y (p .1))

@@ -1,40 +1,48 @@
--- Laws of `firstTo`, the first index at which a test holds, as a search goes on: nothing found so far, one test more, and found it stays. Assumes nothing.
-use mathlib.Core.Path.{_≡_, refl, ap, _∙_}
-use mathlib.Core.Bool.{Bool, true, false}
-use mathlib.Core.Option.{none, some}
-use Prim.Native.Nat.{ℕ, zero, suc, _+_, _-_, _≤_, _<_}
-use native.Mathlib.Nat.{lt-suc-self, lt-trans}
-use native.Mathlib.Numerals.{add-one}
+-- Laws of `firstTo`, the first index at which a test holds: it turns on the tests below the end alone, what is found is below the end, and nothing is found exactly
+-- where no test holds. Assumes nothing.
+use mathlib.Core.Path.{_≡_, refl, ap, ap₂, _∙_}
+use mathlib.Core.Logic.{_⊎_, inl, inr}
+use mathlib.Core.Bool.{Bool, true, false, cond}
+use mathlib.Core.Option.{Option, none, some}
+use Prim.Native.Nat.{ℕ, zero, suc, _<_}
+use native.Mathlib.Nat.{lt-suc-self, lt-trans, le-step, le-of-suc-le-suc, eq-or-lt-of-le, not-suc-le-zero}
 use native.Mathlib.Omega.{arith}
 use Rattle.leaves.specs.Loops.{firstTo}
 
+abbrev pick : ℕ → Bool → Option ℕ → Option ℕ
+pick n t found = elim found [ none ↦ cond t (some n) none | some k ↦ some k ]
+
+pub first-ext : (n : ℕ) (f g : ℕ → Bool) → ((k : ℕ) → k < n → f k ≡ g k) → firstTo n f ≡ firstTo n g
+unfolding firstTo
+first-ext zero f g h = refl
+first-ext (suc n) f g h = ap₂ (pick n) (h n (lt-suc-self n)) (first-ext n f g (λ k l. h k (lt-trans l (lt-suc-self n))))
+
 module _ (test : ℕ → Bool) where
-  pub first-none : firstTo 0 test ≡ none
+  -- what is found is below the end
+  pub first-below : (n k : ℕ) → firstTo n test ≡ some k → k < n
   unfolding firstTo
-  first-none = refl
+  first-below zero k e = let z : _≡_ {A = ℕ} 0 1 = cc in omega arith
+  first-below (suc n) k e = go (firstTo n test) (first-below n k) (test n) e
+    where
+      go : (o : Option ℕ) → (o ≡ some k → k < n) → (b : Bool) → pick n b o ≡ some k → k < suc n
+      go none h true e = let q : n ≡ k = cc in omega arith
+      go none h false e = let z : _≡_ {A = ℕ} 0 1 = cc in omega arith
+      go (some j) h b e = le-step (h e)
 
-  pub first-more : (k : ℕ) → firstTo k test ≡ none → test k ≡ false → firstTo (k + 1) test ≡ none
+  -- where nothing is found, no test holds
+  pub first-all : (n : ℕ) → firstTo n test ≡ none → (k : ℕ) → k < n → test k ≡ false
   unfolding firstTo
-  first-more k e t = ap (λ (j : ℕ). firstTo j test) (add-one k) ∙ rw (e, t)
+  first-all zero e k l = absurd (not-suc-le-zero l)
+  first-all (suc n) e k l = go (firstTo n test) refl (test n) refl e (eq-or-lt-of-le (le-of-suc-le-suc l)) (first-all n)
+    where
+      go : (o : Option ℕ) → firstTo n test ≡ o → (b : Bool) → test n ≡ b → pick n b o ≡ none → (k ≡ n) ⊎ (k < n) → (firstTo n test ≡ none → (k : ℕ) → k < n → test k ≡ false) → test k ≡ false
+      go (some j) p b q e d before = let z : _≡_ {A = ℕ} 0 1 = cc in absurd (omega arith)
+      go none p true q e d before = let z : _≡_ {A = ℕ} 0 1 = cc in absurd (omega arith)
+      go none p false q e (inl d) before = ap test d ∙ q
+      go none p false q e (inr d) before = before p k d
 
-  -- no test holds
+  -- where no test holds, nothing is found
   pub none-first : (n : ℕ) → ((k : ℕ) → k < n → test k ≡ false) → firstTo n test ≡ none
   unfolding firstTo
   none-first zero h = refl
   none-first (suc n) h = rw (none-first n (λ k l. h k (lt-trans l (lt-suc-self n))), h n (lt-suc-self n))
-
-  -- once found, it stays
-  first-stays : (n d k : ℕ) → firstTo n test ≡ some k → firstTo (n + d) test ≡ some k
-  unfolding firstTo
-  first-stays n zero k e = let q : n + 0 ≡ n = omega arith in ap (λ (j : ℕ). firstTo j test) q ∙ e
-  first-stays n (suc d) k e = let q : n + suc d ≡ suc (n + d) = omega arith in ap (λ (j : ℕ). firstTo j test) q ∙ rw (firstTo, first-stays n d k e)
-
-  pub first-later : (n m k : ℕ) → n ≤ m → firstTo n test ≡ some k → firstTo m test ≡ some k
-  first-later n m k h e = let q : m ≡ n + (m - n) = omega arith in ap (λ (j : ℕ). firstTo j test) q ∙ first-stays n (m - n) k e
-
-  first-is : (k : ℕ) → firstTo k test ≡ none → test k ≡ true → firstTo (suc k) test ≡ some k
-  unfolding firstTo
-  first-is k e t = rw (e, t)
-
-  pub first-at : (k n : ℕ) → firstTo k test ≡ none → test k ≡ true → k < n → firstTo n test ≡ some k
-  first-at k n e t h = first-later (suc k) n k h (first-is k e t)

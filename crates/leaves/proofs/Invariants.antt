@@ -9,7 +9,8 @@ use lib.ListN.{length, getD, set, length-set}
 use lib.Ieee.{Float}
 use Rattle.leaves.specs.Numbers.{_⊕_, zero⁺, abs, larger}
 use Rattle.leaves.specs.Loops.{loop, sumTo, amaxTo, tab, fill}
-use Rattle.leaves.proofs.Loops.{at-cell, loop-more, loop-ext, fill-whole}
+use Rattle.leaves.proofs.Loops.{loop-more, loop-ext, fill-whole}
+use Rattle.leaves.proofs.Cells.{at-cell}
 
 -- a loop's invariant s ≡ loop step i s₀, after a turn and at the end
 pub loop-turn : {S : Type 0} (step : ℕ → S → S) (i : ℕ) (s₀ s s′ : S) → s ≡ loop i step s₀ → s′ ≡ step i s → s′ ≡ loop (i + 1) step s₀

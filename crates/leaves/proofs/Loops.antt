@@ -1,53 +1,15 @@
--- Laws of `specs/Loops.antt`'s loops, sums and tables, and of a cell's index in a table stored row by row. Assumes nothing.
-use mathlib.Core.Path.{_≡_, refl, sym, ap, ap₂, _∙_}
-use mathlib.Core.Logic.{_⊎_, inl, inr}
+-- Laws of `specs/Loops.antt`'s loops, sums and tables. Assumes nothing.
+use mathlib.Core.Path.{_≡_, refl, sym, ap, _∙_}
 use mathlib.Core.List.{[], List, _∷_, _++_, append-nil}
-use mathlib.Core.Option.{Option, none, some}
-use Prim.Native.Nat.{ℕ, zero, suc, _+_, _*_, _/_, _%_, _≤_, _<_, zero-le, suc-le-suc}
-use native.Mathlib.Nat.{lt-suc-self, lt-trans, le-antisymm, mul-le-mul-right, not-suc-le-zero, le-of-suc-le-suc, mul-zero, mod-lt, div-lt-iff-lt-mul, le-step, eq-or-lt-of-le}
+use Prim.Native.Nat.{ℕ, zero, suc, _+_, _≤_, _<_, zero-le, suc-le-suc}
+use native.Mathlib.Nat.{lt-suc-self, lt-trans, le-antisymm, not-suc-le-zero, le-of-suc-le-suc}
 use native.Mathlib.Numerals.{add-one}
 use native.Mathlib.Omega.{arith}
-use mathlib.Core.Bool.{Bool, true, false, cond}
-use lib.Arith.{digits-lt, digits-div, digits-mod}
 use lib.ListN.{length, getD, drop, length-append, length-drop, drop-of-length-le}
 use lib.Seq.{ext-getD}
 use lib.Ieee.{Float}
 use Rattle.leaves.specs.Numbers.{_⊕_, zero⁺, abs, larger}
-use Rattle.leaves.specs.Loops.{loop, sumTo, amaxTo, firstTo, tab, fill}
-
--- a cell of row t and column j lies within the table
-pub cell : (t T j n : ℕ) → t < T → j < n → t * n + j < T * n
-cell t T j n ht hj = digits-lt ht hj
-
--- row t lies within the table. With it in hand, or in an invariant, omega does the cells: j < n is linear
-pub row : (t T n : ℕ) → t < T → t * n + n ≤ T * n
-row t T n h = omega (arith, mul-le-mul-right n h)
-
--- the row and the column of cell i * n + j
-pub cell-row : (i n j : ℕ) → j < n → (i * n + j) / n ≡ i
-cell-row i n j h = digits-div i h
-
-pub cell-col : (i n j : ℕ) → j < n → (i * n + j) % n ≡ j
-cell-col i n j h = digits-mod i h
-
--- a table's entry there
-pub at-cell : {A : Type 0} (f : ℕ → ℕ → A) (i n j : ℕ) → j < n → f ((i * n + j) / n) ((i * n + j) % n) ≡ f i j
-at-cell f i n j h = λ t. f (cell-row i n j h t) (cell-col i n j h t)
-
--- a table with a cell k has a column
-pub has-column : (k m n : ℕ) → k < m * n → 0 < n
-has-column k m zero h = absurd (not-suc-le-zero (rw mul-zero at h))
-has-column k m (suc n) h = suc-le-suc zero-le
-
-pub side : (k n : ℕ) → k < n * n → 0 < n
-side k n h = has-column k n n h
-
--- the row and the column of any cell of an m × n table
-pub row-below : (k m n : ℕ) → k < m * n → k / n < m
-row-below k m n h = div-lt-iff-lt-mul (has-column k m n h) .1 h
-
-pub col-below : (k m n : ℕ) → k < m * n → k % n < n
-col-below k m n h = mod-lt k (has-column k m n h)
+use Rattle.leaves.specs.Loops.{loop, sumTo, amaxTo, tab, fill}
 
 -- one step more
 pub loop-more : {S : Type 0} (step : ℕ → S → S) (n : ℕ) (s : S) → loop (n + 1) step s ≡ step n (loop n step s)
@@ -115,37 +77,6 @@ sum-ext n f g h = loop-ext n (λ k s. s ⊕ f k) (λ k s. s ⊕ g k) zero⁺ (λ
 pub amax-ext : (n : ℕ) (f g : ℕ → Float) → ((k : ℕ) → k < n → f k ≡ g k) → amaxTo n f ≡ amaxTo n g
 unfolding amaxTo
 amax-ext n f g h = loop-ext n (λ k m. larger m (abs (f k))) (λ k m. larger m (abs (g k))) zero⁺ (λ k l s. ap (λ (z : Float). larger s (abs z)) (h k l))
-
-abbrev pick : ℕ → Bool → Option ℕ → Option ℕ
-pick n t found = elim found [ none ↦ cond t (some n) none | some k ↦ some k ]
-
-pub first-ext : (n : ℕ) (f g : ℕ → Bool) → ((k : ℕ) → k < n → f k ≡ g k) → firstTo n f ≡ firstTo n g
-unfolding firstTo
-first-ext zero f g h = refl
-first-ext (suc n) f g h = ap₂ (pick n) (h n (lt-suc-self n)) (first-ext n f g (λ k l. h k (lt-trans l (lt-suc-self n))))
-
--- what is found is below the end
-pub first-below : (test : ℕ → Bool) (n k : ℕ) → firstTo n test ≡ some k → k < n
-unfolding firstTo
-first-below test zero k e = let z : _≡_ {A = ℕ} 0 1 = cc in omega arith
-first-below test (suc n) k e = go (firstTo n test) (first-below test n k) (test n) e
-  where
-    go : (o : Option ℕ) → (o ≡ some k → k < n) → (b : Bool) → pick n b o ≡ some k → k < suc n
-    go none h true e = let q : n ≡ k = cc in omega arith
-    go none h false e = let z : _≡_ {A = ℕ} 0 1 = cc in omega arith
-    go (some j) h b e = le-step (h e)
-
--- where nothing is found, no test holds
-pub first-all : (test : ℕ → Bool) (n : ℕ) → firstTo n test ≡ none → (k : ℕ) → k < n → test k ≡ false
-unfolding firstTo
-first-all test zero e k l = absurd (not-suc-le-zero l)
-first-all test (suc n) e k l = go (firstTo n test) refl (test n) refl e (eq-or-lt-of-le (le-of-suc-le-suc l)) (first-all test n)
-  where
-    go : (o : Option ℕ) → firstTo n test ≡ o → (b : Bool) → test n ≡ b → pick n b o ≡ none → (k ≡ n) ⊎ (k < n) → (firstTo n test ≡ none → (k : ℕ) → k < n → test k ≡ false) → test k ≡ false
-    go (some j) p b q e d before = let z : _≡_ {A = ℕ} 0 1 = cc in absurd (omega arith)
-    go none p true q e d before = let z : _≡_ {A = ℕ} 0 1 = cc in absurd (omega arith)
-    go none p false q e (inl d) before = ap test d ∙ q
-    go none p false q e (inr d) before = before p k d
 
 -- a number made for i, at the end
 pub at-end : {A : Type 0} (g : ℕ → A) (i n : ℕ) (s : A) → s ≡ g i → i ≤ n → n ≤ i → s ≡ g n

@@ -4,7 +4,7 @@
 use mathlib.Core.Path.{_≡_, refl, sym, ap, _∙_, subst, subst₂}
 use mathlib.Core.Logic.{inl, inr}
 use Prim.Native.Nat.{ℕ, zero, suc, _+_, _-_, _*_, _%_, _^_, _≤_, _<_}
-use native.Mathlib.Nat.{le-trans, le-of-eq, lt-of-le-of-lt, lt-irrefl, lt-suc-self, mul-assoc, mul-right-comm, mul-pos, mul-le-mul-right, le-of-mul-le-mul-right, mul-lt-mul-of-pos-right, lt-of-mul-lt-mul-right, eq-of-mul-eq-mul-right, pow-succ'}
+use native.Mathlib.Nat.{le-trans, le-of-eq, lt-of-le-of-lt, lt-irrefl, lt-suc-self, mul-assoc, mul-right-comm, mul-pos, mul-le-mul-right, le-of-mul-le-mul-right, mul-lt-mul-of-pos-right, lt-of-mul-lt-mul-right, eq-of-mul-eq-mul-right, pow-succ', zero-lt-suc}
 use native.Mathlib.Omega.{arith}
 use mathlib.Core.Bool.{Bool}
 use lib.Dec.{T}
@@ -130,8 +130,8 @@ lead (fin s (suc m) e) f v p =
     let w : suc m * 2 ^ (over e + oneBits) ≡ mag (fin s (suc m) e) * 2 ^ under e =
     ap (λ (z : ℕ). suc m * z) (pow-add 2 (over e) oneBits) ∙ sym (mul-assoc (suc m) (2 ^ over e) (2 ^ oneBits)) ∙ (rw (up-is e, down-is e, U-is) at (v .1)) in
     let k = places a e (over b) (under b) (unfold over under in omega (arith, plus (pos a) e)) in (
-      least (suc m) a (over e + oneBits) (under e) (mag (fin s (suc m) e)) (under b) (oneBits + over b) (k .0) w (size-reaches (suc m) a (omega (arith, size-pos m))),
-      most (suc m) (suc a) (over e + oneBits) (under e) (mag (fin s (suc m) e)) (under b) (suc oneBits + over b) (k .1) w (subst (λ (z : ℕ). suc m < 2 ^ z) (again (size (suc m)) (size-pos m)) (size-lt (suc m))),
+      least (suc m) a (over e + oneBits) (under e) (mag (fin s (suc m) e)) (under b) (oneBits + over b) (k .0) w (size-reaches (suc m) a (omega (arith, size-pos (suc m) (zero-lt-suc m)))),
+      most (suc m) (suc a) (over e + oneBits) (under e) (mag (fin s (suc m) e)) (under b) (suc oneBits + over b) (k .1) w (subst (λ (z : ℕ). suc m < 2 ^ z) (again (size (suc m)) (size-pos (suc m) (zero-lt-suc m))) (size-lt (suc m))),
     )
   where
     again : (n : ℕ) → 0 < n → n ≡ suc (n - 1)

@@ -2,7 +2,7 @@
 -- the whole number n whose root is taken (`radicand-bits`), and those of a guess that passes the test are those of the root of x (`root-is`). Assumes nothing.
 use mathlib.Core.Path.{_≡_, refl, sym, ap, _∙_, subst}
 use Prim.Native.Nat.{ℕ, zero, suc, _+_, _-_, _*_, _/_, _%_, _^_, _≤_, _<_}
-use native.Mathlib.Nat.{mul-assoc, mul-le-mul-right, mul-div-cancel, div-le-self, le-trans, le-of-eq, le-of-lt, lt-of-le-of-lt, lt-of-not-le}
+use native.Mathlib.Nat.{mul-assoc, mul-le-mul-right, mul-div-cancel, div-le-self, le-trans, le-of-eq, lt-of-le-of-lt, lt-of-not-le, zero-lt-suc}
 use native.Mathlib.Omega.{arith}
 use mathlib.Core.Bool.{true, false}
 use lib.Dec.{T}
@@ -41,7 +41,7 @@ module _ (m : ℕ) (e : ℤ) (r : Room (suc m) e) where
 
   Q-in : (2 ^ 52 ≤ Q) × (Q < 2 ^ 53)
   Q-in =
-      let s = size-pos m in
+      let s = size-pos (suc m) (zero-lt-suc m) in
       let b : 2 ^ (size (suc m) - 1) * 2 ^ (53 - size (suc m)) ≤ Q = mul-le-mul-right (2 ^ (53 - size (suc m))) (leading m) in
       let i : size (suc m) - 1 + (53 - size (suc m)) ≡ 52 = omega arith in
       let c : 2 ^ (size (suc m) - 1) * 2 ^ (53 - size (suc m)) ≡ 2 ^ 52 = sym (pow-add 2 (size (suc m) - 1) (53 - size (suc m))) ∙ ap (λ (j : ℕ). 2 ^ j) i in

@@ -89,7 +89,7 @@ shift-value k (inf t) s a c v = absurd v
 shift-value k (fin t m e) s a c v = rw (shift-fin k t m e) (v .0, times-value (m * up (expo k m e)) (down e) c (down k) (m * up e) (up k) (down (expo k m e)) a (down-pos e) (expo-value k m e) (v .1))
 
 -- ---- comparisons: of x and y, and of a and b, where x * p is a * q and y * p is b * q
-iff-same : (a b : Bool) → (T a → T b) → (T b → T a) → a ≡ b
+pub iff-same : (a b : Bool) → (T a → T b) → (T b → T a) → a ≡ b
 iff-same true true f g = refl
 iff-same true false f g = absurd (f tt)
 iff-same false true f g = absurd (g tt)

@@ -1,17 +1,14 @@
 -- Sums from +0 in rising index and the largest size, under a shift. `Part` is a sum under way: m terms of 2 ^ h units at most make m * 2 ^ h units at most, since that number has few
 -- digits and rounding does not pass it. So a sum of at most 2 ^ c terms stays exact under a shift as long as 2 ^ (c + h) units, shifted, do not overflow (`moved-sum`); a sum of products
 -- is this with `moved-mul` for each term. Assumes nothing.
-use mathlib.Core.Path.{_≡_, sym, ap₂, _∙_, subst}
-use mathlib.Core.Logic.{inl, inr}
+use mathlib.Core.Path.{_≡_, sym, ap₂, _∙_}
 use Prim.Native.Nat.{ℕ, zero, suc, _+_, _*_, _^_, _≤_, _<_}
-use native.Mathlib.Nat.{le-refl, le-trans, le-of-eq, le-of-lt, le-of-suc-le-suc, lt-of-le-of-lt, lt-trans, lt-suc-self, eq-or-lt-of-le, not-suc-le-zero, suc-mul, mul-le-mul-right, le-mul-of-pos-right}
+use native.Mathlib.Nat.{le-refl, le-trans, le-of-eq, le-of-lt, lt-of-le-of-lt, lt-trans, lt-suc-self, suc-mul, mul-le-mul-right, le-mul-of-pos-right}
 use native.Mathlib.Omega.{arith}
 use mathlib.Core.Bool.{Bool, true, false, cond}
-use lib.Dec.{ltb}
 use lib.IntN.{ℤ, pos}
 use lib.Pow.{pow-add, pow-pos, pow-mono, pow-lt}
 use lib.Ieee.{Float, lt}
-use borrow.Author.Tests.{ltb-true, ltb-false}
 use Rattle.leaves.specs.Numbers.{_⊕_, zero⁺, abs, larger}
 use Rattle.leaves.specs.Loops.{loop, sumTo, amaxTo}
 use Rattle.leaves.specs.Shift.{shift}
@@ -19,6 +16,7 @@ use Rattle.leaves.proofs.Shift.{shift-zero⁺, abs-shift, larger-shift}
 use Rattle.leaves.proofs.Loops.{kept-loop, amax-ext}
 use Rattle.leaves.proofs.Rounding.{Held, held-times, held-up}
 use Rattle.leaves.proofs.Units.{topBits, fractionBits, Finite, zero-val, zero-mag, Top, pow-under-Top, Val, mag, mag-val, mag-abs, abs-val, lt-val}
+use Rattle.leaves.proofs.Keys.{larger-by, picked}
 use Rattle.leaves.proofs.Range.{Range, range-weaken, range-abs, range-zero}
 use Rattle.leaves.proofs.Bounds.{Bounds, Bounded, zero-bounded, sumOf}
 use Rattle.leaves.proofs.Operations.{Moved, range-add, add-copy}
@@ -101,28 +99,10 @@ moved-amax {k} {b} n u u' each = record {
 }
 
 -- and none is larger, of finite values of the format
-size-val : (x : Float) → Finite x → Val (abs x) false (mag (abs x))
-size-val x t = rw (mag-abs x) (abs-val x (mag-val x (t .0) (t .1)))
-
-larger-mag : (m x : Float) → Val m false (mag m) → Val x false (mag x) → (mag m ≤ mag (larger m x)) × (mag x ≤ mag (larger m x))
-unfolding larger
-larger-mag m x v w = go (lt m x) (sym (lt-val m x false false (mag m) (mag x) v w))
-  where
-    go : (b : Bool) → ltb (mag m) (mag x) ≡ b → (mag m ≤ mag (cond b x m)) × (mag x ≤ mag (cond b x m))
-    go true e = (le-of-lt (ltb-true (mag m) (mag x) e), le-refl (mag x))
-    go false e = (le-refl (mag m), ltb-false (mag m) (mag x) e)
-
-module _ (f : ℕ → Float) where
-  amax-val : (n : ℕ) → ((t : ℕ) → t < n → Finite (f t)) → Val (amaxTo n f) false (mag (amaxTo n f))
-  amax-val n h = amax-one (λ z. Val z false (mag z)) n f (rw (zero-mag false (pos 0)) (zero-val false (pos 0))) (λ t l. size-val (f t) (h t l))
-
-  pub amax-most : (n : ℕ) → ((t : ℕ) → t < n → Finite (f t)) → (t : ℕ) → t < n → mag (f t) ≤ mag (amaxTo n f)
-  unfolding amaxTo loop
-  amax-most zero h t l = absurd (not-suc-le-zero l)
-  amax-most (suc n) h t l =
-      let h' : (t : ℕ) → t < n → Finite (f t) = λ t l. h t (lt-trans l (lt-suc-self n)) in
-      let b = larger-mag (amaxTo n f) (abs (f n)) (amax-val n h') (size-val (f n) (h n (lt-suc-self n))) in
-      elim (eq-or-lt-of-le (le-of-suc-le-suc l)) [
-        | inl e ↦ subst (λ (i : ℕ). mag (f i) ≤ mag (amaxTo (suc n) f)) (sym e) (le-trans (le-of-eq (sym (mag-abs (f n)))) (b .1))
-        | inr i ↦ le-trans (amax-most n h' t i) (b .0)
-      ]
+pub amax-finite-most : (f : ℕ → Float) (n : ℕ) → ((t : ℕ) → t < n → Finite (f t)) → (t : ℕ) → t < n → mag (f t) ≤ mag (amaxTo n f)
+unfolding amaxTo
+amax-finite-most f n each t l =
+    let Plus : Float → Type 0 = λ z. Val z false (mag z) in
+    let step : (m x : Float) → Plus m → Plus x → Plus (larger m x) × (mag m ≤ mag (larger m x)) × (mag x ≤ mag (larger m x)) = λ m x a b. larger-by mag Plus m x a b (lt-val m x false false (mag m) (mag x) a b) in
+    let sizes : (t : ℕ) → t < n → Plus (abs (f t)) = λ t l. rw (mag-abs (f t)) (abs-val (f t) (mag-val (f t) (each t l .0) (each t l .1))) in
+    le-trans (le-of-eq (sym (mag-abs (f t)))) (picked mag Plus Plus larger (λ a b. b ≤ a) (λ a b c p q. le-trans q p) step n (λ t. abs (f t)) zero⁺ (rw (zero-mag false (pos 0)) (zero-val false (pos 0))) sizes .1 t l)

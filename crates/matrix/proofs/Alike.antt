@@ -1,17 +1,19 @@
--- Two matrices with the same entries, within m rows and n columns, are alike in all that is looked for, summed or decomposed. So a stored matrix
--- stands for the function that it stores. And the decomposition, by its two tests (`decompose-is`, `decompose-cases`). Assumes nothing.
+-- Two matrices with the same entries, within m rows and n columns, are alike in all that is looked for, summed or decomposed. Assumes nothing.
 use mathlib.Core.Path.{_≡_, refl, sym, ap, _∙_}
 use mathlib.Core.Bool.{Bool, true, false, not, true≢false}
 use mathlib.Core.List.{List}
 use mathlib.Core.Option.{Option, none, some}
 use Prim.Native.Nat.{ℕ, _+_, _*_, _/_, _%_, _<_}
+use lib.Arith.{digits-lt}
 use lib.Ieee.{Float, eq}
 use borrow.Author.Tests.{not-false}
 use Rattle.leaves.specs.Numbers.{_⊘_, zero⁺, isFinite}
 use Rattle.leaves.specs.Loops.{firstTo}
-use Rattle.leaves.proofs.Loops.{cell, at-cell, sum-ext, amax-ext, first-ext, first-all}
+use Rattle.leaves.proofs.Loops.{sum-ext, amax-ext}
+use Rattle.leaves.proofs.Cells.{at-cell}
+use Rattle.leaves.proofs.First.{first-ext, first-all}
 use Rattle.matrix.specs.Matrix.{Matrix, at, rows, identity, product, transpose, symmetrized, divided, trace, amax, firstEntry, allFinite}
-use Rattle.matrix.specs.Jacobi.{Decomposition, start, swept, scaledBack, unturned, decomposedBy, decompose}
+use Rattle.matrix.specs.Jacobi.{start, decomposedBy, decompose}
 use Rattle.matrix.proofs.Stored.{cell-ext, rows-ext, product-ext}
 
 pub first-entry-alike : (m n : ℕ) (f g : ℕ → ℕ → Bool) → ((i j : ℕ) → i < m → j < n → f i j ≡ g i j) → firstEntry m n f ≡ firstEntry m n g
@@ -36,7 +38,7 @@ pub finite-all : (m n : ℕ) (a : Matrix) → allFinite m n a ≡ true → (i j 
 unfolding allFinite firstEntry
 finite-all m n a h i j hi hj =
     not-false (isFinite (a i j))
-    (sym (at-cell bad i n j hj) ∙ first-all (λ k. bad (k / n) (k % n)) (m * n) (none-there (firstTo (m * n) (λ k. bad (k / n) (k % n))) h) (i * n + j) (cell i m j n hi hj))
+    (sym (at-cell bad i n j hj) ∙ first-all (λ k. bad (k / n) (k % n)) (m * n) (none-there (firstTo (m * n) (λ k. bad (k / n) (k % n))) h) (i * n + j) (digits-lt hi hj))
   where
     bad : ℕ → ℕ → Bool
     bad i j = not (isFinite (a i j))
@@ -59,20 +61,6 @@ module _ (n : ℕ) (f g : Matrix) (h : (i j : ℕ) → i < n → j < n → f i j
     where
       left : Matrix → Matrix
       left f = product n (transpose identity) (divided f scale)
-
-pub decompose-is : (limit n : ℕ) (a : Matrix) → decompose limit n a ≡ decomposedBy limit n (allFinite n n a) (eq (amax n n a) zero⁺) (amax n n a) (start n (amax n n a) a)
-unfolding decompose
-decompose-is limit n a = refl
-
--- so what nothing turned has, and what the sweeps leave, every decomposition has
-pub decompose-cases : (P : Decomposition → Type 0) (limit n : ℕ) (a : Matrix) → ((found : Bool) → P (unturned n found)) → P (scaledBack n (amax n n a) (swept limit n (start n (amax n n a) a))) → P (decompose limit n a)
-unfolding decompose
-decompose-cases P limit n a still turned = go (allFinite n n a) (eq (amax n n a) zero⁺)
-  where
-    go : (finite empty : Bool) → P (decomposedBy limit n finite empty (amax n n a) (start n (amax n n a) a))
-    go false empty = still false
-    go true true = still true
-    go true false = turned
 
 pub decompose-alike : (limit n : ℕ) (f g : Matrix) → ((i j : ℕ) → i < n → j < n → f i j ≡ g i j) → decompose limit n f ≡ decompose limit n g
 unfolding decompose

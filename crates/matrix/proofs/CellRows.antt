@@ -3,11 +3,11 @@ use mathlib.Core.Path.{_≡_}
 use mathlib.Core.Bool.{cond}
 use mathlib.Core.List.{List}
 use Prim.Native.Nat.{ℕ, _+_, _*_, _<_}
+use lib.Arith.{digits-lt}
 use lib.Dec.{eqb}
 use lib.ListN.{length}
 use lib.Ieee.{Float}
 use Rattle.leaves.specs.Numbers.{_⊕_, _⊖_, _⊗_}
-use Rattle.leaves.proofs.Loops.{cell}
 use Rattle.matrix.specs.Matrix.{at}
 use Rattle.matrix.specs.Rotation.{turnRows}
 use Rattle.matrix.proofs.Cells.{turnedRow, Lines, same-row, same-column, lines-turned}
@@ -19,7 +19,7 @@ abbrev inColumns : ℕ → ℕ → ℕ → ℕ
 inColumns n k j = j * n + k
 
 column-lines : (n : ℕ) → Lines n (inColumns n)
-column-lines n = record { inside = λ k j hk hj. cell j n k n hj hk; apart = λ k j i m hk hj hi hm e. (same-column n m j k i hk hi e, same-row n m j k i hk hi e) }
+column-lines n = record { inside = λ k j hk hj. digits-lt hj hk; apart = λ k j i m hk hj hi hm e. (same-column n m j k i hk hi e, same-row n m j k i hk hi e) }
 
 module _ (c s : Float) (n p q : ℕ) (pq : p < q) (qn : q < n) (v : List Float) (len : length v ≡ n * n) where
   pub length-turned-rows : length (turnRows n p q c s v) ≡ n * n

@@ -6,6 +6,7 @@ use mathlib.Core.Bool.{Bool, true, false, cond}
 use mathlib.Core.List.{List}
 use Prim.Native.Nat.{ℕ, zero, suc, _+_, _*_, _/_, _%_, _≤_, _<_}
 use native.Mathlib.Nat.{le-refl, le-trans, le-suc, le-of-suc-le-suc, lt-trans, ne-of-lt, eq-or-lt-of-le, not-suc-le-zero}
+use lib.Arith.{digits-lt, digits-div, digits-mod}
 use lib.Dec.{eqb}
 use lib.ListN.{length, getD, set, length-set}
 use lib.Seq.{getD-set-same, getD-set-other}
@@ -13,7 +14,6 @@ use borrow.Author.Tests.{eqb-true, eqb-false, eq-eqb, ne-eqb}
 use lib.Ieee.{Float, nan}
 use Rattle.leaves.specs.Numbers.{_⊕_, _⊖_, _⊗_}
 use Rattle.leaves.specs.Loops.{loop, nth}
-use Rattle.leaves.proofs.Loops.{cell, cell-row, cell-col}
 use Rattle.matrix.specs.Matrix.{at}
 use Rattle.matrix.specs.Rotation.{turn, turnColumns}
 
@@ -41,10 +41,10 @@ two-set l a b k x y ha hb d = go (eqb k a) (eqb k b) (eqb-true k a) (eqb-false k
 
 -- two cells are one only if their rows and columns are
 pub same-row : (n i k j m : ℕ) → j < n → m < n → k * n + j ≡ i * n + m → k ≡ i
-same-row n i k j m hj hm e = sym (cell-row k n j hj) ∙ ap (λ (a : ℕ). a / n) e ∙ cell-row i n m hm
+same-row n i k j m hj hm e = sym (digits-div k hj) ∙ ap (λ (a : ℕ). a / n) e ∙ digits-div i hm
 
 pub same-column : (n i k j m : ℕ) → j < n → m < n → k * n + j ≡ i * n + m → j ≡ m
-same-column n i k j m hj hm e = sym (cell-col k n j hj) ∙ ap (λ (a : ℕ). a % n) e ∙ cell-col i n m hm
+same-column n i k j m hj hm e = sym (digits-mod k hj) ∙ ap (λ (a : ℕ). a % n) e ∙ digits-mod i hm
 
 -- ---- the lines of an n × n matrix, which are its rows or its columns: number j of line k stands at `index k j`
 pub record Lines (n : ℕ) (index : ℕ → ℕ → ℕ) : Type 0 where
@@ -55,7 +55,7 @@ abbrev pub inRows : ℕ → ℕ → ℕ → ℕ
 inRows n k j = k * n + j
 
 pub row-lines : (n : ℕ) → Lines n (inRows n)
-row-lines n = record { inside = λ k j hk hj. cell k n j n hk hj; apart = λ k j i m hk hj hi hm e. (same-row n i k j m hj hm e, same-column n i k j m hj hm e) }
+row-lines n = record { inside = λ k j hk hj. digits-lt hk hj; apart = λ k j i m hk hj hi hm e. (same-row n i k j m hj hm e, same-column n i k j m hj hm e) }
 
 -- ---- numbers p and q of every line replaced, line by line
 module _ (n : ℕ) (index : ℕ → ℕ → ℕ) (lines : Lines n index) (p q : ℕ) (pq : p < q) (qn : q < n) where

@@ -5,7 +5,7 @@ use mathlib.Core.Option.{none, some}
 use Prim.Native.Nat.{ℕ, _*_, _/_, _%_, _≤_, _<_}
 use native.Mathlib.Nat.{le-antisymm}
 use Rattle.leaves.specs.Loops.{firstTo}
-use Rattle.leaves.proofs.First.{first-at}
+use Rattle.leaves.proofs.Search.{first-at}
 use Rattle.matrix.specs.Matrix.{firstEntry}
 
 -- a search through a matrix, at cell k: the answer, if the test holds there, and at the end

@@ -7,12 +7,11 @@ use Prim.Native.Nat.{ℕ, _≤_}
 use lib.Ieee.{Float, eq}
 use Rattle.leaves.specs.Numbers.{zero⁺}
 use Rattle.leaves.specs.Loops.{firstTo}
+use Rattle.leaves.proofs.Search.{first-later}
 use Rattle.matrix.specs.Matrix.{Matrix, amax, allFinite}
 use Rattle.matrix.specs.Rotation.{State}
 use Rattle.matrix.specs.Jacobi.{Swept, stopping, sweptBy, sweeping, start, tolerance, initial, swept, scaledBack, decomposedBy, decompose}
-use Rattle.leaves.proofs.First.{first-later}
-use Rattle.matrix.proofs.Alike.{decompose-is}
-use Rattle.matrix.proofs.Sweeps.{sweeping-is}
+use Rattle.matrix.proofs.Sweeps.{sweeping-is, decompose-is}
 
 module _ (n : ℕ) (most : Float) (st : State) where
   abbrev stop : ℕ → Bool

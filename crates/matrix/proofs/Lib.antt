@@ -5,6 +5,9 @@ pub mod Stored
 pub mod FilledRows
 pub mod First
 pub mod Alike
+pub mod OfStored
+pub mod Replaced
+pub mod Largest
 -- what the sweeps begin with
 pub mod Identity
 -- one rotation; counts of sweeps and rotations

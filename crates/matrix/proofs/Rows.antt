@@ -18,7 +18,7 @@ use Rattle.matrix.specs.Limits.{maxSide, maxSweeps}
 use Rattle.matrix.proofs.Cells.{turnedRow, turned-p, turned-q, turned-other}
 use Rattle.matrix.proofs.Squares.{slack, square-back}
 use Rattle.matrix.proofs.Angle.{Angle}
-use Rattle.matrix.proofs.Turn.{Limit, Tame, Next, next}
+use Rattle.matrix.proofs.Turn.{TurnMost, Tame, Next, next}
 
 -- ---- sums
 unfoldable pub sum : (ℕ → ℕ) → ℕ → ℕ
@@ -132,13 +132,13 @@ growth r h =
     cancel : (x y z v w : ℕ) → x * y ≤ z * (v * w) → w ≤ y → 0 < w → 2 * x ≤ 2 * z * v
     cancel x y z v w h g W = le-of-mul-le-mul-right {m = 2 * x} {n = 2 * z * v} {k = w} (let f = mul-le-mul-left x g in omega arith) W
 
-pub good-small : (n r : ℕ) (row : ℕ → Float) → r ≤ mostTurns → Good n row r → (j : ℕ) → j < n → mag (row j) ≤ Limit
+pub good-small : (n r : ℕ) (row : ℕ → Float) → r ≤ mostTurns → Good n row r → (j : ℕ) → j < n → mag (row j) ≤ TurnMost
 good-small n r row h g j l =
     let e = sum-without (squares row) n j l in
     le-trans (square-back (mag (row j)) (U * Most) (cancel (mag (row j)) (sum (squares row) n) (256 ^ r) (257 ^ r) U Most (omega arith) (g .most) (growth r h) (one-le-pow r 256 (lit≤ tt)))) fits-in
   where
-    fits-in : U * Most ≤ Limit
-    fits-in = unfold U Most Limit in lit≤ tt
+    fits-in : U * Most ≤ TurnMost
+    fits-in = unfold U Most TurnMost in lit≤ tt
 
     cancel : (x t d b u w : ℕ) → x * x ≤ t → (t + slack) * d ≤ u * u * 2 * b → 2 * b ≤ w * w * d → 0 < d → x * x ≤ u * w * (u * w)
     cancel x t d b u w a g h D = le-of-mul-le-mul-right {m = x * x} {n = u * w * (u * w)} {k = d} (let f = mul-le-mul-left (u * u) h in let e = mul-le-mul-right d a in omega arith) D

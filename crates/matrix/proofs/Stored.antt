@@ -3,14 +3,16 @@ use mathlib.Core.Path.{_≡_, refl, sym, ap, _∙_, subst}
 use mathlib.Core.List.{List}
 use Prim.Native.Nat.{ℕ, _+_, _*_, _/_, _%_, _≤_, _<_}
 use native.Mathlib.Nat.{div-add-mod'}
+use lib.Arith.{digits-lt}
 use lib.ListN.{length}
 use lib.Ieee.{Float, nan}
 use Rattle.leaves.specs.Numbers.{_⊗_, abs}
 use Rattle.leaves.specs.Loops.{nth}
-use Rattle.leaves.proofs.Loops.{cell, at-cell, row-below, col-below, length-tab, nth-tab, tab-is, tab-ext, sum-ext}
+use Rattle.leaves.proofs.Loops.{length-tab, nth-tab, tab-is, tab-ext, sum-ext}
+use Rattle.leaves.proofs.Cells.{at-cell, row-below, col-below}
 use Rattle.leaves.proofs.Units.{Finite, Top, mag}
 use Rattle.leaves.proofs.Range.{Range, range-abs, range-zero, range-fits}
-use Rattle.leaves.proofs.Totals.{amax-one, amax-most}
+use Rattle.leaves.proofs.Totals.{amax-one, amax-finite-most}
 use Rattle.matrix.specs.Matrix.{Matrix, at, rows, product, amax}
 
 -- number k is the entry in row k / n and column k % n
@@ -26,7 +28,7 @@ unfolding rows
 rows-nth f m n k h = nth-tab (m * n) (λ k. f (k / n) (k % n)) k nan h
 
 pub rows-at : (f : Matrix) (m n i j : ℕ) → i < m → j < n → at (rows m n f) n i j ≡ f i j
-rows-at f m n i j hi hj = rows-nth f m n (i * n + j) (cell i m j n hi hj) ∙ at-cell f i n j hj
+rows-at f m n i j hi hj = rows-nth f m n (i * n + j) (digits-lt hi hj) ∙ at-cell f i n j hj
 
 -- a stored matrix is f's where its entries are, so it is made of its own
 pub rows-is : (l : List Float) (n : ℕ) (f : Matrix) → length l ≡ n * n → ((i j : ℕ) → i < n → j < n → at l n i j ≡ f i j) → l ≡ rows n n f
@@ -52,7 +54,7 @@ module _ (m n : ℕ) (a : Matrix) (each : (i j : ℕ) → i < m → j < n → Fi
 
   pub amax-entry : (i j : ℕ) → i < m → j < n → mag (a i j) ≤ mag (amax m n a)
   unfolding amax
-  amax-entry i j hi hj = subst (λ (x : Float). mag x ≤ mag (amax m n a)) (at-cell a i n j hj) (amax-most (λ k. a (k / n) (k % n)) (m * n) (by-cell m n (λ i j. Finite (a i j)) each) (i * n + j) (cell i m j n hi hj))
+  amax-entry i j hi hj = subst (λ (x : Float). mag x ≤ mag (amax m n a)) (at-cell a i n j hj) (amax-finite-most (λ k. a (k / n) (k % n)) (m * n) (by-cell m n (λ i j. Finite (a i j)) each) (i * n + j) (digits-lt hi hj))
 
 pub rows-ext : (m n : ℕ) (f g : Matrix) → ((i j : ℕ) → i < m → j < n → f i j ≡ g i j) → rows m n f ≡ rows m n g
 unfolding rows

@@ -1,15 +1,16 @@
 -- Document 01, "Jacobi": sweeps ≤ limit; and a decomposition's vectors and count are those of the state after its sweeps. Assumes nothing.
 use mathlib.Core.Path.{_≡_, refl}
+use mathlib.Core.Bool.{Bool, true, false}
 use mathlib.Core.Option.{Option, none, some}
-use Prim.Native.Nat.{ℕ, _-_, _≤_, _<_, zero-le}
+use Prim.Native.Nat.{ℕ, _≤_, _<_, zero-le}
 use native.Mathlib.Nat.{le-refl, le-of-lt}
-use lib.Ieee.{Float}
+use lib.Ieee.{Float, eq}
+use Rattle.leaves.specs.Numbers.{zero⁺}
 use Rattle.leaves.specs.Loops.{loop, firstTo}
-use Rattle.leaves.proofs.Loops.{first-below}
-use Rattle.matrix.specs.Matrix.{Matrix, amax}
+use Rattle.leaves.proofs.First.{first-below}
+use Rattle.matrix.specs.Matrix.{Matrix, amax, allFinite}
 use Rattle.matrix.specs.Rotation.{State}
-use Rattle.matrix.specs.Jacobi.{afterSweeps, stopping, sweptBy, sweeping, start, tolerance, initial, swept, scaledBack, unturned, decompose}
-use Rattle.matrix.proofs.Alike.{decompose-cases}
+use Rattle.matrix.specs.Jacobi.{Decomposition, afterSweeps, stopping, sweptBy, sweeping, start, tolerance, initial, swept, scaledBack, unturned, decomposedBy, decompose}
 
 -- ---- sweeping, by what the search for the first sweep that the test forbids finds
 module _ (n : ℕ) (most : Float) (st : State) where
@@ -34,6 +35,21 @@ module _ (n : ℕ) (most : Float) (st : State) where
       go (some k) h = le-of-lt (h k refl)
 
 -- ---- the decomposition
+-- by its two tests
+pub decompose-is : (limit n : ℕ) (a : Matrix) → decompose limit n a ≡ decomposedBy limit n (allFinite n n a) (eq (amax n n a) zero⁺) (amax n n a) (start n (amax n n a) a)
+unfolding decompose
+decompose-is limit n a = refl
+
+-- what nothing turned has, and what the sweeps leave, every decomposition has
+pub decompose-cases : (P : Decomposition → Type 0) (limit n : ℕ) (a : Matrix) → ((found : Bool) → P (unturned n found)) → P (scaledBack n (amax n n a) (swept limit n (start n (amax n n a) a))) → P (decompose limit n a)
+unfolding decompose
+decompose-cases P limit n a still turned = go (allFinite n n a) (eq (amax n n a) zero⁺)
+  where
+    go : (finite isZero : Bool) → P (decomposedBy limit n finite isZero (amax n n a) (start n (amax n n a) a))
+    go false isZero = still false
+    go true true = still true
+    go true false = turned
+
 module _ (n : ℕ) (a : Matrix) where
   unfoldable pub begun : State
   begun = initial n (start n (amax n n a) a)

@@ -7,6 +7,7 @@ use mathlib.Core.Bool.{Bool, true, false, cond}
 use mathlib.Core.List.{List}
 use Prim.Native.Nat.{ℕ, suc, _+_, _-_, _*_, _≤_, _<_}
 use native.Mathlib.Nat.{lt-trans, le-refl, ne-of-lt}
+use lib.Arith.{digits-lt}
 use lib.Dec.{eqb}
 use lib.ListN.{length, set, length-set}
 use lib.Ieee.{Float}
@@ -15,7 +16,6 @@ use Rattle.leaves.specs.Numbers.{_⊕_, _⊖_, _⊗_, zero⁺, half}
 use Rattle.leaves.specs.Loops.{loop}
 use Rattle.leaves.proofs.Whole.{le-or-lt}
 use Rattle.leaves.proofs.Commutative.{plus-comm}
-use Rattle.leaves.proofs.Loops.{cell}
 use Rattle.matrix.specs.Matrix.{Matrix, at, rows, identity, product, transpose, Symmetric, divided, symmetrized}
 use Rattle.matrix.specs.Rotation.{State, tangent, cosine, turnColumns, turnRows, rotated, rotateBy, rotate, turnedBoth}
 use Rattle.matrix.specs.Jacobi.{afterSweeps, start, sweepRow}
@@ -35,7 +35,7 @@ module _ (n : ℕ) (l : List Float) (len : length l ≡ n * n) (i₁ j₁ i₂ j
   length-two = simp length-set len
 
   found : (i j : ℕ) → at two-cells n i j ≡ cond (eqb (i * n + j) (i₁ * n + j₁)) x (cond (eqb (i * n + j) (i₂ * n + j₂)) y (at l n i j))
-  found i j = two-set l (i₁ * n + j₁) (i₂ * n + j₂) (i * n + j) x y (rw len (cell i₁ n j₁ n h₁ k₁)) (rw len (cell i₂ n j₂ n h₂ k₂)) (λ e. d (same-row n i₂ i₁ j₁ j₂ k₁ k₂ e))
+  found i j = two-set l (i₁ * n + j₁) (i₂ * n + j₂) (i * n + j) x y (rw len (digits-lt h₁ k₁)) (rw len (digits-lt h₂ k₂)) (λ e. d (same-row n i₂ i₁ j₁ j₂ k₁ k₂ e))
 
   at-first : (i j : ℕ) → i ≡ i₁ → j ≡ j₁ → at two-cells n i j ≡ x
   at-first i j e f = found i j ∙ rw (eq-eqb (i * n + j) (i₁ * n + j₁) (λ t. e t * n + f t))

@@ -17,31 +17,31 @@ use Rattle.leaves.proofs.Arithmetic.{sumSign, distance, total, total-le, add-ro
 use Rattle.matrix.proofs.Squares.{Close, InCircle, Grows, square-back, turned}
 use Rattle.matrix.proofs.Angle.{near-close, near-under, mul-val, Circle, Angle}
 
--- 2 ^ 300, in units
-abbrev pub limitBits : ℕ
-limitBits = oneBits + 300
+-- 2 ^ 300, in units: the size up to which an entry may be turned
+abbrev pub turnBits : ℕ
+turnBits = oneBits + 300
 
-unfoldable pub Limit : ℕ
-Limit = 2 ^ limitBits
+unfoldable pub TurnMost : ℕ
+TurnMost = 2 ^ turnBits
 
-roomy : 16 * Limit < Top
-unfolding Limit Top
+roomy : 16 * TurnMost < Top
+unfolding TurnMost Top
 roomy = lit< tt
 
 -- ---- finite entries
 -- a product, and its size
-product : (c s p : ℕ) → InCircle U c s → p ≤ Limit → (2 * (c * p) < Top * U) × (near (c * p) U ≤ 4 * Limit)
+product : (c s p : ℕ) → InCircle U c s → p ≤ TurnMost → (2 * (c * p) < Top * U) × (near (c * p) U ≤ 4 * TurnMost)
 product c s p h hp =
     let a = mul-le-mul (square-back c (2 * U) (omega arith)) hp in
-    (let r = mul-lt-mul-of-pos-right roomy U-pos in omega arith, le-of-mul-le-mul-right {m = near (c * p) U} {n = 4 * Limit} {k = U} (let d = near-error (c * p) U U-pos .doubled in omega arith) U-pos)
+    (let r = mul-lt-mul-of-pos-right roomy U-pos in omega arith, le-of-mul-le-mul-right {m = near (c * p) U} {n = 4 * TurnMost} {k = U} (let d = near-error (c * p) U U-pos .doubled in omega arith) U-pos)
 
 -- a sum of two products
-sum : (u v : Float) (i j : Bool) (m n : ℕ) → Val u i m → Val v j n → m ≤ 4 * Limit → n ≤ 4 * Limit → Val (u ⊕ v) (sumSign i m j n) (near (total i m j n) 1)
+sum : (u v : Float) (i j : Bool) (m n : ℕ) → Val u i m → Val v j n → m ≤ 4 * TurnMost → n ≤ 4 * TurnMost → Val (u ⊕ v) (sumSign i m j n) (near (total i m j n) 1)
 sum u v i j m n vu vv hm hn =
     rw (add-rounded u v i j m n vu vv) (rounded-val (sumSign i m j n) (total i m j n) 1 (omega arith) (near-under (total i m j n) 1 Top (omega arith) (omega (arith, total-le i j m n, roomy))))
 
 module _ (C S P Q : ℕ) (unit : InCircle U C S) where
-  module _ (hP : P ≤ Limit) (hQ : Q ≤ Limit) (c s x y : Float) (σ a b : Bool) (vc : Val c false C) (vs : Val s σ S) (vx : Val x a P) (vy : Val y b Q) where
+  module _ (hP : P ≤ TurnMost) (hQ : Q ≤ TurnMost) (c s x y : Float) (σ a b : Bool) (vc : Val c false C) (vs : Val s σ S) (vx : Val x a P) (vy : Val y b Q) where
     first : Val (c ⊗ x ⊖ s ⊗ y) (sumSign (unlike false a) (near (C * P) U) (not (unlike σ b)) (near (S * Q) U)) (near (total (unlike false a) (near (C * P) U) (not (unlike σ b)) (near (S * Q) U)) 1)
     unfolding sub
     first =
@@ -92,7 +92,7 @@ by-values x y i j m n P Q fx fy vx vy h = record {
   growth = rw (val-mag x i m vx .1, val-mag y j n vy .1) h;
 }
 
-pub next : (c s x y : Float) → Angle c s → Tame x → Tame y → mag x ≤ Limit → mag y ≤ Limit → Next (c ⊗ x ⊖ s ⊗ y) (s ⊗ x ⊕ c ⊗ y) (mag x) (mag y)
+pub next : (c s x y : Float) → Angle c s → Tame x → Tame y → mag x ≤ TurnMost → mag y ≤ TurnMost → Next (c ⊗ x ⊖ s ⊗ y) (s ⊗ x ⊕ c ⊗ y) (mag x) (mag y)
 next c s x y h tx ty hx hy = go h (tx .1) (ty .1)
   where
     p : Float

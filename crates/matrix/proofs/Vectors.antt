@@ -27,7 +27,7 @@ use Rattle.matrix.proofs.Counts.{pairs, pairs-most, sweeps-keep}
 use Rattle.matrix.proofs.Sweeps.{begun, decompose-reached, sweeps-bound}
 use Rattle.matrix.proofs.Squares.{slack}
 use Rattle.matrix.proofs.Angle.{U-big, Angle, angle}
-use Rattle.matrix.proofs.Turn.{Limit, Tame}
+use Rattle.matrix.proofs.Turn.{TurnMost, Tame}
 use Rattle.matrix.proofs.Cells.{turnedRow, length-columns, columns-at}
 use Rattle.matrix.proofs.Rows.{sum, sum-alone, Good, mostTurns, good-same, good-small, good-still, good-turned}
 
@@ -80,9 +80,9 @@ identity-sound n = (length-rows identity n n, λ k h. good-same n 0 (identity k)
 
 -- ---- the theorem
 abbrev pub Small : Float → Type 0
-Small x = (x ≡ nan) ⊎ Range 0 1 Limit x
+Small x = (x ≡ nan) ⊎ Range 0 1 TurnMost x
 
-small : (x : Float) → Tame x → mag x ≤ Limit → Small x
+small : (x : Float) → Tame x → mag x ≤ TurnMost → Small x
 small x t h = elim (t .1) [ inl e ↦ inl e | inr f ↦ inr (range-most x (t .0) f h) ]
 
 pub vectors-small : (limit n : ℕ) (a : Matrix) → n ≤ maxSide → limit ≤ maxSweeps → (i j : ℕ) → i < n → j < n → Small (at (decompose limit n a .vectors) n i j)

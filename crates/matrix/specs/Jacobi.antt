@@ -121,10 +121,10 @@ unturned n found = record { found = found; values = tab n (λ i. zero⁺); vecto
 
 -- by whether the matrix is finite, whether its largest size is zero, that size, and what the sweeps begin with
 abbrev pub decomposedBy : ℕ → ℕ → Bool → Bool → Float → List Float → Decomposition
-decomposedBy limit n finite empty scale b =
+decomposedBy limit n finite isZero scale b =
     elim finite [
       | false ↦ unturned n false
-      | true ↦ elim empty [ true ↦ unturned n true | false ↦ scaledBack n scale (swept limit n b) ]
+      | true ↦ elim isZero [ true ↦ unturned n true | false ↦ scaledBack n scale (swept limit n b) ]
     ]
 
 unfoldable pub decompose : ℕ → ℕ → Matrix → Decomposition

@@ -8,7 +8,7 @@ use native.Mathlib.Omega.{arith}
 use lib.ListN.{length, set, take, drop, getD, length-append, length-drop, drop-of-length-le}
 use lib.Seq.{take-all, drop-cons, append-snoc, drop-set-lt, getD-set-same, lt-length-set, drop-length, drop-append-le}
 use borrow.Author.Tests.{eq-eqb, ne-eqb}
-use Rattle.paper.specs.Text.{glyph, digits, unpadded}
+use Rattle.paper.specs.Text.{digitZero, glyph, digits, unpadded}
 
 -- Of the digits w, those from i on stand in the text, and the i digits of rest are left.
 
@@ -63,13 +63,13 @@ two : (text : List ℕ) (i : ℕ) → i + 1 < length text → drop i text ≡ ge
 two text i h = drop-cons text i 0 (omega arith) ∙ ap (λ (r : List ℕ). getD text i 0 ∷ r) (rw (add-one i) (drop-cons text (suc i) 0 (rw (add-one i) at h)))
 
 module _ (text : List ℕ) (i : ℕ) where
-  pub unpadded-zero : i + 1 < length text → getD text i 0 ≡ 48 → unpadded (drop i text) ≡ unpadded (drop (i + 1) text)
+  pub unpadded-zero : i + 1 < length text → getD text i 0 ≡ digitZero → unpadded (drop i text) ≡ unpadded (drop (i + 1) text)
   unfolding unpadded
-  unpadded-zero h e = rw (two text i h, eq-eqb (getD text i 0) 48 e) (ap unpadded (sym (drop-cons text (i + 1) 0 h)))
+  unpadded-zero h e = rw (two text i h, eq-eqb (getD text i 0) digitZero e) (ap unpadded (sym (drop-cons text (i + 1) 0 h)))
 
-  pub unpadded-digit : i + 1 < length text → (getD text i 0 ≡ 48 → ⊥) → unpadded (drop i text) ≡ drop i text
+  pub unpadded-digit : i + 1 < length text → (getD text i 0 ≡ digitZero → ⊥) → unpadded (drop i text) ≡ drop i text
   unfolding unpadded
-  unpadded-digit h e = rw (two text i h, ne-eqb (getD text i 0) 48 e)
+  unpadded-digit h e = rw (two text i h, ne-eqb (getD text i 0) digitZero e)
 
   pub unpadded-last : length text ≤ i + 1 → unpadded (drop i text) ≡ drop i text
   unfolding unpadded

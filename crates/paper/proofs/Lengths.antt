@@ -11,17 +11,16 @@ use lib.Dec.{eqb}
 use lib.Ieee.{Float}
 use borrow.Author.Tests.{eqb-true, eqb-false, ne-eqb}
 use Rattle.leaves.specs.Numbers.{zero⁺}
-use Rattle.leaves.proofs.Loops.{length-fill}
-use Rattle.estimators.specs.Refusals.{Check, passes, refuses}
-use Rattle.estimators.specs.Calls.{Answered, settle, adjustedCovariance, exponentiallyWeightedMean, jamesSteinMean, bayesSteinMean}
+use Rattle.estimators.specs.Calls.{adjustedCovariance, exponentiallyWeightedMean, jamesSteinMean, bayesSteinMean}
 use Rattle.estimators.specs.declared.Answer.{Answer}
 use Rattle.estimators.specs.declared.Answer.the-variants.{Refused, Covariance, Intensity, Mean, Shrunk}
 use Rattle.estimators.specs.declared.Settings.{Settings}
+use Rattle.estimators.proofs.Opened.{settle-length}
 use Rattle.paper.specs.declared.kinds.Kind.{Kind}
 use Rattle.paper.specs.declared.rules.Outline.{Outline}
 use Rattle.paper.specs.declared.screen.Shown.{Shown}
 use Rattle.paper.specs.declared.screen.Shown.the-variants.{Big, Number}
-use Rattle.paper.specs.Text.{Out, out, write, digits, unpadded, maxDigits, decimal}
+use Rattle.paper.specs.Text.{minusSign, digitZero, Out, out, write, digits, unpadded, maxDigits, decimal}
 use Rattle.paper.specs.Screen.{shown, shownText}
 use Rattle.paper.specs.Answer.{malformedNumber, Outcome, refused, ok, lineText, linesText, outcome, outcomeText}
 use Rattle.paper.specs.Grammar.{fileAssets, starts, body, none, more, taken, Sheet, sheet, kinds}
@@ -69,7 +68,7 @@ unpadded-length : (l : List ℕ) → length (unpadded l) ≤ length l
 unfolding unpadded
 unpadded-length [] = omega arith
 unpadded-length (d ∷ []) = omega arith
-unpadded-length (d ∷ e ∷ l) = go (eqb d 48) (unpadded-length (e ∷ l))
+unpadded-length (d ∷ e ∷ l) = go (eqb d digitZero) (unpadded-length (e ∷ l))
   where
     go : (t : Bool) → length (unpadded (e ∷ l)) ≤ length (e ∷ l) → length (cond t (unpadded (e ∷ l)) (d ∷ e ∷ l)) ≤ length (d ∷ e ∷ l)
     go true h = omega arith
@@ -83,7 +82,7 @@ unfolding shownText
 shown-length Big = omega arith
 shown-length (Number m u) = simp (length-append, digits-length) (omega (arith, sign m, decimal-length (u / 10000)))
   where
-    sign : (m : Bool) → length {A = ℕ} (cond m (45 ∷ []) []) ≤ 1
+    sign : (m : Bool) → length {A = ℕ} (cond m (minusSign ∷ []) []) ≤ 1
     sign true = omega arith
     sign false = omega arith
 
@@ -115,28 +114,23 @@ outcome-length (ok n c xs) h = simp length-append (omega (arith, decimal-length 
 
 -- ---- the engine's answer is as long as its slice
 
-settled : (c : Check) (slice : List Float) (a : Answered) → length (a .slice) ≡ length slice → length (settle c slice a .slice) ≡ length slice
-unfolding settle
-settled (refuses r) slice a h = refl
-settled passes slice a h = h
-
 module _ (r : List Float) (n T : ℕ) (slice : List Float) where
   covariance-length : (s : Settings) (g : List Float) (side : ℕ) → n * n ≤ length slice → length (adjustedCovariance r n T s g side slice .slice) ≡ length slice
   unfolding adjustedCovariance
-  covariance-length s g side h = settled _ slice _ (length-fill _ (n * n) slice h)
+  covariance-length s g side h = settle-length _ _ (n * n) _ slice (λ e. h)
 
   module _ (h : n ≤ length slice) where
     weighted-length : (l : Float) → length (exponentiallyWeightedMean r n T l slice .slice) ≡ length slice
     unfolding exponentiallyWeightedMean
-    weighted-length l = settled _ slice _ (length-fill _ n slice h)
+    weighted-length l = settle-length _ _ n _ slice (λ e. h)
 
     james-stein-length : (l : ℕ) → length (jamesSteinMean r n T l slice .slice) ≡ length slice
     unfolding jamesSteinMean
-    james-stein-length l = settled _ slice _ (length-fill _ n slice h)
+    james-stein-length l = settle-length _ _ n _ slice (λ e. h)
 
     bayes-stein-length : (l : ℕ) → length (bayesSteinMean r n T l slice .slice) ≡ length slice
     unfolding bayesSteinMean
-    bayes-stein-length l = settled _ slice _ (length-fill _ n slice h)
+    bayes-stein-length l = settle-length _ _ n _ slice (λ e. h)
 
 asked-length : (q : ℕ) (o : Outline) (r g slice : List Float) → assets o * columns q (assets o) ≤ length slice → length (asked q o r g slice .slice) ≡ length slice
 unfolding columns

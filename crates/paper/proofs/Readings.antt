@@ -32,7 +32,7 @@ module _ (s v v' : List ℕ) (r : Scanned) (x : ScannedIs (sheet kinds s) s v v'
 
   pub good-no : (r .end ≡ length s → ⊥) → false ≡ isQuestion (sheet kinds s)
   unfolding isQuestion
-  good-no n = rw (ne-eqb (length (sheet kinds s .rest)) 0 (λ e. n (omega (arith, left-over, x .within))))
+  good-no n = rw (ne-eqb (length (sheet kinds s .rest)) 0 (λ e. n (omega (arith, left-over))))
 
   cut : length v ≡ maxRecords → split (r .outline .counts) v' ≡ lists
   unfolding outline
@@ -74,7 +74,7 @@ module _ (s v v' : List ℕ) (r : Parsed) (x : ReadIs s v v' r) where
 
     -- what `examine` asks
     pub sound : (total (r .outline .counts) ≤ length v') × (wellFormed (r .outline) ≡ true)
-    sound = (omega (arith, room-is, x .room), rw (x .outline-is) (well-formed (sheet kinds s) (lists-are .0)))
+    sound = (omega (arith, room-is), rw (x .outline-is) (well-formed (sheet kinds s) (lists-are .0)))
 
     pub marked : outcomeText (answerOf (r .outline) (floats parts 2) (floats parts 9)) ≡ marking s
     unfolding marking examined

@@ -78,7 +78,7 @@ left-more s w o₀ k m at count o p h l e v f g =
     record {
       numbers = onward o (v ∷ []) (after .bodies) (taken k (m - count) (drop at s) .bodies) g (ap (λ (x : Taken). x .bodies) t) ∙ h .numbers;
       rest = sym (ap (λ (x : Taken). x .rest) t) ∙ h .rest;
-      counted = omega (arith, h .counted);
+      counted = omega arith;
     }
 
 pub left-none : (s : List ℕ) (w : Taken) (v₀ : List ℕ) (to : ℕ) (k : Kind) (m : ℕ) (r : Took) (v : List ℕ) → Left s w (out v₀ to) k m (r .at) (r .count) (out v (r .next)) → r .at ≤ length s

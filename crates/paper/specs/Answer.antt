@@ -5,7 +5,7 @@ use lib.Ieee.{Float, binary64, toBits}
 use Rattle.estimators.specs.Refusals.{number}
 use Rattle.estimators.specs.declared.Answer.{Answer}
 use Rattle.estimators.specs.declared.Answer.the-variants.{Refused, Covariance, Intensity, Mean, Shrunk}
-use Rattle.paper.specs.Text.{digits, decimal}
+use Rattle.paper.specs.Text.{lineFeed, space, digits, decimal}
 use Rattle.paper.specs.Screen.{screenText}
 
 -- sixteen hexadecimal digits; `toBits` has 7FF8000000000000 for NaN
@@ -14,7 +14,7 @@ bitsText x = digits 16 16 (toBits binary64 x)
 
 -- row, column, bits and screen number, parted by one space, and a line feed
 unfoldable pub lineText : ℕ → ℕ → Float → List ℕ
-lineText i j x = decimal i ++ (32 ∷ (decimal j ++ (32 ∷ (bitsText x ++ (32 ∷ (screenText x ++ (10 ∷ [])))))))
+lineText i j x = decimal i ++ (space ∷ (decimal j ++ (space ∷ (bitsText x ++ (space ∷ (screenText x ++ (lineFeed ∷ [])))))))
 
 -- the entries from entry k on, row by row, c to a row
 unfoldable pub linesText : ℕ → ℕ → List Float → List ℕ
@@ -40,5 +40,5 @@ outcome n c (Shrunk α target sweeps rotations) xs = ok n c xs
 
 -- `refused N`, or `ok n c` and the lines
 unfoldable pub outcomeText : Outcome → List ℕ
-outcomeText (refused k) = 114 ∷ 101 ∷ 102 ∷ 117 ∷ 115 ∷ 101 ∷ 100 ∷ 32 ∷ (decimal k ++ (10 ∷ []))
-outcomeText (ok n c xs) = 111 ∷ 107 ∷ 32 ∷ (decimal n ++ (32 ∷ (decimal c ++ (10 ∷ linesText c 0 xs))))
+outcomeText (refused k) = 114 ∷ 101 ∷ 102 ∷ 117 ∷ 115 ∷ 101 ∷ 100 ∷ space ∷ (decimal k ++ (lineFeed ∷ []))
+outcomeText (ok n c xs) = 111 ∷ 107 ∷ space ∷ (decimal n ++ (space ∷ (decimal c ++ (lineFeed ∷ linesText c 0 xs))))

@@ -6,7 +6,7 @@ use lib.Dec.{leb, eqb}
 use lib.Ieee.{Float, nan, inf, fin, up, down}
 use Rattle.paper.specs.declared.screen.Shown.{Shown}
 use Rattle.paper.specs.declared.screen.Shown.the-variants.{Big, Number}
-use Rattle.paper.specs.Text.{digits, decimal}
+use Rattle.paper.specs.Text.{minusSign, point, digits, decimal}
 
 -- ten-thousandths in the number a / b, truncated
 abbrev pub truncated : ℕ → ℕ → ℕ
@@ -25,7 +25,7 @@ shown (fin s m e) = shownAs s (m * up e) (down e)
 -- `big`; or a minus if there is one, the whole part, a point and four digits
 unfoldable pub shownText : Shown → List ℕ
 shownText Big = 98 ∷ 105 ∷ 103 ∷ []
-shownText (Number minus u) = cond minus (45 ∷ []) [] ++ (decimal (u / 10000) ++ (46 ∷ digits 10 4 (u % 10000)))
+shownText (Number minus u) = cond minus (minusSign ∷ []) [] ++ (decimal (u / 10000) ++ (point ∷ digits 10 4 (u % 10000)))
 
 abbrev pub screenText : Float → List ℕ
 screenText x = shownText (shown x)

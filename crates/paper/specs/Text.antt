@@ -6,11 +6,28 @@ use mathlib.Core.List.{List, [], _∷_, _++_}
 use lib.ListN.{length, set, take}
 use lib.Dec.{ltb, eqb}
 
+-- ---- ASCII codes
+
+abbrev pub lineFeed : ℕ
+lineFeed = 10
+
+abbrev pub space : ℕ
+space = 32
+
+abbrev pub minusSign : ℕ
+minusSign = 45
+
+abbrev pub point : ℕ
+point = 46
+
+abbrev pub digitZero : ℕ
+digitZero = 48
+
 -- ---- digits
 
--- the ASCII code of a digit below 16: 0 to 9, then A to F
+-- the code of a digit below 16: 0 to 9, then A to F, where A is 65
 unfoldable pub glyph : ℕ → ℕ
-glyph d = cond (ltb d 10) (48 + d) (55 + d)
+glyph d = cond (ltb d 10) (digitZero + d) (55 + d)
 
 -- the last k digits of n in base b, the most significant first
 unfoldable pub digits : ℕ → ℕ → ℕ → List ℕ
@@ -21,7 +38,7 @@ digits b (suc k) n = digits b k (n / b) ++ (glyph (n % b) ∷ [])
 unfoldable pub unpadded : List ℕ → List ℕ
 unpadded [] = []
 unpadded (d ∷ []) = d ∷ []
-unpadded (d ∷ e ∷ ds) = cond (eqb d 48) (unpadded (e ∷ ds)) (d ∷ e ∷ ds)
+unpadded (d ∷ e ∷ ds) = cond (eqb d digitZero) (unpadded (e ∷ ds)) (d ∷ e ∷ ds)
 
 -- no number of 64 bits has more decimal digits
 abbrev pub maxDigits : ℕ

@@ -3,7 +3,7 @@ ghost use mathlib.Core.Path.{_≡_};
 ghost use mathlib.Core.List.{[], _∷_, _++_};
 ghost use lib.ListN.{length};
 ghost use lib.Ieee.{binary64, toBits};
-ghost use Rattle.paper.specs.Text.{out as into, write};
+ghost use Rattle.paper.specs.Text.{space, out as into, write};
 ghost use Rattle.paper.specs.Answer as Answers;
 use crate::screen::put_screen;
 use crate::text::put;
@@ -26,7 +26,7 @@ fn bits(x: f64) -> u64
 
 // The bits in hexadecimal, and a space.
 fn put_bits(x: f64, out: &mut [u8], at: usize) -> usize
-    ensures { λ r. ⌜ into (now (out .exit)) r ≡ write (into (now (out .entry)) at) (Answers.bitsText x ++ (32 ∷ [])) ⌝ }
+    ensures { λ r. ⌜ into (now (out .exit)) r ≡ write (into (now (out .entry)) at) (Answers.bitsText x ++ (space ∷ [])) ⌝ }
 {
     let next = put_digits(16, 16, bits(x), out, at);
     put(out, next, b' ')

@@ -3,7 +3,7 @@ ghost use mathlib.Core.Path.{_≡_};
 ghost use mathlib.Core.Bool.{cond};
 ghost use mathlib.Core.List.{[], _∷_};
 ghost use Prim.Native.Nat.{_*_, _/_, _^_, _<_};
-ghost use Rattle.paper.specs.Text.{out as into, write};
+ghost use Rattle.paper.specs.Text.{minusSign, out as into, write};
 ghost use Rattle.paper.specs.Screen as Screen;
 use crate::text::put;
 use crate::text::put_decimal;
@@ -51,7 +51,7 @@ fn show(x: f64) -> Shown
 }
 
 fn put_minus(minus: bool, out: &mut [u8], at: usize) -> usize
-    ensures { λ r. ⌜ into (now (out .exit)) r ≡ write (into (now (out .entry)) at) (cond minus (45 ∷ []) []) ⌝ }
+    ensures { λ r. ⌜ into (now (out .exit)) r ≡ write (into (now (out .entry)) at) (cond minus (minusSign ∷ []) []) ⌝ }
 {
     if minus { put(out, at, b'-') } else { at }
 }

@@ -2,7 +2,7 @@
 use mathlib.Core.List.{[]}
 use lib.Ieee.{ofBits}
 use Rattle.leaves.specs.Numbers.{_⊕_, _⊖_, _⊗_, one}
-use Rattle.estimators.proofs.Entries.{entrywise}
+use Rattle.matrix.proofs.OfStored.{entrywise}
 use borrow.Author.Needs.{needs}
 use Rattle.estimators.proofs.adjusted.mix.Statement.{statement}
 use Rattle.estimators.proofs.adjusted.mix.Tie as tie

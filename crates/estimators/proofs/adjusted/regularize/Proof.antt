@@ -8,10 +8,9 @@ use Rattle.leaves.specs.Numbers.{_⊕_, _⊗_}
 use Rattle.leaves.specs.Loops.{tab, nth}
 use Rattle.matrix.specs.Matrix.{Matrix, rows, identity}
 use Rattle.matrix.proofs.Stored.{rows-ext}
+use Rattle.matrix.proofs.OfStored.{at-stored, entrywise}
 use Rattle.estimators.specs.Adjusted.{regularized}
 use Rattle.estimators.specs.declared.Regularization.the-variants.{Ridge}
-use Rattle.estimators.proofs.Stored.{at-stored}
-use Rattle.estimators.proofs.Entries.{entrywise}
 use borrow.Author.Needs.{needs}
 use Rattle.estimators.proofs.adjusted.regularize.Statement.{statement}
 use Rattle.estimators.proofs.adjusted.regularize.Tie as tie

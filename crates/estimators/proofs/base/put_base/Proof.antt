@@ -6,7 +6,7 @@ use Rattle.matrix.proofs.Stored.{whole}
 use Rattle.estimators.specs.Weighted.{weightedCovariance}
 use Rattle.estimators.specs.Adjusted.{base}
 use borrow.Author.Needs.{needs}
-use Rattle.estimators.proofs.Lent.{rows-long}
+use Rattle.matrix.proofs.OfStored.{rows-long}
 use Rattle.estimators.proofs.base.put_base.Statement.{statement}
 use Rattle.estimators.proofs.base.put_base.Tie as tie
 

@@ -11,7 +11,7 @@ use Rattle.matrix.proofs.Stored.{rows-ext}
 use Rattle.estimators.specs.Sample.{volatility, correlationBy, correlation}
 use Rattle.estimators.specs.Refusals.{when, first}
 use Rattle.estimators.specs.declared.Refusal.the-variants.{Singular}
-use Rattle.estimators.proofs.Entries.{correlation-stored}
+use Rattle.estimators.proofs.Samples.{correlation-stored}
 use Rattle.estimators.proofs.bayes_stein.correlate.Statement.{statement}
 use Rattle.estimators.proofs.bayes_stein.correlate.Tie as tie
 

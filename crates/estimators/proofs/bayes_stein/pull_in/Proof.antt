@@ -8,13 +8,13 @@ use lib.Ieee.{Float}
 use borrow.Author.Needs.{needs}
 use Rattle.leaves.specs.Numbers.{_⊘_, one}
 use Rattle.leaves.specs.Loops.{nth}
+use Rattle.leaves.proofs.Lists.{nth-stored}
 use Rattle.matrix.specs.Matrix.{Matrix}
 use Rattle.matrix.specs.Jacobi.{Decomposition}
 use Rattle.estimators.specs.Exponents.{exponentAt}
 use Rattle.estimators.specs.Sample.{volatility}
 use Rattle.estimators.specs.BayesStein.{Pull, bayesSteinPull, ratioOf, distanceOf, pulledBy}
 use Rattle.estimators.specs.Gather.{Gathered}
-use Rattle.estimators.proofs.Stored.{nth-stored}
 use Rattle.estimators.proofs.Exponents.{read}
 use Rattle.estimators.proofs.Gathered.{gathered-as}
 use Rattle.estimators.proofs.bayes_stein.pull_in.Statement.{statement}

@@ -7,7 +7,7 @@ use borrow.Author.Needs.{needs}
 use Rattle.leaves.specs.Numbers.{_⊘_}
 use Rattle.leaves.specs.Loops.{nth}
 use Rattle.leaves.proofs.Invariants.{Filled, filled-more, filled-none}
-use Rattle.leaves.proofs.Loops.{side, row-below, col-below}
+use Rattle.leaves.proofs.Cells.{row-below, col-below, has-column}
 use Rattle.matrix.specs.Matrix.{at}
 use Rattle.matrix.proofs.Stored.{entry-at}
 use Rattle.matrix.proofs.FilledRows.{filled-rows}
@@ -33,7 +33,7 @@ shared-slice-read-out : tie.Need-shared-slice-read-out Inv-loop μ-loop
 shared-slice-read-out c = search needs
 
 div-out : tie.Need-div-out Inv-loop μ-loop
-div-out c = side _ _ (c .before .loop-test .taken)
+div-out c = has-column _ _ _ (c .before .loop-test .taken)
 
 mul-out-2 : tie.Need-mul-out-2 Inv-loop μ-loop
 mul-out-2 c = omega (arith, row-below _ _ _ (c .before .loop-test .taken))
@@ -42,7 +42,7 @@ shared-slice-read-out-2 : tie.Need-shared-slice-read-out-2 Inv-loop μ-loop
 shared-slice-read-out-2 c = omega (arith, row-below _ _ _ (c .before .before .loop-test .taken))
 
 rem-out : tie.Need-rem-out Inv-loop μ-loop
-rem-out c = side _ _ (c .before .before .loop-test .taken)
+rem-out c = has-column _ _ _ (c .before .before .loop-test .taken)
 
 mul-out-3 : tie.Need-mul-out-3 Inv-loop μ-loop
 mul-out-3 c = omega (arith, col-below _ _ _ (c .before .before .loop-test .taken))

@@ -6,6 +6,7 @@ use lib.IntN.{ℤ}
 use lib.Ieee.{Float}
 use borrow.Author.Needs.{needs}
 use Rattle.leaves.specs.Loops.{tab, nth}
+use Rattle.leaves.proofs.Lists.{tab-long}
 use Rattle.matrix.specs.Matrix.{at, rows}
 use Rattle.matrix.specs.Jacobi.{Decomposition, decompose}
 use Rattle.estimators.specs.Exponents.{exponentAt}
@@ -16,7 +17,7 @@ use Rattle.estimators.specs.BayesStein.{Pull, bayesSteinPull, pulled}
 use Rattle.estimators.specs.Checks.{checked}
 use Rattle.estimators.specs.Moments.{momentsOf}
 use Rattle.estimators.specs.Calls.{Answered, answered, settle}
-use Rattle.estimators.specs.Stein.{pullOf, Pulls, bayesSteinOf}
+use Rattle.estimators.specs.Stein.{pullOf, BayesSteinPulls, bayesSteinOf}
 use Rattle.estimators.specs.Order.{byCorrelations, byDecomposition, ofCorrelations}
 use Rattle.estimators.specs.declared.Refusal.{Refusal}
 use Rattle.estimators.specs.declared.Answer.the-variants.{Refused, Shrunk}
@@ -24,7 +25,6 @@ use Rattle.estimators.specs.declared.checks.Check.{Check}
 use Rattle.estimators.specs.declared.checks.Check.the-variants.{Passes, Refuses}
 use Rattle.estimators.proofs.Firsts.{first-then}
 use Rattle.estimators.proofs.Opened.{settle-refused, settle-accepted}
-use Rattle.estimators.proofs.Lent.{tab-long}
 use Rattle.estimators.proofs.bayes_stein.shrink_in.Statement.{statement}
 use Rattle.estimators.proofs.bayes_stein.shrink_in.Tie as tie
 
@@ -67,7 +67,7 @@ module _ (n limit : ℕ) (μ Σ : List Float) (T : Float) (es : List ℤ) (size 
     singular-refused : {c : Refusal} → singular ≡ Refuses c → Answers (answered (Refused c) slice)
     singular-refused g = settle-refused slice (accepts C) (ap checked (sym g) ∙ back) ∙ stored
 
-    accepted : singular ≡ Passes → (α μ₀ : Float) (out : List Float) → Pulls n μ v es T (d .values) (d .vectors) α μ₀ → out ≡ tab n (λ i. pulled (pullOf α μ₀) (nth μ i) (e i))
+    accepted : singular ≡ Passes → (α μ₀ : Float) (out : List Float) → BayesSteinPulls n μ v es T (d .values) (d .vectors) α μ₀ → out ≡ tab n (λ i. pulled (pullOf α μ₀) (nth μ i) (e i))
         → Answers (answered (Shrunk α μ₀ (d .sweeps) (d .rotations)) out)
     accepted g α μ₀ out pulls is-out =
         let w = pulls (at Σ n) (decompose limit n (at C n)) is-v (λ t. sym is-d t .values) (λ t. sym is-d t .vectors) in

@@ -2,9 +2,9 @@
 use mathlib.Core.Path.{sym, _∙_}
 use Rattle.leaves.specs.Numbers.{_⊕_}
 use Rattle.leaves.specs.Loops.{nth}
-use Rattle.estimators.proofs.Stored.{tab-then}
+use Rattle.leaves.proofs.Lists.{tab-then, tab-long}
 use borrow.Author.Needs.{needs}
-use Rattle.estimators.proofs.Lent.{tab-long, lent}
+use Rattle.estimators.proofs.Lent.{lent}
 use Rattle.estimators.proofs.columns.add_period.Statement.{statement}
 use Rattle.estimators.proofs.columns.add_period.Tie as tie
 

@@ -2,9 +2,9 @@
 use mathlib.Core.Path.{sym, _∙_}
 use Rattle.leaves.specs.Numbers.{abs, larger}
 use Rattle.leaves.specs.Loops.{nth}
-use Rattle.estimators.proofs.Stored.{tab-then}
+use Rattle.leaves.proofs.Lists.{tab-then, tab-long}
 use borrow.Author.Needs.{needs}
-use Rattle.estimators.proofs.Lent.{tab-long, lent}
+use Rattle.estimators.proofs.Lent.{lent}
 use Rattle.estimators.proofs.columns.raise_period.Statement.{statement}
 use Rattle.estimators.proofs.columns.raise_period.Tie as tie
 
@@ -13,6 +13,12 @@ array-borrow-prefix-buffer c = search needs
 
 slice-aggregate-d : tie.Need-slice-aggregate-d
 slice-aggregate-d c = search lent
+
+slice-aggregate-form : tie.Need-slice-aggregate-form
+slice-aggregate-form c = search needs
+
+slice-aggregate-form-2 : tie.Need-slice-aggregate-form-2
+slice-aggregate-form-2 c = search needs
 
 form-requires : tie.Need-form-requires
 form-requires c κs = search lent
@@ -34,4 +40,4 @@ returns c =
     p .raise .ensures ∙ tab-then _ _ _ (λ k x. larger (nth (a .out .now) k) (abs x)) (h .4) (f .form .ensures)
 
 pub raise-period-spec : {M : Type 1} → statement M
-raise-period-spec = tie.close (tie.spec array-borrow-prefix-buffer slice-aggregate-d form-requires raise-requires same-length returns)
+raise-period-spec = tie.close (tie.spec array-borrow-prefix-buffer slice-aggregate-d slice-aggregate-form slice-aggregate-form-2 form-requires raise-requires same-length returns)

@@ -37,6 +37,9 @@ enum-told c = search needs
 opens : (c : tie.After-enum-told) → let a = c .before .before .before .before .before .before .before .before .before .before .before .before .before .args in passes ≡ first (byReturns (a .periods) (a .n) (at (a .r .now) (a .n)))
 opens c = ap checked (sym (c .enum-told .given .1)) ∙ c .before .before .before .before .check-returns .ensures .1
 
+mul-size : tie.Need-mul-size
+mul-size c = search needs
+
 examine-given-requires : tie.Need-examine-given-requires
 examine-given-requires c κs = search needs
 
@@ -44,14 +47,11 @@ examine-given-requires c κs = search needs
 room : (c : tie.After-examine-given) → let a = c .before .before .before .before .before .before .before .before .before .before .before .before .before .before .before .args in a .n * a .n ≤ length (c .examine-given .last .1 .1 .1 .0)
 room c = let p = c .before .before .before .before .before .before .before .before .before .before .before .before .before .before .before .pre in omega (arith, square-most (p .0 .1), p .2, c .examine-given .kept .1 .1 .1 .0)
 
-mul-size : tie.Need-mul-size
-mul-size c = search needs
+enum-known-refusal : tie.Need-enum-known-refusal
+enum-known-refusal c = search needs
 
-enum-known-examined : tie.Need-enum-known-examined
-enum-known-examined c = search needs
-
-enum-known-examined-2 : tie.Need-enum-known-examined-2
-enum-known-examined-2 c = search needs
+enum-known-sweeps : tie.Need-enum-known-sweeps
+enum-known-sweeps c = search needs
 
 slice-reshare-prefix-estimate-in : tie.Need-slice-reshare-prefix-estimate-in
 slice-reshare-prefix-estimate-in c = room (c .before .before .before .before .before .before)
@@ -76,7 +76,7 @@ returns-2 c =
     let l = c .before .before .before .before .before .before .before .before .before .before .before .before .before .before .before .before .before .before .before .before in
     let a = l .args in
     given-refuses (a .r .now) (a .n) (a .periods) (a .settings) (a .given .now) (a .side) (a .out .now) (l .pre .0) (l .pre .5) (opens (c .before .before .before .before .before .before .before))
-    (examined-refused _ _ (sym (c .before .examined .given .1) ∙ c .before .before .before .before .before .examine-given .ensures .0))
+    (examined-refused _ _ (sym (c .before .refusal .given .1) ∙ c .before .before .before .before .before .examine-given .ensures .0))
 
 same-length-4 : tie.Need-same-length-4
 same-length-4 c = search needs
@@ -98,7 +98,7 @@ returns-3 c =
     let l = c .before .before .before .before .before .before .before .before .before .before .before .before .before .before .before .before .before .before .before .before .before .before .before .before .before .before .before .before .before .before .before .before in
     let a = l .args in
     let e = c .before .before .before .before .before .before .before .before .before .before .before .before .before .before .before .before .before .examine-given .ensures in
-    let found = examined-accepted _ _ (sym (c .before .before .before .before .before .before .before .before .before .before .before .before .before .examined2 .given .1) ∙ e .0) in
+    let found = examined-accepted _ _ (sym (c .before .before .before .before .before .before .before .before .before .before .before .before .before .sweeps .given .1) ∙ e .0) in
     given-passes (a .r .now) (a .n) (a .periods) (a .settings) (a .given .now) (a .side) (a .out .now) (l .pre .0) (l .pre .5) (opens (c .before .before .before .before .before .before .before .before .before .before .before .before .before .before .before .before .before .before .before)) found
     (c .before .before .before .before .before .before .estimate-in .ensures _ (λ given same. same-side (a .side) (a .n) _ _ (e .1 given (sym (found .0))) same))
 
@@ -111,10 +111,10 @@ adjusted-in-spec =
     same-length
     returns
     enum-told
-    examine-given-requires
     mul-size
-    enum-known-examined
-    enum-known-examined-2
+    examine-given-requires
+    enum-known-refusal
+    enum-known-sweeps
     slice-reshare-prefix-estimate-in
     slice-aggregate-estimate-in
     estimate-in-requires

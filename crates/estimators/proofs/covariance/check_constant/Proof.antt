@@ -4,7 +4,8 @@ use Rattle.estimators.specs.Refusals.{whenSome}
 use Rattle.estimators.specs.declared.Refusal.the-variants.{ZeroVariance}
 use Rattle.estimators.proofs.Constant.{constant-sizes}
 use borrow.Author.Needs.{needs}
-use Rattle.estimators.proofs.Lent.{tab-long, lent}
+use Rattle.leaves.proofs.Lists.{tab-long}
+use Rattle.estimators.proofs.Lent.{lent}
 use Rattle.estimators.proofs.covariance.check_constant.Statement.{statement}
 use Rattle.estimators.proofs.covariance.check_constant.Tie as tie
 

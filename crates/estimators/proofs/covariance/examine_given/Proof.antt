@@ -12,7 +12,8 @@ use Rattle.estimators.specs.Checks.{checked}
 use Rattle.estimators.proofs.OfGiven.{sizes-pass, none-given, sizes-refuse, sizes-fit}
 use Rattle.estimators.proofs.Passed.{passes-not}
 use borrow.Author.Needs.{needs}
-use Rattle.estimators.proofs.Lent.{square-fits, rows-long}
+use Rattle.matrix.proofs.OfStored.{rows-long}
+use Rattle.estimators.proofs.Lent.{square-fits}
 use Rattle.estimators.proofs.covariance.examine_given.Statement.{statement}
 use Rattle.estimators.proofs.covariance.examine_given.Tie as tie
 

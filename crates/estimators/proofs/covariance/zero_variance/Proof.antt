@@ -9,9 +9,10 @@ use lib.Ieee.{Float, eq, ofBits}
 use borrow.Author.Needs.{needs}
 use Rattle.leaves.specs.Numbers.{zero⁺}
 use Rattle.leaves.specs.Loops.{firstTo}
-use Rattle.leaves.proofs.Loops.{row, at-end}
+use Rattle.leaves.proofs.Loops.{at-end}
+use Rattle.leaves.proofs.Cells.{row}
+use Rattle.leaves.proofs.Search.{first-none, first-more, first-at}
 use Rattle.matrix.specs.Matrix.{at}
-use Rattle.leaves.proofs.First.{first-none, first-more, first-at}
 use Rattle.estimators.proofs.covariance.zero_variance.Statement.{statement}
 use Rattle.estimators.proofs.covariance.zero_variance.Tie as tie
 

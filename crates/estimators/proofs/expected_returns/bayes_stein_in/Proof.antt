@@ -1,11 +1,11 @@
 -- `estimators::expected_returns::bayes_stein_in` meets its contract: the largest returns, their exponents, the moments over those, one after the other.
 use mathlib.Core.Path.{_∙_}
 use borrow.Author.Needs.{needs}
+use Rattle.leaves.proofs.Lists.{tab-long}
 use Rattle.matrix.specs.Matrix.{at}
 use Rattle.estimators.specs.BayesStein.{gathered}
 use Rattle.estimators.specs.Held.{held}
 use Rattle.estimators.proofs.MeanCalls.{bayes-stein-lists}
-use Rattle.estimators.proofs.Lent.{tab-long}
 use Rattle.estimators.proofs.expected_returns.bayes_stein_in.Statement.{statement}
 use Rattle.estimators.proofs.expected_returns.bayes_stein_in.Tie as tie
 

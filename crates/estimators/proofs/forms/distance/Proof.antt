@@ -6,11 +6,11 @@ use lib.Ieee.{Float}
 use borrow.Author.Needs.{needs}
 use Rattle.leaves.specs.Numbers.{_⊖_, _⊗_}
 use Rattle.leaves.specs.Loops.{sumTo, tab, nth}
+use Rattle.leaves.proofs.Loops.{tab-ext, sum-ext}
+use Rattle.leaves.proofs.Lists.{nth-stored}
 use Rattle.matrix.specs.Matrix.{at}
 use Rattle.matrix.specs.Jacobi.{Decomposition}
 use Rattle.estimators.specs.BayesStein.{project, form, distanceOf}
-use Rattle.leaves.proofs.Loops.{tab-ext, sum-ext}
-use Rattle.estimators.proofs.Stored.{nth-stored}
 use Rattle.estimators.proofs.forms.distance.Statement.{statement}
 use Rattle.estimators.proofs.forms.distance.Tie as tie
 

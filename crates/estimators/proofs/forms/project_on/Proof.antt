@@ -2,12 +2,13 @@
 use mathlib.Core.Path.{_≡_, refl}
 use Prim.Native.Nat.{_+_, _-_, _*_, _≤_, _<_}
 use native.Mathlib.Omega.{arith}
+use lib.Arith.{digits-lt}
 use lib.Ieee.{ofBits}
 use borrow.Author.Needs.{needs}
 use Rattle.leaves.specs.Numbers.{_⊗_}
 use Rattle.leaves.specs.Loops.{sumTo, nth}
 use Rattle.leaves.proofs.Invariants.{sum-none, sum-turn}
-use Rattle.leaves.proofs.Loops.{cell, at-end}
+use Rattle.leaves.proofs.Loops.{at-end}
 use Rattle.matrix.specs.Matrix.{at}
 use Rattle.estimators.proofs.forms.project_on.Statement.{statement}
 use Rattle.estimators.proofs.forms.project_on.Tie as tie
@@ -20,7 +21,7 @@ abbrev μ-loop : tie.MeasureT-loop
 
 -- entry i e lies within the table
 inside : (c : tie.In-loop Inv-loop μ-loop) → let a = c .before .before .args in c .before .loop .i * a .n + a .e < a .n * a .n
-inside c = cell _ _ _ _ (c .loop-test .taken) (c .before .before .pre .0)
+inside c = digits-lt (c .loop-test .taken) (c .before .before .pre .0)
 
 loop-holds : tie.Need-loop-holds Inv-loop μ-loop
 unfolding ofBits

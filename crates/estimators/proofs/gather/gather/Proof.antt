@@ -11,13 +11,12 @@ use mir.Val.{toZ, ofZ}
 use borrow.Author.Needs.{needs}
 use Rattle.leaves.specs.Numbers.{_⊘_}
 use Rattle.leaves.specs.Loops.{tab, nth}
+use Rattle.leaves.proofs.Lists.{nth-stored, tab-long}
 use Rattle.estimators.specs.BayesStein.{commonExponent, gathered}
 use Rattle.estimators.specs.Gather.{Gathered}
-use Rattle.estimators.proofs.Stored.{nth-stored}
 use Rattle.estimators.specs.Exponents.{exponentAt, twoExponents}
 use Rattle.estimators.proofs.Exponents.{read}
 use Rattle.estimators.proofs.Gathered.{gathered-as}
-use Rattle.estimators.proofs.Lent.{tab-long}
 use Rattle.estimators.proofs.gather.gather.Statement.{statement}
 use Rattle.estimators.proofs.gather.gather.Tie as tie
 

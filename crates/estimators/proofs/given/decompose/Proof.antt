@@ -8,8 +8,8 @@ use lib.Ieee.{Float, lt, div, ofBits}
 use Rattle.leaves.specs.Numbers.{_⊘_, zero⁺}
 use Rattle.matrix.specs.Matrix.{at, rows, amax}
 use Rattle.matrix.specs.Jacobi.{Decomposition, decompose, unturned}
+use Rattle.matrix.proofs.OfStored.{mapped-at}
 use Rattle.estimators.specs.Given.{decomposeGiven}
-use Rattle.estimators.proofs.Entries.{mapped-at}
 use borrow.Author.Needs.{needs}
 use Rattle.estimators.proofs.given.decompose.Statement.{statement}
 use Rattle.estimators.proofs.given.decompose.Tie as tie

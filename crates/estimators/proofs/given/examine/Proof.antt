@@ -5,8 +5,9 @@ use mathlib.Core.List.{List, [], _∷_}
 use Prim.Native.Nat.{ℕ}
 use lib.Ieee.{Float}
 use Rattle.leaves.specs.Numbers.{_⊗_}
-use Rattle.matrix.specs.Matrix.{Matrix, at, rows, amax, averaged}
+use Rattle.matrix.specs.Matrix.{Matrix, at, rows, averaged}
 use Rattle.matrix.specs.Jacobi.{Decomposition, smallestValue}
+use Rattle.matrix.proofs.OfStored.{amax-stored}
 use Rattle.estimators.specs.Refusals.{when, first}
 use Rattle.estimators.specs.Given.{indefinite, decomposeGiven}
 use Rattle.estimators.specs.Checks.{checked, examined, judged}
@@ -18,7 +19,6 @@ use Rattle.estimators.specs.declared.checks.Check.the-variants.{Passes, 
 use Rattle.estimators.specs.declared.given.Examined.{Examined}
 use Rattle.estimators.specs.declared.given.Examined.the-variants.{Refused}
 use Rattle.estimators.proofs.Firsts.{first-then}
-use Rattle.estimators.proofs.Entries.{amax-rows}
 use borrow.Author.Needs.{needs}
 use Rattle.estimators.proofs.given.examine.Statement.{statement}
 use Rattle.estimators.proofs.given.examine.Tie as tie
@@ -36,7 +36,7 @@ module _ (limit n : ℕ) (g : Matrix) (bad : Check) (eb : checked bad ≡ first 
   unfolding first
   accepted h e =
       let d = of limit n out in
-      e ∙ ap (λ (m : Float). examined (first (when (not (d .found)) NotDecomposed ∷ when (indefinite n d) (Indefinite (smallestValue n d ⊗ m)) ∷ [])) d) (ap (λ (o : List Float). amax n n (at o n)) eo ∙ amax-rows (averaged g) n)
+      e ∙ ap (λ (m : Float). examined (first (when (not (d .found)) NotDecomposed ∷ when (indefinite n d) (Indefinite (smallestValue n d ⊗ m)) ∷ [])) d) (amax-stored n (averaged g) eo)
       ∙ rw (← first-then (byEntries n g) (byValues n (averaged g) d) eb, h)
 
 average-requires : tie.Need-average-requires

@@ -3,7 +3,7 @@ use mathlib.Core.Path.{_∙_}
 use Rattle.estimators.specs.Rows.{centered}
 use Rattle.estimators.proofs.Halves.{variation-over}
 use borrow.Author.Needs.{needs}
-use Rattle.estimators.proofs.Lent.{rows-long}
+use Rattle.matrix.proofs.OfStored.{rows-long}
 use Rattle.estimators.proofs.gram.variation.Statement.{statement}
 use Rattle.estimators.proofs.gram.variation.Tie as tie
 

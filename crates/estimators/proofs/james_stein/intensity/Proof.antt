@@ -13,17 +13,17 @@ use Rattle.leaves.specs.Scaling.{binaryExponent, pow2Scaled}
 use Rattle.matrix.specs.Matrix.{at, trace}
 use Rattle.matrix.specs.Jacobi.{Decomposition}
 use Rattle.estimators.specs.Moments.{Moments, momentsOf}
-use Rattle.estimators.specs.JamesStein.{unevenness, spread, jamesSteinIntensity}
+use Rattle.estimators.specs.JamesStein.{largestDeviation, spread, jamesSteinIntensity}
 use Rattle.estimators.proofs.Exponents.{size-plus, read, plus-fits, neg-fits, neg-read}
 use Rattle.estimators.proofs.james_stein.intensity.Statement.{statement}
 use Rattle.estimators.proofs.james_stein.intensity.Tie as tie
 
 -- by the numbers that the code finds
-answer : (n : ℕ) (m : Moments) (values : List Float) (μ₀ largest : Float) → largest ≡ unevenness n (nth (m .mean)) μ₀ → eq largest zero⁺ ≡ false → (s : ℤ) → s ≡ binaryExponent largest
+answer : (n : ℕ) (m : Moments) (values : List Float) (μ₀ largest : Float) → largest ≡ largestDeviation n (nth (m .mean)) μ₀ → eq largest zero⁺ ≡ false → (s : ℤ) → s ≡ binaryExponent largest
     → (t l q y r : Float) → t ≡ trace n (at (m .covariance) n) → l ≡ maxTo n (nth values) → q ≡ spread n (nth (m .mean)) μ₀ s → y ≡ pow2Scaled ((t ⊖ two ⊗ l) ⊘ (m .periods ⊗ q)) (negℤ (s +ℤ s))
     → r ≡ clamp01 y → (d : Decomposition) → d .values ≡ values → r ≡ jamesSteinIntensity n m μ₀ d
 unfolding jamesSteinIntensity
-answer n m values μ₀ largest is-largest uneven s is-s t l q y r is-t is-l is-q is-y is-r d is-d = rw (is-r, is-y, is-t, is-l, is-q, is-s, jamesSteinIntensity, ← is-largest, uneven, is-d, is-largest)
+answer n m values μ₀ largest is-largest unequal s is-s t l q y r is-t is-l is-q is-y is-r d is-d = rw (is-r, is-y, is-t, is-l, is-q, is-s, jamesSteinIntensity, ← is-largest, unequal, is-d, is-largest)
 
 exponent-requires : tie.Need-exponent-requires
 exponent-requires c κs = search needs

@@ -1,4 +1,4 @@
--- `estimators::james_stein::pull` meets its contract: each return is the case of `decomposeUneven` that the test picks.
+-- `estimators::james_stein::pull` meets its contract: each return is the case of `decomposeUnequal` that the test picks.
 use mathlib.Core.Path.{_≡_, sym, _∙_}
 use mathlib.Core.Bool.{Bool, true, false}
 use mathlib.Core.List.{List}
@@ -11,34 +11,34 @@ use Rattle.matrix.specs.Matrix.{at}
 use Rattle.matrix.specs.Jacobi.{Decomposition, decompose, unturned}
 use Rattle.matrix.specs.Inner.{decomposed}
 use Rattle.estimators.specs.Moments.{Moments, momentsOf}
-use Rattle.estimators.specs.JamesStein.{unevenness, decomposeUneven, jamesSteinIntensity}
-use Rattle.estimators.specs.Stein.{PullsEven}
+use Rattle.estimators.specs.JamesStein.{largestDeviation, decomposeUnequal, jamesSteinIntensity}
+use Rattle.estimators.specs.Stein.{JamesSteinPulls}
 use Rattle.estimators.proofs.james_stein.pull.Statement.{statement}
 use Rattle.estimators.proofs.james_stein.pull.Tie as tie
 
-module _ (limit n : ℕ) (m : Moments) (μ₀ largest : Float) (is-largest : largest ≡ unevenness n (nth (m .mean)) μ₀) where
-  even : eq largest zero⁺ ≡ true → PullsEven n limit m μ₀ true zero⁺ 0 0
-  unfolding decomposeUneven jamesSteinIntensity unturned
-  even h d is-d =
-      let u : d ≡ unturned n true = is-d ∙ rw (decomposeUneven, ← is-largest, h) in
+module _ (limit n : ℕ) (m : Moments) (μ₀ largest : Float) (is-largest : largest ≡ largestDeviation n (nth (m .mean)) μ₀) where
+  equal : eq largest zero⁺ ≡ true → JamesSteinPulls n limit m μ₀ true zero⁺ 0 0
+  unfolding decomposeUnequal jamesSteinIntensity unturned
+  equal h d is-d =
+      let u : d ≡ unturned n true = is-d ∙ rw (decomposeUnequal, ← is-largest, h) in
       (rw u, rw (jamesSteinIntensity, ← is-largest, h), rw u, rw u)
 
-  uneven : eq largest zero⁺ ≡ false → (found : Bool) (values vectors : List Float) (sweeps rotations : ℕ) (α : Float) → decomposed found values vectors sweeps rotations ≡ decompose limit n (at (m .covariance) n)
-      → ((d : Decomposition) → d .values ≡ values → α ≡ jamesSteinIntensity n m μ₀ d) → PullsEven n limit m μ₀ found α sweeps rotations
-  unfolding decomposeUneven
-  uneven h found values vectors sweeps rotations α e is-α d is-d =
-      let u : d ≡ decomposed found values vectors sweeps rotations = is-d ∙ rw (decomposeUneven, ← is-largest, h) (sym e) in
+  unequal : eq largest zero⁺ ≡ false → (found : Bool) (values vectors : List Float) (sweeps rotations : ℕ) (α : Float) → decomposed found values vectors sweeps rotations ≡ decompose limit n (at (m .covariance) n)
+      → ((d : Decomposition) → d .values ≡ values → α ≡ jamesSteinIntensity n m μ₀ d) → JamesSteinPulls n limit m μ₀ found α sweeps rotations
+  unfolding decomposeUnequal
+  unequal h found values vectors sweeps rotations α e is-α d is-d =
+      let u : d ≡ decomposed found values vectors sweeps rotations = is-d ∙ rw (decomposeUnequal, ← is-largest, h) (sym e) in
       (rw u, is-α d (rw u), rw u, rw u)
 
-unevenness-requires : tie.Need-unevenness-requires
-unevenness-requires c κs = search needs
+largest-deviation-requires : tie.Need-largest-deviation-requires
+largest-deviation-requires c κs = search needs
 
 returns : tie.Need-returns
 unfolding ofBits
 returns c =
     let b = c .before .before .before .before .before .before in
     let a = b .args in
-    even (a .limit) (a .n) (momentsOf (a .means .now) (a .covariance .now) (a .periods)) (a .target) (c .before .unevenness .result) (rw (b .pre .3) at (c .before .unevenness .ensures)) (c .if1 .taken)
+    equal (a .limit) (a .n) (momentsOf (a .means .now) (a .covariance .now) (a .periods)) (a .target) (c .before .largest-deviation .result) (rw (b .pre .3) at (c .before .largest-deviation .ensures)) (c .if1 .taken)
 
 decompose-requires : tie.Need-decompose-requires
 decompose-requires c κs = search needs
@@ -47,7 +47,7 @@ intensity-requires : tie.Need-intensity-requires
 unfolding ofBits
 intensity-requires c κs =
     let b = c .before .before .before .before .before .before .before .before .before .before .before .before .before .before in
-    let u = c .before .before .before .before .before .before .before .before .before .unevenness in
+    let u = c .before .before .before .before .before .before .before .before .before .largest-deviation in
     (b .pre .0, b .pre .3, b .pre .4, search needs, rw (b .pre .3) at (u .ensures), c .before .before .before .before .before .before .before .before .if1 .left)
 
 same-length : tie.Need-same-length
@@ -61,9 +61,9 @@ unfolding ofBits
 returns-2 c =
     let b = c .before .before .before .before .before .before .before .before .before .before .before .before .before .before .before in
     let a = b .args in
-    let u = c .before .before .before .before .before .before .before .before .before .before .unevenness in
+    let u = c .before .before .before .before .before .before .before .before .before .before .largest-deviation in
     let d = c .before .before .before .before .before .before .decompose in
-    uneven (a .limit) (a .n) (momentsOf (a .means .now) (a .covariance .now) (a .periods)) (a .target) (u .result) (rw (b .pre .3) at (u .ensures)) (c .before .before .before .before .before .before .before .before .before .if1 .left) (d .result .found) _ _ (d .result .sweeps) (d .result .rotations) (c .intensity .result) (d .ensures) (c .intensity .ensures)
+    unequal (a .limit) (a .n) (momentsOf (a .means .now) (a .covariance .now) (a .periods)) (a .target) (u .result) (rw (b .pre .3) at (u .ensures)) (c .before .before .before .before .before .before .before .before .before .if1 .left) (d .result .found) _ _ (d .result .sweeps) (d .result .rotations) (c .intensity .result) (d .ensures) (c .intensity .ensures)
 
 pub pull-spec : {M : Type 1} → statement M
-pull-spec = tie.close (tie.spec unevenness-requires returns decompose-requires intensity-requires same-length same-length-2 returns-2)
+pull-spec = tie.close (tie.spec largest-deviation-requires returns decompose-requires intensity-requires same-length same-length-2 returns-2)

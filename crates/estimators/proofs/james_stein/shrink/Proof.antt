@@ -16,9 +16,9 @@ use Rattle.estimators.specs.Refusals.{when}
 use Rattle.estimators.specs.Order.{notFound}
 use Rattle.estimators.specs.Moments.{Moments}
 use Rattle.estimators.specs.Held.{held}
-use Rattle.estimators.specs.JamesStein.{grandMean, unevenness, decomposeUneven, jamesSteinIntensity, towards}
+use Rattle.estimators.specs.JamesStein.{grandMean, largestDeviation, decomposeUnequal, jamesSteinIntensity, towards}
 use Rattle.estimators.specs.Calls.{Answered, answered, settle}
-use Rattle.estimators.specs.Stein.{PullsEven, jamesSteinOf}
+use Rattle.estimators.specs.Stein.{JamesSteinPulls, jamesSteinOf}
 use Rattle.estimators.specs.declared.Refusal.the-variants.{Singular}
 use Rattle.estimators.specs.declared.Answer.the-variants.{Refused, Shrunk}
 use Rattle.estimators.proofs.Opened.{settle-refused, settle-accepted}
@@ -28,7 +28,7 @@ use Rattle.estimators.proofs.james_stein.shrink.Tie as tie
 
 module _ (n limit : ℕ) (m : Moments) (e : ℤ) (slice : List Float) where
   abbrev taken-apart : Float → Decomposition
-  taken-apart μ₀ = decomposeUneven limit n (unevenness n (nth (m .mean)) μ₀) (at (m .covariance) n)
+  taken-apart μ₀ = decomposeUnequal limit n (largestDeviation n (nth (m .mean)) μ₀) (at (m .covariance) n)
 
   abbrev outcome : Float → Float → ℕ → ℕ → Answered
   outcome α μ₀ sweeps rotations = answered (Shrunk α (pow2Scaled μ₀ e) sweeps rotations) (tab n (λ i. pow2Scaled (towards α μ₀ (nth (m .mean) i)) e))
@@ -38,7 +38,7 @@ module _ (n limit : ℕ) (m : Moments) (e : ℤ) (slice : List Float) where
   from μ₀ = let d = taken-apart μ₀ in settle (notFound d) slice (outcome (jamesSteinIntensity n m μ₀ d) μ₀ (d .sweeps) (d .rotations))
 
   module _ (μ₀ : Float) (is-μ₀ : μ₀ ≡ grandMean n (nth (m .mean))) (found : Bool) (α : Float) (sweeps rotations : ℕ)
-      (says : PullsEven n limit m μ₀ found α sweeps rotations) where
+      (says : JamesSteinPulls n limit m μ₀ found α sweeps rotations) where
     settled : settle (when (not found) Singular) slice (outcome α μ₀ sweeps rotations) ≡ jamesSteinOf n limit m e slice
     settled = let s = says (taken-apart μ₀) refl in (λ t. settle (when (not (s .0 t)) Singular) slice (outcome (s .1 t) μ₀ (s .2 t) (s .3 t))) ∙ ap from is-μ₀
 

@@ -2,7 +2,7 @@
 use mathlib.Core.Path.{_∙_}
 use Rattle.leaves.specs.Numbers.{_⊖_}
 use Rattle.matrix.specs.Matrix.{at}
-use Rattle.estimators.proofs.Entries.{entrywise, squares-stored}
+use Rattle.matrix.proofs.OfStored.{entrywise, squares-stored}
 use borrow.Author.Needs.{needs}
 use Rattle.estimators.proofs.ledoit_wolf.distance.Statement.{statement}
 use Rattle.estimators.proofs.ledoit_wolf.distance.Tie as tie

@@ -8,12 +8,6 @@ use borrow.Author.Needs.{needs}
 use Rattle.estimators.proofs.ledoit_wolf.largest_exponent.Statement.{statement}
 use Rattle.estimators.proofs.ledoit_wolf.largest_exponent.Tie as tie
 
-slice-aggregate-largest : tie.Need-slice-aggregate-largest
-slice-aggregate-largest c = search needs
-
-slice-aggregate-largest-2 : tie.Need-slice-aggregate-largest-2
-slice-aggregate-largest-2 c = search needs
-
 largest-requires : tie.Need-largest-requires
 largest-requires c κs = search needs
 
@@ -29,9 +23,9 @@ same-length c = search needs
 returns : tie.Need-returns
 returns c =
     let e = c .exponent in
-    let a = c .before .before .before .before .before .before .before .before .before .before .before .before .args in
+    let a = c .before .before .before .before .before .before .before .before .before .before .args in
     let back = back-i32 (e .result) (e .ok) in
     (rw back (e .ensures .1), λ ec. back ∙ e .ensures .0 ∙ ap binaryExponent (largest-is (a .periods) (a .n) (at (a .r .now) (a .n)) ec (c .before .before .before .before .before .largest .ensures) (c .before .amax .ensures)))
 
 pub largest-exponent-spec : {M : Type 1} → statement M
-largest-exponent-spec = tie.close (tie.spec slice-aggregate-largest slice-aggregate-largest-2 largest-requires amax-requires exponent-requires same-length returns)
+largest-exponent-spec = tie.close (tie.spec largest-requires amax-requires exponent-requires same-length returns)

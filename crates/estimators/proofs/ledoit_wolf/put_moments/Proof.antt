@@ -13,7 +13,7 @@ use Rattle.estimators.specs.LedoitWolf.{secondMoments}
 use Rattle.estimators.proofs.Halves.{rows-over}
 use Rattle.estimators.proofs.Centered.{moments-symmetric}
 use borrow.Author.Needs.{needs}
-use Rattle.estimators.proofs.Lent.{rows-long}
+use Rattle.matrix.proofs.OfStored.{rows-long}
 use Rattle.estimators.proofs.ledoit_wolf.put_moments.Statement.{statement}
 use Rattle.estimators.proofs.ledoit_wolf.put_moments.Tie as tie
 

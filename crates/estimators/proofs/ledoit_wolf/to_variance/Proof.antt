@@ -7,9 +7,9 @@ use lib.Ieee.{Float}
 use Rattle.leaves.specs.Numbers.{_⊗_}
 use Rattle.leaves.specs.Loops.{tab, nth}
 use Rattle.matrix.specs.Matrix.{Matrix, at, rows, identity}
+use Rattle.matrix.proofs.OfStored.{entrywise}
 use Rattle.estimators.specs.LedoitWolf.{averageVariance, target, distance}
 use Rattle.estimators.specs.declared.Target.the-variants.{ConstantVariance}
-use Rattle.estimators.proofs.Entries.{entrywise}
 use Rattle.estimators.proofs.LedoitWolf.{intensity-is, variance-error}
 use borrow.Author.Needs.{needs}
 use Rattle.estimators.proofs.ledoit_wolf.to_variance.Statement.{statement}

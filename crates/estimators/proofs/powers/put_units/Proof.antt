@@ -6,8 +6,9 @@ use native.Mathlib.Omega.{arith}
 use lib.ListN.{length, length-set}
 use borrow.Author.Needs.{needs}
 use Rattle.estimators.specs.Exponents.{exponentAt}
+use Rattle.estimators.specs.Powers.{UnitsTo}
 use Rattle.estimators.proofs.Exponents.{size-neg, neg-fits, neg-read}
-use Rattle.estimators.proofs.Factors.{UnitsTo, units-more}
+use Rattle.estimators.proofs.Factors.{units-more}
 use Rattle.estimators.proofs.powers.put_units.Statement.{statement}
 use Rattle.estimators.proofs.powers.put_units.Tie as tie
 

@@ -2,7 +2,7 @@
 use mathlib.Core.Path.{refl, _∙_}
 use Prim.Native.Nat.{_+_, _*_, _≤_}
 use native.Mathlib.Omega.{arith}
-use Rattle.leaves.proofs.Loops.{row}
+use Rattle.leaves.proofs.Cells.{row}
 use Rattle.estimators.proofs.Formed.{row-formed}
 use borrow.Author.Needs.{needs}
 use Rattle.estimators.proofs.rows.form.Statement.{statement}

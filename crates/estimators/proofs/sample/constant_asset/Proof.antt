@@ -10,10 +10,10 @@ use borrow.Author.Needs.{needs}
 use Rattle.leaves.specs.Numbers.{_⊗_, 1e-10}
 use Rattle.leaves.specs.Loops.{firstTo, tab, nth}
 use Rattle.leaves.proofs.Loops.{at-end}
+use Rattle.leaves.proofs.Search.{first-none, first-more, first-at}
+use Rattle.leaves.proofs.Lists.{nth-stored}
 use Rattle.matrix.specs.Matrix.{Matrix}
-use Rattle.leaves.proofs.First.{first-none, first-more, first-at}
 use Rattle.estimators.specs.Sample.{constantAsset, volatility}
-use Rattle.estimators.proofs.Stored.{nth-stored}
 use Rattle.estimators.proofs.Constant.{constant-ext}
 use Rattle.estimators.proofs.sample.constant_asset.Statement.{statement}
 use Rattle.estimators.proofs.sample.constant_asset.Tie as tie

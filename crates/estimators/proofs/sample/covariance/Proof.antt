@@ -4,7 +4,8 @@ use Rattle.matrix.specs.Matrix.{at}
 use Rattle.estimators.proofs.Samples.{unit-none}
 use Rattle.estimators.proofs.SameReturns.{covariance-same}
 use borrow.Author.Needs.{needs}
-use Rattle.estimators.proofs.Lent.{tab-long, lent}
+use Rattle.leaves.proofs.Lists.{tab-long}
+use Rattle.estimators.proofs.Lent.{lent}
 use Rattle.estimators.proofs.sample.covariance.Statement.{statement}
 use Rattle.estimators.proofs.sample.covariance.Tie as tie
 

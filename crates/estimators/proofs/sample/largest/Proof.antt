@@ -7,17 +7,11 @@ use Rattle.estimators.proofs.Lent.{lent}
 use Rattle.estimators.proofs.sample.largest.Statement.{statement}
 use Rattle.estimators.proofs.sample.largest.Tie as tie
 
-slice-aggregate-largest : tie.Need-slice-aggregate-largest
-slice-aggregate-largest c = search needs
-
 array-share-prefix-zeros : tie.Need-array-share-prefix-zeros
 array-share-prefix-zeros c = search needs
 
-slice-aggregate-largest-2 : tie.Need-slice-aggregate-largest-2
-slice-aggregate-largest-2 c = search lent
-
-slice-aggregate-largest-3 : tie.Need-slice-aggregate-largest-3
-slice-aggregate-largest-3 c = search needs
+slice-aggregate-largest : tie.Need-slice-aggregate-largest
+slice-aggregate-largest c = search lent
 
 largest-requires : tie.Need-largest-requires
 largest-requires c κs = search lent
@@ -26,7 +20,7 @@ same-length : tie.Need-same-length
 same-length c = search needs
 
 returns : tie.Need-returns
-returns c = let a = c .before .before .before .before .before .before .before .before .before .args in c .before .before .largest .ensures ∙ largest-of (a .n) (a .periods) _ _ (at (a .r .now) (a .n))
+returns c = let a = c .before .before .before .before .before .before .before .args in c .before .before .largest .ensures ∙ largest-of (a .n) (a .periods) _ (at (a .r .now) (a .n))
 
 pub largest-spec : {M : Type 1} → statement M
-largest-spec = tie.close (tie.spec slice-aggregate-largest array-share-prefix-zeros slice-aggregate-largest-2 slice-aggregate-largest-3 largest-requires same-length returns)
+largest-spec = tie.close (tie.spec array-share-prefix-zeros slice-aggregate-largest largest-requires same-length returns)

@@ -3,7 +3,8 @@ use mathlib.Core.Path.{_∙_}
 use Rattle.matrix.specs.Matrix.{at}
 use Rattle.estimators.proofs.Samples.{means-of}
 use borrow.Author.Needs.{needs}
-use Rattle.estimators.proofs.Lent.{tab-long, lent}
+use Rattle.leaves.proofs.Lists.{tab-long}
+use Rattle.estimators.proofs.Lent.{lent}
 use Rattle.estimators.proofs.sample.means_in.Statement.{statement}
 use Rattle.estimators.proofs.sample.means_in.Tie as tie
 

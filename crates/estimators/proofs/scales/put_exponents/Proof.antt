@@ -8,13 +8,12 @@ use lib.IntN.{ℤ, pos, natAbs}
 use lib.ListN.{length}
 use borrow.Author.Needs.{needs}
 use Rattle.leaves.specs.Loops.{tab, nth}
-use Rattle.leaves.proofs.Invariants.{Filled, filled-more, filled-whole, filled-none}
 use Rattle.leaves.specs.Scaling.{binaryExponent}
+use Rattle.leaves.proofs.Invariants.{Filled, filled-more, filled-whole, filled-none}
 use Rattle.leaves.proofs.Whole.{le-or-lt}
 use Rattle.leaves.proofs.Ints.{back-i32}
+use Rattle.leaves.proofs.Lists.{getD-stored, tab-long}
 use Rattle.estimators.specs.Exponents.{maxExponent, Exponents}
-use Rattle.estimators.proofs.Stored.{getD-stored}
-use Rattle.estimators.proofs.Lent.{tab-long}
 use Rattle.estimators.proofs.scales.put_exponents.Statement.{statement}
 use Rattle.estimators.proofs.scales.put_exponents.Tie as tie
 

@@ -3,7 +3,7 @@ use mathlib.Core.Path.{_∙_}
 use Rattle.matrix.specs.Matrix.{at}
 use Rattle.estimators.proofs.Grams.{below-over}
 use borrow.Author.Needs.{needs}
-use Rattle.estimators.proofs.Lent.{rows-long}
+use Rattle.matrix.proofs.OfStored.{rows-long}
 use Rattle.estimators.proofs.semi.put_below.Statement.{statement}
 use Rattle.estimators.proofs.semi.put_below.Tie as tie
 

@@ -4,7 +4,8 @@ use native.Mathlib.Omega.{arith}
 use Rattle.matrix.specs.Matrix.{at}
 use Rattle.estimators.proofs.Sums.{periods-added}
 use borrow.Author.Needs.{needs}
-use Rattle.estimators.proofs.Lent.{tab-long, lent}
+use Rattle.leaves.proofs.Lists.{tab-long}
+use Rattle.estimators.proofs.Lent.{lent}
 use Rattle.estimators.proofs.tables.add_periods.Statement.{statement}
 use Rattle.estimators.proofs.tables.add_periods.Tie as tie
 

@@ -2,7 +2,7 @@
 use Prim.Native.Nat.{_+_, _*_, _<_}
 use native.Mathlib.Omega.{arith}
 use lib.ListN.{length}
-use Rattle.leaves.proofs.Loops.{row}
+use Rattle.leaves.proofs.Cells.{row}
 use Rattle.estimators.specs.Rows as Rows
 use borrow.Author.Needs.{needs}
 use Rattle.estimators.proofs.tables.factor.Statement.{statement}

@@ -10,10 +10,10 @@ use Rattle.leaves.specs.Loops.{loop, tab, nth}
 use Rattle.leaves.proofs.Invariants.{loop-turn, loop-end, loop-start}
 use Rattle.matrix.specs.Limits.{maxSide}
 use Rattle.matrix.specs.Matrix.{Matrix, at, sumOver, sumRow}
+use Rattle.matrix.proofs.SumOver.{sum-over-ext}
 use Rattle.estimators.specs.Sample.{volatility, correlationBy, correlation}
 use Rattle.estimators.specs.LedoitWolf.{apart, averageCorrelation}
-use Rattle.matrix.proofs.SumOver.{sum-over-ext}
-use Rattle.estimators.proofs.Entries.{correlation-stored}
+use Rattle.estimators.proofs.Samples.{correlation-stored}
 use borrow.Author.Needs.{needs}
 use Rattle.estimators.proofs.Lent.{lent}
 use Rattle.estimators.proofs.targets.average_correlation.Statement.{statement}

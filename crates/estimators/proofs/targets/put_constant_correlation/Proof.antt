@@ -9,14 +9,15 @@ use lib.ListN.{length}
 use lib.Ieee.{Float}
 use Rattle.leaves.specs.Numbers.{_⊗_}
 use Rattle.leaves.specs.Loops.{tab, nth}
-use Rattle.leaves.proofs.Loops.{row, tab-ext}
+use Rattle.leaves.proofs.Loops.{tab-ext}
+use Rattle.leaves.proofs.Cells.{row}
+use Rattle.leaves.proofs.Lists.{nth-stored, tab-long}
 use Rattle.matrix.specs.Matrix.{Matrix, at}
+use Rattle.matrix.proofs.Replaced.{passed, passed-none, passed-all, row-long, passed-row}
 use Rattle.estimators.specs.Sample.{volatility}
 use Rattle.estimators.specs.LedoitWolf.{averageCorrelation, constantCorrelation}
-use Rattle.estimators.proofs.Stored.{passed, passed-none, passed-all, nth-stored}
-use Rattle.estimators.proofs.Entries.{row-long, passed-row}
 use borrow.Author.Needs.{needs}
-use Rattle.estimators.proofs.Lent.{tab-long, rows-long}
+use Rattle.matrix.proofs.OfStored.{rows-long}
 use Rattle.estimators.proofs.targets.put_constant_correlation.Statement.{statement}
 use Rattle.estimators.proofs.targets.put_constant_correlation.Tie as tie
 

@@ -8,7 +8,7 @@ use lib.Ieee.{Float}
 use Rattle.leaves.specs.Numbers.{_⊗_}
 use Rattle.leaves.specs.Loops.{nth}
 use Rattle.leaves.proofs.Invariants.{Filled, filled-more, filled-whole, filled-none}
-use Rattle.estimators.proofs.Entries.{set-tab}
+use Rattle.leaves.proofs.Lists.{set-tab}
 use borrow.Author.Needs.{needs}
 use Rattle.estimators.proofs.targets.put_row.Statement.{statement}
 use Rattle.estimators.proofs.targets.put_row.Tie as tie

@@ -5,7 +5,8 @@ use lib.Seq.{length-take-le}
 use Rattle.matrix.specs.Matrix.{at}
 use Rattle.estimators.proofs.InUnits.{mean-sums}
 use borrow.Author.Needs.{needs}
-use Rattle.estimators.proofs.Lent.{tab-long, lent}
+use Rattle.leaves.proofs.Lists.{tab-long}
+use Rattle.estimators.proofs.Lent.{lent}
 use Rattle.estimators.proofs.weighted.put_means.Statement.{statement}
 use Rattle.estimators.proofs.weighted.put_means.Tie as tie
 

@@ -7,7 +7,7 @@ use lib.Ieee.{Float, ofBits}
 use Rattle.leaves.specs.Loops.{sumTo, nth}
 use Rattle.leaves.proofs.Invariants.{sum-none, sum-turn}
 use Rattle.leaves.proofs.Loops.{at-end}
-use Rattle.leaves.proofs.Column.{column-in}
+use Rattle.leaves.proofs.Cells.{column-in}
 use Rattle.leaves.proofs.sums.sum_column.Statement.{statement}
 use Rattle.leaves.proofs.sums.sum_column.Tie as tie
 

@@ -1,7 +1,7 @@
 -- `matrix::entries::get` meets its contract: row i lies within the matrix.
 use native.Mathlib.Omega.{arith}
 use borrow.Author.Needs.{needs}
-use Rattle.leaves.proofs.Loops.{row}
+use Rattle.leaves.proofs.Cells.{row}
 use Rattle.matrix.proofs.entries.get.Statement.{statement}
 use Rattle.matrix.proofs.entries.get.Tie as tie
 

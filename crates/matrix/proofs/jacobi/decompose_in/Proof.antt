@@ -7,7 +7,7 @@ use lib.Ieee.{Float, ofBits, eq}
 use Rattle.leaves.specs.Numbers.{zero⁺}
 use Rattle.matrix.specs.Matrix.{Matrix, at, amax, allFinite}
 use Rattle.matrix.specs.Jacobi.{Decomposition, start, decomposedBy, decompose}
-use Rattle.matrix.proofs.Alike.{decompose-is}
+use Rattle.matrix.proofs.Sweeps.{decompose-is}
 use Rattle.matrix.proofs.jacobi.decompose_in.Statement.{statement}
 use Rattle.matrix.proofs.jacobi.decompose_in.Tie as tie
 

@@ -9,7 +9,7 @@ use lib.ListN.{length}
 use lib.Ieee.{Float}
 use Rattle.leaves.specs.Loops.{loop}
 use Rattle.leaves.proofs.Invariants.{loop-turn, loop-end, loop-start}
-use Rattle.leaves.proofs.Loops.{row}
+use Rattle.leaves.proofs.Cells.{row}
 use Rattle.matrix.specs.Limits.{maxSide}
 use Rattle.matrix.specs.Jacobi.{sweepRow, sweep}
 use Rattle.matrix.specs.Inner.{state, byColumns}

@@ -10,15 +10,15 @@ use lib.ListN.{length}
 use lib.Ieee.{Float, ofBits, ne, le, isNan}
 use Rattle.leaves.specs.Numbers.{_⊗_, two}
 use Rattle.leaves.specs.Loops.{loop, firstTo}
-use Rattle.leaves.proofs.Invariants.{loop-turn, loop-start}
 use Rattle.leaves.specs.Root.{sqrt}
+use Rattle.leaves.proofs.Invariants.{loop-turn, loop-start}
 use Rattle.leaves.proofs.IsNan.{nan-yes, nan-no}
+use Rattle.leaves.proofs.Search.{first-none, first-more, first-at}
 use Rattle.matrix.specs.Limits.{maxSide, maxSweeps}
 use Rattle.matrix.specs.Matrix.{at}
 use Rattle.matrix.specs.Rotation.{State}
 use Rattle.matrix.specs.Jacobi.{offDiagonal, sweep, afterSweeps, Test, fails, converged, goesOn, test, stops, isConverged, stopping, sweptBy, sweeping}
 use Rattle.matrix.specs.Inner.{state, sweptTo, byColumns}
-use Rattle.leaves.proofs.First.{first-none, first-more, first-at}
 use Rattle.matrix.proofs.Counts.{pairs, pairs-most}
 use Rattle.matrix.proofs.Rotations.{sweep-count, sweeps-count}
 use Rattle.matrix.proofs.Sweeps.{sweeping-is}

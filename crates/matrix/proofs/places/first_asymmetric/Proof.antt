@@ -9,10 +9,10 @@ use borrow.Author.Needs.{needs}
 use lib.Ieee.{Float, lt}
 use Rattle.leaves.specs.Numbers.{_⊖_, abs}
 use Rattle.leaves.specs.Loops.{firstTo}
-use Rattle.leaves.proofs.Loops.{side, row-below, col-below}
+use Rattle.leaves.proofs.Cells.{row-below, col-below, has-column}
+use Rattle.leaves.proofs.Search.{first-none, first-more}
 use Rattle.matrix.specs.Matrix.{at}
 use Rattle.matrix.proofs.First.{entry-at-cell, entry-nowhere}
-use Rattle.leaves.proofs.First.{first-none, first-more}
 use Rattle.matrix.proofs.places.first_asymmetric.Statement.{statement}
 use Rattle.matrix.proofs.places.first_asymmetric.Tie as tie
 
@@ -33,10 +33,10 @@ loop-holds : tie.Need-loop-holds Inv-loop μ-loop
 loop-holds c = (omega arith, first-none _)
 
 div-i : tie.Need-div-i Inv-loop μ-loop
-div-i c = side (c .before .loop .k) _ (omega arith)
+div-i c = has-column (c .before .loop .k) (c .before .before .before .args .n) _ (omega arith)
 
 rem-j : tie.Need-rem-j Inv-loop μ-loop
-rem-j c = side (c .before .loop .k) _ (omega arith)
+rem-j c = has-column (c .before .loop .k) (c .before .before .before .args .n) _ (omega arith)
 
 get-requires : tie.Need-get-requires Inv-loop μ-loop
 get-requires c κs = (row-below _ _ _ (omega arith), col-below _ (c .before .before .before .args .n) _ (omega arith), c .before .before .before .pre)

@@ -10,10 +10,10 @@ use lib.ListN.{length}
 use lib.Ieee.{Float}
 use Rattle.leaves.specs.Numbers.{isFinite}
 use Rattle.leaves.specs.Loops.{firstTo, nth}
-use Rattle.leaves.proofs.Loops.{has-column}
+use Rattle.leaves.proofs.Cells.{has-column}
+use Rattle.leaves.proofs.Search.{first-none, first-more}
 use Rattle.matrix.specs.Matrix.{at}
 use Rattle.matrix.proofs.First.{entry-at-cell, entry-nowhere}
-use Rattle.leaves.proofs.First.{first-none, first-more}
 use Rattle.matrix.proofs.Stored.{entry-at}
 use Rattle.matrix.proofs.places.first_not_finite.Statement.{statement}
 use Rattle.matrix.proofs.places.first_not_finite.Tie as tie

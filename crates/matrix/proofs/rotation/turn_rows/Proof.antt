@@ -6,7 +6,7 @@ use borrow.Author.Needs.{needs}
 use lib.ListN.{length}
 use Rattle.leaves.specs.Loops.{loop}
 use Rattle.leaves.proofs.Invariants.{loop-turn, loop-end, loop-start}
-use Rattle.leaves.proofs.Loops.{row}
+use Rattle.leaves.proofs.Cells.{row}
 use Rattle.matrix.specs.Rotation.{turn, turnRows}
 use Rattle.matrix.proofs.rotation.turn_rows.Statement.{statement}
 use Rattle.matrix.proofs.rotation.turn_rows.Tie as tie

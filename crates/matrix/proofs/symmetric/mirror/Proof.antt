@@ -6,7 +6,7 @@ use borrow.Author.Needs.{needs}
 use lib.ListN.{length, length-set}
 use Rattle.leaves.specs.Loops.{loop}
 use Rattle.leaves.proofs.Invariants.{loop-turn, loop-end, loop-start}
-use Rattle.leaves.proofs.Loops.{row}
+use Rattle.leaves.proofs.Cells.{row}
 use Rattle.matrix.proofs.Symmetry.{copied, copied-all}
 use Rattle.matrix.proofs.symmetric.mirror.Statement.{statement}
 use Rattle.matrix.proofs.symmetric.mirror.Tie as tie

@@ -4,7 +4,7 @@ use native.Mathlib.Omega.{arith}
 use borrow.Author.Needs.{needs}
 use lib.Ieee.{ofBits}
 use Rattle.leaves.specs.Numbers.{_⊕_, _⊘_, two}
-use Rattle.leaves.proofs.Loops.{side, row-below, col-below}
+use Rattle.leaves.proofs.Cells.{row-below, col-below, has-column}
 use Rattle.leaves.proofs.Invariants.{Filled, filled-more, filled-none}
 use Rattle.matrix.specs.Matrix.{at, averaged}
 use Rattle.matrix.proofs.FilledRows.{filled-rows}
@@ -24,10 +24,10 @@ loop-holds : tie.Need-loop-holds Inv-loop μ-loop
 loop-holds c = filled-none _ _ _
 
 div-i : tie.Need-div-i Inv-loop μ-loop
-div-i c = side _ _ (c .loop-test .taken)
+div-i c = has-column _ _ _ (c .loop-test .taken)
 
 rem-j : tie.Need-rem-j Inv-loop μ-loop
-rem-j c = side _ _ (c .loop-test .taken)
+rem-j c = has-column _ _ _ (c .loop-test .taken)
 
 get-requires : tie.Need-get-requires Inv-loop μ-loop
 get-requires c κs = (row-below _ _ _ (c .loop-test .taken), col-below _ _ _ (c .loop-test .taken), c .before .before .before .before .pre .0)

@@ -2,7 +2,7 @@
 use Prim.Native.Nat.{_-_, _*_, _/_, _%_}
 use native.Mathlib.Omega.{arith}
 use borrow.Author.Needs.{needs}
-use Rattle.leaves.proofs.Loops.{side}
+use Rattle.leaves.proofs.Cells.{has-column}
 use Rattle.leaves.proofs.Invariants.{Filled, filled-more, filled-none}
 use Rattle.matrix.specs.Matrix.{identity}
 use Rattle.matrix.proofs.FilledRows.{filled-rows}
@@ -22,10 +22,10 @@ loop-holds : tie.Need-loop-holds Inv-loop μ-loop
 loop-holds c = filled-none _ _ _
 
 div-identity-entry : tie.Need-div-identity-entry Inv-loop μ-loop
-div-identity-entry c = side _ _ (c .loop-test .taken)
+div-identity-entry c = has-column _ _ _ (c .loop-test .taken)
 
 rem-identity-entry : tie.Need-rem-identity-entry Inv-loop μ-loop
-rem-identity-entry c = side _ _ (c .loop-test .taken)
+rem-identity-entry c = has-column _ _ _ (c .loop-test .taken)
 
 identity-entry-requires : tie.Need-identity-entry-requires Inv-loop μ-loop
 identity-entry-requires c κs = search needs

@@ -2,7 +2,7 @@
 use Prim.Native.Nat.{_-_, _*_, _/_, _%_}
 use native.Mathlib.Omega.{arith}
 use borrow.Author.Needs.{needs}
-use Rattle.leaves.proofs.Loops.{side, row-below, col-below}
+use Rattle.leaves.proofs.Cells.{row-below, col-below, has-column}
 use Rattle.leaves.proofs.Invariants.{Filled, filled-more, filled-none}
 use Rattle.matrix.specs.Matrix.{at, transpose}
 use Rattle.matrix.proofs.FilledRows.{filled-rows}
@@ -22,10 +22,10 @@ loop-holds : tie.Need-loop-holds Inv-loop μ-loop
 loop-holds c = filled-none _ _ _
 
 rem-get : tie.Need-rem-get Inv-loop μ-loop
-rem-get c = side _ _ (c .loop-test .taken)
+rem-get c = has-column _ _ _ (c .loop-test .taken)
 
 div-get : tie.Need-div-get Inv-loop μ-loop
-div-get c = side _ _ (c .loop-test .taken)
+div-get c = has-column _ _ _ (c .loop-test .taken)
 
 get-requires : tie.Need-get-requires Inv-loop μ-loop
 get-requires c κs = (col-below _ _ _ (c .loop-test .taken), row-below _ _ _ (c .loop-test .taken), c .before .before .before .before .pre .0)

@@ -18,7 +18,7 @@ start-requires : tie.Need-start-requires
 start-requires c κs =
     let a = c .before .before .before in
     let h : c .place .result ≤ length (a .args .t1) = omega (arith, how-many) in
-    (h, omega (arith, a .pre .0))
+    (h, omega arith)
 
 -- the numbers lie in the slice
 inside : (c : tie.After-start) → let a = c .before .before .before .before .args in c .start .result + getD (a .t1) (c .before .place .result) 0 ≤ length (a .numbers .now)
@@ -27,8 +27,7 @@ inside c =
     let cs = b .args .t1 in
     let p = c .before .place .result in
     let h : p < length cs = omega (arith, how-many) in
-    let e : c .start .result ≡ total (take p cs) = c .start .ensures in
-    omega (arith, piece-in cs p h, b .pre .0)
+    omega (arith, piece-in cs p h)
 
 mul-n : tie.Need-mul-n
 mul-n c = omega (arith, how-many)

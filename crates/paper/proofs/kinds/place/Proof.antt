@@ -28,7 +28,7 @@ returns c =
     place-here _ (l .i) (l .inv .1) (omega (arith, how-many)) (sym (ap (λ (k : Kind). k .byte) (c .before .before .kind-at .ensures)) ∙ c .if1 .taken)
 
 add-i : tie.Need-add-i Inv-loop μ-loop
-add-i c = omega (arith, how-many)
+add-i c = omega arith
 
 loop-less : tie.Need-loop-less Inv-loop μ-loop
 loop-less c = omega (arith, how-many)

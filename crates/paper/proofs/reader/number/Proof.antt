@@ -39,7 +39,7 @@ wide-requires : tie.Need-wide-requires Inv-loop μ-loop
 wide-requires c κs = search needs
 
 add-v : tie.Need-add-v Inv-loop μ-loop
-add-v c = let n = formed-fits _ _ _ _ _ (c .before .before .before .before .before .pre .0) (next (c .before .before)) in omega (arith, c .wide .ensures)
+add-v c = let n = formed-fits _ _ _ _ _ (c .before .before .before .before .before .pre .0) (next (c .before .before)) in omega arith
 
 loop-less : tie.Need-loop-less Inv-loop μ-loop
 loop-less c = omega arith

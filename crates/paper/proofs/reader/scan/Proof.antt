@@ -31,10 +31,10 @@ first-requires c κs =
     (rw (c .kind-at .ensures) (small-body i h), rw (c .kind-at .ensures) (some-most i h), c .before .before .loop .inv .1)
 
 mul-firsts : tie.Need-mul-firsts Inv-loop μ-loop
-mul-firsts c = omega (arith, how-many)
+mul-firsts c = omega arith
 
 array-write-firsts : tie.Need-array-write-firsts Inv-loop μ-loop
-array-write-firsts c = omega (arith, how-many)
+array-write-firsts c = omega arith
 
 take-kind-requires : tie.Need-take-kind-requires Inv-loop μ-loop
 take-kind-requires c κs =
@@ -42,13 +42,13 @@ take-kind-requires c κs =
     (rw (k .kind-at .ensures) (small-body (k .before .before .loop .i) (omega (arith, how-many))), k .before .before .loop .inv .1)
 
 mul-counts : tie.Need-mul-counts Inv-loop μ-loop
-mul-counts c = omega (arith, how-many)
+mul-counts c = omega arith
 
 array-write-counts : tie.Need-array-write-counts Inv-loop μ-loop
-array-write-counts c = omega (arith, how-many)
+array-write-counts c = omega arith
 
 add-i : tie.Need-add-i Inv-loop μ-loop
-add-i c = omega (arith, how-many)
+add-i c = omega arith
 
 loop-less : tie.Need-loop-less Inv-loop μ-loop
 loop-less c = omega (arith, how-many)

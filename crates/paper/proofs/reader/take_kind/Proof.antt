@@ -32,7 +32,7 @@ here c =
     fits-in (a .k) (l .at) (a .file .now) (sym (c .before .before .starts .ensures) ∙ c .before .if2 .taken)
 
 add-number : tie.Need-add-number Inv-loop μ-loop
-add-number c = omega (arith, here c)
+add-number c = omega arith
 
 number-requires : tie.Need-number-requires Inv-loop μ-loop
 number-requires c κs = (c .before .before .before .before .before .before .before .before .pre .0, here c)
@@ -47,7 +47,7 @@ add-at : tie.Need-add-at Inv-loop μ-loop
 add-at c = omega arith
 
 add-at-2 : tie.Need-add-at-2 Inv-loop μ-loop
-add-at-2 c = omega (arith, here (c .before .before .before .before .before))
+add-at-2 c = omega arith
 
 loop-less : tie.Need-loop-less Inv-loop μ-loop
 loop-less c = omega arith

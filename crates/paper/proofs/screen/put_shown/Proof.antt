@@ -1,6 +1,6 @@
 -- `paper::screen::put_shown` meets its contract, case by case.
 use borrow.Author.Needs.{needs}
-use Rattle.paper.specs.Text.{decimal}
+use Rattle.paper.specs.Text.{point, decimal}
 use Rattle.paper.specs.Screen.{shownText}
 use Rattle.paper.proofs.Writes.{then, then-after}
 use Rattle.paper.proofs.screen.put_shown.Statement.{statement}
@@ -42,7 +42,7 @@ unfolding shownText
 returns-2 c =
     let d = c .before .before .before .before .before .before in
     let m = d .before .before .before .before in
-    rw (m .before .before .before .s .given .1) (then _ _ _ (m .put-minus .ensures) (then-after _ (decimal _) 46 _ (d .put-decimal .ensures) (c .before .before .put-digits .ensures)))
+    rw (m .before .before .before .s .given .1) (then _ _ _ (m .put-minus .ensures) (then-after _ (decimal _) point _ (d .put-decimal .ensures) (c .before .before .put-digits .ensures)))
 
 pub put-shown-spec : {M : Type 1} → statement M
 put-shown-spec = tie.close (tie.spec enum-told slice-aggregate-put-text put-text-requires enum-known-s put-minus-requires put-decimal-requires put-digits-requires same-length returns same-length-2 returns-2)

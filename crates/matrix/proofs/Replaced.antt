@@ -1,34 +1,23 @@
--- Laws of stored lists and tables: when one is what it is said to be, number by number or entry by entry, and what replacing a part of one gives.
--- Assumes nothing.
-use mathlib.Core.Path.{_≡_, sym, ap, _∙_, subst}
+-- A stored matrix of which a part is replaced: a row from a column on (`row-replaced`), and row by row, by a loop over the rows (`passed`). Assumes nothing.
+use mathlib.Core.Path.{_≡_, refl, sym, ap, _∙_, subst}
 use mathlib.Core.List.{List, _++_}
 use mathlib.Core.Logic.{⊎-elim}
-use Prim.Native.Nat.{ℕ, _+_, _-_, _*_, _≤_, _<_}
+use Prim.Native.Nat.{ℕ, _+_, _-_, _*_, _≤_, _<_, zero-le}
+use native.Mathlib.Nat.{sub-zero, not-suc-le-zero}
 use native.Mathlib.Omega.{arith}
 use mathlib.Core.Bool.{cond}
 use lib.Dec.{eqb, ltb}
 use borrow.Author.Tests.{lt-ltb, le-ltb, eq-eqb, ne-eqb}
-use lib.ListN.{length, getD, take, drop, length-append, length-drop, List·getD-append}
+use lib.ListN.{length, take, drop, length-append, length-drop, List·getD-append}
 use lib.Seq.{length-take-le, getD-take, getD-drop, getD-append-add}
 use lib.Ieee.{Float, nan}
 use Rattle.leaves.specs.Loops.{tab, nth}
 use Rattle.leaves.proofs.Whole.{le-or-lt}
-use Rattle.leaves.proofs.Loops.{row, tab-ext, nth-tab}
+use Rattle.leaves.proofs.Cells.{row}
+use Rattle.leaves.proofs.Lists.{nth-stored, tab-long}
 use Rattle.matrix.specs.Matrix.{Matrix, at, rows}
-use Rattle.matrix.proofs.Stored.{rows-at, rows-ext, rows-is}
-
--- ---- number by number
-
--- number k of a list that holds f's numbers
-pub getD-stored : {A : Type 0} (n : ℕ) (f : ℕ → A) {l : List A} (d : A) → l ≡ tab n f → (k : ℕ) → k < n → getD l k d ≡ f k
-getD-stored {A} n f d e k h = ap (λ (l : List A). getD l k d) e ∙ nth-tab n f k d h
-
-pub nth-stored : (n : ℕ) (f : ℕ → Float) {l : List Float} → l ≡ tab n f → (k : ℕ) → k < n → nth l k ≡ f k
-nth-stored n f e k h = getD-stored n f nan e k h
-
--- a list made of a list, number by number
-pub tab-then : (l : List Float) {m : ℕ} (n : ℕ) (f : ℕ → Float) (g : ℕ → Float → Float) → m ≡ n → l ≡ tab n f → tab m (λ k. g k (nth l k)) ≡ tab n (λ k. g k (f k))
-tab-then l n f g em e = ap (λ (m : ℕ). tab m (λ k. g k (nth l k))) em ∙ tab-ext (λ k. g k (nth l k)) (λ k. g k (f k)) n (λ k b. ap (g k) (nth-stored n f e k b))
+use Rattle.matrix.proofs.Stored.{rows-ext, rows-is}
+use Rattle.matrix.proofs.OfStored.{at-stored, rows-long}
 
 -- ---- a part of m numbers from a on, and the list in which it is replaced
 
@@ -59,17 +48,6 @@ module _ (a m : ℕ) (l ys : List Float) (fits : a + m ≤ length l) (long : len
       past (m + k)
       ∙ subst (λ (b : ℕ). nth (ys ++ drop m (drop a l)) (b + k) ≡ nth (drop m (drop a l)) k) long (getD-append-add ys (drop m (drop a l)) k nan)
       ∙ getD-drop m (drop a l) k nan ∙ getD-drop a l (m + k) nan
-
--- ---- entry by entry
-
--- entry i j of a table that holds f's entries
-pub at-stored : (n : ℕ) (f : Matrix) {l : List Float} → l ≡ rows n n f → (i j : ℕ) → i < n → j < n → at l n i j ≡ f i j
-at-stored n f e i j hi hj = ap (λ (l : List Float). at l n i j) e ∙ rows-at f n n i j hi hj
-
--- a table made of a table, entry by entry
-pub rows-then : (l : List Float) (n : ℕ) (f : Matrix) (g : ℕ → ℕ → Float → Float) → l ≡ rows n n f → rows n n (λ i j. g i j (at l n i j)) ≡ rows n n (λ i j. g i j (f i j))
-rows-then l n f g e =
-    rows-ext n n (λ i j. g i j (at l n i j)) (λ i j. g i j (f i j)) (λ i j hi hj. ap (g i j) (at-stored n f e i j hi hj))
 
 -- a table of which row i is replaced from column b on
 module _ (n i b a m : ℕ) (l ys : List Float) (f : Matrix) (len : length l ≡ n * n) (hi : i < n) (hb : b ≤ n) (ea : a ≡ i * n + b) (em : m ≡ n - b) (long : length ys ≡ m) where
@@ -154,3 +132,17 @@ pub each-more : (n i : ℕ) (g : ℕ → ℕ → Float → Float) (old out next 
 each-more n i g old out next e e′ =
     let F : Matrix = λ p q. g p q (at old n p q) in
     passed-more n F old i out e (λ p q. g p q (at out n p q)) next e′ (λ q hi hq. ap (g i q) (passed-here n F old i out e i q hi hq (omega arith)))
+
+-- a row, lent as a part of its table
+pub row-long : (n i : ℕ) (l : List Float) → length l ≡ n * n → i < n → length (take (i * n + n - i * n) (drop (i * n) l)) ≡ n
+row-long n i l e h = let m : i * n + n - i * n ≡ n = omega arith in length-take-le _ (drop (i * n) l) (omega (arith, length-drop (i * n) l, row i n n h)) ∙ m
+
+-- one whole row more
+pub passed-row : (n : ℕ) (F : Matrix) (old : List Float) (i : ℕ) (out ys : List Float) → out ≡ passed n i F old → i < n → ys ≡ tab n (F i) → replaced (i * n) (i * n + n - i * n) out ys ≡ passed n (i + 1) F old
+passed-row n F old i out ys e hi ey =
+    let m : i * n + n - i * n ≡ n = omega arith in
+    passed-more n F old i out e F (replaced (i * n) (i * n + n - i * n) out ys)
+    (row-replaced n i 0 (i * n) (i * n + n - i * n) out ys (λ p q. cond (eqb p i) (F p q) (at out n p q)) (rows-long n _ out e) hi zero-le (omega arith) (omega arith)
+    (tab-long n (F i) ys ey ∙ sym m) (λ p q hp hq h. rw (ne-eqb p i h)) (λ q h. absurd (not-suc-le-zero h))
+    (λ q h hq. rw (eq-eqb i i refl) (ap (nth ys) (sub-zero q) ∙ nth-stored n (F i) ey q hq)))
+    (λ q h hq. refl)

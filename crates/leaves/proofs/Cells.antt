@@ -1,0 +1,39 @@
+-- Where the numbers of a table stored row by row stand: row t, column j at t * n + j, of n columns. Assumes nothing.
+use mathlib.Core.Path.{_≡_, refl, subst}
+use Prim.Native.Nat.{ℕ, zero, suc, _+_, _*_, _/_, _%_, _≤_, _<_, zero-le, suc-le-suc}
+use native.Mathlib.Nat.{lt-of-lt-of-le, mul-zero, mul-le-mul-right, mod-lt, div-lt-iff-lt-mul, div-mul-le-self, not-suc-le-zero}
+use native.Mathlib.Omega.{arith}
+use mathlib.Core.Bool.{Bool, true, false, cond}
+use lib.Arith.{digits-lt, digits-div, digits-mod}
+use lib.Dec.{ltb}
+use borrow.Author.Tests.{ltb-true}
+use Rattle.leaves.specs.Loops.{columnLength}
+
+-- row t lies within a table of T rows. With it in hand, or in an invariant, omega does the cells: j < n is linear
+pub row : (t T n : ℕ) → t < T → t * n + n ≤ T * n
+row t T n h = omega (arith, mul-le-mul-right n h)
+
+-- the entry of cell i * n + j
+pub at-cell : {A : Type 0} (f : ℕ → ℕ → A) (i n j : ℕ) → j < n → f ((i * n + j) / n) ((i * n + j) % n) ≡ f i j
+at-cell f i n j h = λ t. f (digits-div i h t) (digits-mod i h t)
+
+-- a table with a cell k has a column
+pub has-column : (k m n : ℕ) → k < m * n → 0 < n
+has-column k m zero h = absurd (not-suc-le-zero (rw mul-zero at h))
+has-column k m (suc n) h = suc-le-suc zero-le
+
+-- the row and the column of any cell of an m × n table
+pub row-below : (k m n : ℕ) → k < m * n → k / n < m
+row-below k m n h = div-lt-iff-lt-mul (has-column k m n h) .1 h
+
+pub col-below : (k m n : ℕ) → k < m * n → k % n < n
+col-below k m n h = mod-lt k (has-column k m n h)
+
+-- the numbers of a column lie within the table
+pub column-in : (size n j t rows : ℕ) → rows ≡ columnLength size n j → t < rows → t * n + j < size
+unfolding columnLength
+column-in size n j t rows e h = go (ltb j n) refl (subst (λ (r : ℕ). t < r) e h)
+  where
+    go : (b : Bool) → ltb j n ≡ b → t < cond b (size / n) 0 → t * n + j < size
+    go false e l = absurd (not-suc-le-zero l)
+    go true e l = lt-of-lt-of-le (digits-lt l (ltb-true j n e)) (div-mul-le-self size n)
