@@ -18,7 +18,7 @@ use Rattle.leaves.proofs.Loops.{kept-loop}
 use Rattle.leaves.proofs.First.{none-first}
 use Rattle.leaves.proofs.Zero.{no, other-is-not, not-above, zero-not-above}
 use Rattle.leaves.proofs.Units.{sign, nonzero-pos}
-use Rattle.leaves.proofs.Keys.{number}
+use Rattle.leaves.proofs.Keys.{number, finite-number}
 use Rattle.matrix.specs.Matrix.{Matrix, at, rows, amax, averaged, sumOver, squares, firstEntry, allFinite, symmetrized, divided}
 use Rattle.matrix.specs.Jacobi.{Decomposition, Test, fails, converged, goesOn, offDiagonal, test, start, decompose, unturned, tolerance, initial}
 use Rattle.matrix.proofs.Stored.{rows-at, by-cell, amax-finite}
@@ -84,11 +84,6 @@ module _ (n : ℕ) (a : Matrix) (fit : (i j : ℕ) → i < n → j < n → T (fi
   unfolding isNan
   begun-number i j hi hj = go (eqb i j) refl
     where
-      finite-number : (x : Float) → T (isFinite x) → T (number x)
-      finite-number nan f = unfold isFinite in f
-      finite-number (inf s) f = tt
-      finite-number (fin s m e) f = tt
-
       same : (i : ℕ) → i < n → T (number (begun i i))
       same i h = unfold begun in number-half (scaledEntry (amax n n a) a i i ⊕ scaledEntry (amax n n a) a i i) (number-twice (scaledEntry (amax n n a) a i i) (number-zero-plus (a i i ⊘ amax n n a) (finite-number (a i i ⊘ amax n n a) (quotients-finite n a fit all nonzero i i h h .1))))
 

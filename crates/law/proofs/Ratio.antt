@@ -21,19 +21,19 @@ use borrow.Author.Tests.{ltb-true}
 use Rattle.leaves.specs.Numbers.{_⊕_, _⊗_, _⊘_, ε, count, isFinite, larger, smaller}
 use Rattle.leaves.specs.Loops.{loop, sumTo, minTo, maxTo}
 use Rattle.leaves.proofs.Rounding.{near, Near, near-most, near-error, near-held, held-times}
-use Rattle.leaves.proofs.Units.{oneBits, topBits, fractionBits, val-pos, U, U-pos, Top, Val, zero-mag, sign, mag, val-mag, mag-val, mag-held, finite-fin, fin-val, fin-under-Top, finite-mag, rounded-val}
+use Rattle.leaves.proofs.Units.{oneBits, topBits, fractionBits, val-pos, U, U-pos, Top, Val, zero-mag, sign, mag, val-mag, val-finite, mag-val, mag-held, finite-fin, fin-val, fin-under-Top, finite-mag, rounded-val}
 use Rattle.leaves.proofs.Arithmetic.{add-finite, mul-finite, div-finite, mul-rounded, div-rounded}
 use Rattle.leaves.proofs.Range.{count-val, range-most, range-null}
 use Rattle.leaves.proofs.Bounds.{multiples, sumOf, only-zero}
 use Rattle.leaves.proofs.Operations.{Moved, still, moved-add}
 use Rattle.leaves.proofs.Signs.{sign-mul, sign-div}
 use Rattle.leaves.proofs.Totals.{moved-sum}
-use Rattle.leaves.proofs.Keys.{number, key, lt-key, Fine, larger-by, smaller-by, picked}
+use Rattle.leaves.proofs.Keys.{number, finite-number, key, lt-key, Fine, larger-by, smaller-by, picked}
 use Rattle.matrix.specs.Limits.{maxSide}
 use Rattle.matrix.proofs.Turn.{turnBits}
 use Rattle.law.proofs.Bits.{sideBits, side-bits}
 use Rattle.law.proofs.Ranges.{zeroBounds}
-use Rattle.law.proofs.Sizes.{over-inf, val-number, le-or}
+use Rattle.law.proofs.Sizes.{over-inf, le-or}
 use Rattle.law.proofs.Weighted.{sum-fits, sum-least}
 
 -- a product of an entry of V and a number below 2, and a projection, which is a sum of such
@@ -182,7 +182,7 @@ module _ (n : ℕ) (few : suc n ≤ maxSide) (v : ℕ → Float) (fit : (e : ℕ
           subst (λ (z : Float). Val z (unlike false s) B) (sym (mul-rounded (count (suc n) ⊗ ε) Λ false s a L (tiny (suc n) few) w)) (rounded-val (unlike false s) (a * L) U U-pos (lt-of-le-of-lt B-most (fin-under-Top s c e t)))
 
       bar-number : T (number (count (suc n) ⊗ ε ⊗ fin s c e))
-      bar-number = val-number (count (suc n) ⊗ ε ⊗ fin s c e) (unlike false s) B bar-val
+      bar-number = let b = count (suc n) ⊗ ε ⊗ fin s c e in finite-number b (val-finite b (unlike false s) B bar-val)
 
       key-val : (x : Float) (r : Bool) (b : ℕ) → Val x r b → key x ≡ cond r (Top - b) (Top + b)
       key-val nan r b w = absurd w

@@ -18,8 +18,8 @@ use borrow.Author.Tests.{not-true, not-false, lt-ltb, le-ltb, ltb-true, ltb-fals
 use Rattle.leaves.specs.Numbers.{_⊘_, zero⁺, two, count, isFinite, abs}
 use Rattle.leaves.specs.Scaling.{pow2}
 use Rattle.leaves.proofs.Whole.{over, under, over-neg, under-neg, up-is, down-is}
-use Rattle.leaves.proofs.Units.{oneBits, fractionBits, U, Val, abs-val, sign, mag, zero-val, mag-val, lt-val, eq-zero}
-use Rattle.leaves.proofs.Keys.{number}
+use Rattle.leaves.proofs.Units.{oneBits, fractionBits, U, Val, val-finite, abs-val, sign, mag, zero-val, mag-val, lt-val, eq-zero}
+use Rattle.leaves.proofs.Keys.{number, finite-number}
 use Rattle.leaves.proofs.Range.{range-size, range-null, count-val}
 use Rattle.leaves.proofs.Bounds.{Bounded}
 use Rattle.law.specs.Law.{All, Sized, AtLeast}
@@ -43,12 +43,6 @@ over-inf (inf r) s f = absurd f
 over-inf (fin r m e) s f = (unlike r s, refl)
 
 -- ---- comparisons
-pub val-number : (x : Float) (s : Bool) (a : ℕ) → Val x s a → T (number x)
-unfolding isNan
-val-number nan s a v = absurd v
-val-number (inf t) s a v = absurd v
-val-number (fin t m e) s a v = tt
-
 numbers : (x y : Float) → le x y ≡ true → T (number x) × T (number y)
 unfolding le isNan
 numbers nan y h = absurd (subst T (sym h) tt)
@@ -115,7 +109,7 @@ module _ (x y : Float) {a b : ℕ} (v : Val x false a) (w : Val y false b) where
   le-yes h = ltb-false b a (sym (lt-val y x false false b a w v) ∙ le-not-lt x y h)
 
   pub le-no : le x y ≡ false → b < a
-  le-no h = ltb-true b a (sym (lt-val y x false false b a w v) ∙ le-or x y (val-number x false a v) (val-number y false b w) h)
+  le-no h = ltb-true b a (sym (lt-val y x false false b a w v) ∙ le-or x y (finite-number x (val-finite x false a v)) (finite-number y (val-finite y false b w)) h)
 
 pub plus-val : (x : Float) → T (fits binary64 x) → T (isFinite x) → sign x ≡ false → Val x false (mag x)
 plus-val x t f e = subst (λ (s : Bool). Val x s (mag x)) e (mag-val x t f)

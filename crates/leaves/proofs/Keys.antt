@@ -9,13 +9,19 @@ use native.Mathlib.Omega.{arith}
 use lib.Dec.{T, ltb, ltb→lt, lt→ltb, lit≤}
 use lib.Ieee.{Float, nan, inf, fin, binary64, fits, isNan, lt, below}
 use borrow.Author.Tests.{lt-ltb, le-ltb, ltb-true, ltb-false}
-use Rattle.leaves.specs.Numbers.{larger, smaller}
+use Rattle.leaves.specs.Numbers.{isFinite, larger, smaller}
 use Rattle.leaves.specs.Loops.{loop}
 use Rattle.leaves.proofs.Shift.{iff-same}
 use Rattle.leaves.proofs.Units.{Top, pow-under-Top, mag, fin-val, fin-under-Top, lt-val}
 
 abbrev pub number : Float → Bool
 number x = not (isNan x)
+
+pub finite-number : (x : Float) → T (isFinite x) → T (number x)
+unfolding isFinite isNan
+finite-number nan f = f
+finite-number (inf s) f = tt
+finite-number (fin s m e) f = tt
 
 -- a value's size in units above Top or below it; an infinity's is at an end, NaN's is 0
 unfoldable pub key : Float → ℕ

@@ -5,7 +5,7 @@ use mathlib.Core.Bool.{true, false}
 use mathlib.Core.List.{List, [], _∷_, _++_}
 use Prim.Native.Nat.{ℕ}
 use lib.IntN.{pos, negsuc}
-use lib.Ieee.{nan, inf, fin, binary64, add, sub, mul, div, le, eq, ofInt, ofBits, toBits, round}
+use lib.Ieee.{nan, inf, fin, binary64, sub, mul, div, le, ofInt, ofBits, toBits}
 use Rattle.leaves.specs.Numbers.{isFinite, abs, larger}
 use Rattle.leaves.specs.Loops.{loop, sumTo, amaxTo, firstTo, tab, fill}
 use Rattle.leaves.specs.Shift.{shift}
@@ -51,7 +51,7 @@ text-6 =
 
 -- what a computed case unfolds
 unfoldable computed : ℕ
-unfolding marking examined readPaper isQuestion sheet kinds taken starts little outline wellFormed shapeFits settingsFit takes present placeIn answerOf columns asked settingsOf estimateOf shrinkageOf regularizationOf adjustedCovariance settle first adjustedOrder opening ofGiven ofSettings notFinite badRegularization badShrinkage badEstimate notTheSample noCorrelation noVariance isAdjusted base covariance gram deviation mean largest constantAsset intensity adjusted shrunk regularized rows trace firstEntry allFinite loop sumTo amaxTo firstTo tab fill isFinite abs larger sqrt root sticky halfExponent radicand shift add sub mul div le eq ofInt ofBits round outcome outcomeText linesText lineText shownText shown shownAs digits unpadded glyph toBits
+unfolding marking examined readPaper isQuestion sheet kinds taken starts little outline wellFormed shapeFits settingsFit takes present placeIn answerOf columns asked settingsOf estimateOf shrinkageOf regularizationOf adjustedCovariance settle first adjustedOrder opening ofGiven ofSettings notFinite badRegularization badShrinkage badEstimate notTheSample noCorrelation noVariance isAdjusted base covariance gram deviation mean largest constantAsset intensity adjusted shrunk regularized rows trace firstEntry allFinite loop sumTo amaxTo firstTo tab fill isFinite abs larger sqrt root sticky halfExponent radicand shift sub mul div le ofInt ofBits outcome outcomeText linesText lineText shownText shown shownAs digits unpadded glyph toBits
 computed = 0
 
 pub marking-6 : marking case-6 ≡ text-6

@@ -61,8 +61,8 @@ returns c Σ d is-v is-values is-vectors =
     let A = B .before .before .before .before in
     let s = A .before .before .before .before .before .before .before .before .before .before in
     let a = s .args in
-    let ra = read (A .gather-ones .result) (omega (arith, A .gather-ones .ensures .size)) in
-    let rb = read (B .gather-means .result) (omega (arith, B .gather-means .ensures .size)) in
+    let ra = read (A .gather-ones .result) (omega arith) in
+    let rb = read (B .gather-means .result) (omega arith) in
     let root : (i : ℕ) → i < a .n → nth (a .volatilities .now) i ≡ volatility Σ i = λ i h. nth-stored (a .n) (volatility Σ) is-v i h in
     steps (a .n) (a .periods) (nth (a .means .now)) Σ (exponentAt (a .exponents .now)) d (A .gather-ones .result) (B .gather-means .result) _ _ (R .ratio .result) (D .distance .result) _
     (gathered-as (λ i h. ap (λ (x : Float). one ⊘ x) (root i h)) (λ i h. refl) (A .gather-ones .ensures))

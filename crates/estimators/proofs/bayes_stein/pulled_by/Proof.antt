@@ -24,13 +24,13 @@ max0-requires : tie.Need-max0-requires
 max0-requires c κs = search needs
 
 add-pow2-scaled : tie.Need-add-pow2-scaled
-add-pow2-scaled c = let s = c .before .before in plus-fits (s .args .b) (s .args .b) (omega (arith, s .pre .1))
+add-pow2-scaled c = let s = c .before .before in plus-fits (s .args .b) (s .args .b) (omega arith)
 
 pow2-scaled-requires : tie.Need-pow2-scaled-requires
 pow2-scaled-requires c κs = search needs
 
 sub-pow2-scaled : tie.Need-sub-pow2-scaled
-sub-pow2-scaled c = let s = c .before .before .before in minus-fits (s .args .b) (s .args .a) (omega (arith, s .pre .0, s .pre .1))
+sub-pow2-scaled c = let s = c .before .before .before in minus-fits (s .args .b) (s .args .a) (omega arith)
 
 pow2-scaled-requires-2 : tie.Need-pow2-scaled-requires-2
 pow2-scaled-requires-2 c κs = search needs
@@ -40,8 +40,8 @@ unfolding ofBits
 returns c =
     let s = c .before .before .before .before in
     let a = s .args in
-    let h : natAbs (a .b) + natAbs (a .b) < 2 ^ 31 = omega (arith, s .pre .1) in
-    let l : natAbs (a .b) + natAbs (a .a) < 2 ^ 31 = omega (arith, s .pre .0, s .pre .1) in
+    let h : natAbs (a .b) + natAbs (a .b) < 2 ^ 31 = omega arith in
+    let l : natAbs (a .b) + natAbs (a .a) < 2 ^ 31 = omega arith in
     made (a .n) (a .periods) (a .ratio) (a .squared) (a .a) (a .b) (c .before .before .before .nearest-u64-to-f64 .result) (c .before .before .max0 .result) (c .before .pow2-scaled .result) (c .pow2-scaled2 .result)
     (c .before .before .before .nearest-u64-to-f64 .ensures)
     (c .before .before .max0 .ensures)

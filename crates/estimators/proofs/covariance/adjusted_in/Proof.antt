@@ -45,7 +45,7 @@ examine-given-requires c κs = search needs
 
 -- the averaged matrix's array has room for n × n numbers
 room : (c : tie.After-examine-given) → let a = c .before .before .before .before .before .before .before .before .before .before .before .before .before .before .before .args in a .n * a .n ≤ length (c .examine-given .last .1 .1 .1 .0)
-room c = let p = c .before .before .before .before .before .before .before .before .before .before .before .before .before .before .before .pre in omega (arith, square-most (p .0 .1), p .2, c .examine-given .kept .1 .1 .1 .0)
+room c = let p = c .before .before .before .before .before .before .before .before .before .before .before .before .before .before .before .pre in omega (arith, square-most (p .0 .1))
 
 enum-known-refusal : tie.Need-enum-known-refusal
 enum-known-refusal c = search needs

@@ -47,7 +47,7 @@ sizes : (c : tie.After-enum-told) → let a = c .before .before .before .before 
 sizes c = sizes-pass _ _ _ (ap checked (c .enum-told .given .1)) (c .before .before .check-sizes .ensures)
 
 room : (c : tie.After-enum-told) → let a = c .before .before .before .before .before .before .before .args in a .side * a .side ≤ length (a .out .now)
-room c = let small = square-most (sizes c .2) in omega (arith, small, c .before .before .before .before .before .before .before .pre)
+room c = let small = square-most (sizes c .2) in omega arith
 
 mul-size : tie.Need-mul-size
 mul-size c = square-fits _ (sizes c .2)

@@ -55,7 +55,7 @@ returns-2 : tie.Need-returns-2
 returns-2 c =
     let m = c .before .before .before .before .moments-over in
     let e = c .before .before .before .before .before .exponent in
-    let k = read (e .result) (omega (arith, e .ensures .1)) ∙ e .ensures .0 ∙ ap binaryExponent (c .before .before .before .before .before .before .amax .ensures) in
+    let k = read (e .result) (omega arith) ∙ e .ensures .0 ∙ ap binaryExponent (c .before .before .before .before .before .before .amax .ensures) in
     let s = c .before .before .before .before .before .before .before .before .before .before .before .before .before .before in
     let a = s .args in
     c .before .before .shrink .ensures

@@ -76,7 +76,7 @@ returns c =
     let l = c .before .before .loop in
     let a = c .before .before .before .before .args in
     let h : natAbs (o .result) ≤ twoExponents = rw (o .ensures) (l .inv .2) in
-    rw (read (o .result) (omega (arith, h))) (o .ensures ∙ ap orZero (loop-end (step (a .xs .now) (a .exponents .now)) (l .i) (length (a .xs .now)) none (largestOf (l .largest)) (l .inv .1) (omega arith)), h)
+    rw (read (o .result) (omega arith)) (o .ensures ∙ ap orZero (loop-end (step (a .xs .now) (a .exponents .now)) (l .i) (length (a .xs .now)) none (largestOf (l .largest)) (l .inv .1) (omega arith)), h)
 
 pub common-exponent-spec : {M : Type 1} → statement M
 common-exponent-spec = tie.close (tie.spec Inv-loop μ-loop loop-holds mul-with-exponent shared-slice-read-with-exponent mul-with-exponent-2 shared-slice-copy-out-with-exponent with-exponent-requires add-i loop-less loop-again or-zero-requires returns)

@@ -42,7 +42,7 @@ sub-pow2-scaled : tie.Need-sub-pow2-scaled Inv-loop μ-loop
 sub-pow2-scaled c = let s = c .before .before .before .before .before in neg-fits (exponentAt (s .args .exponents .now) (c .before .before .before .loop .i)) (omega (arith, s .pre .1 (c .before .before .before .loop .i) (omega arith)))
 
 sub-pow2-scaled-2 : tie.Need-sub-pow2-scaled-2 Inv-loop μ-loop
-sub-pow2-scaled-2 c = let s = c .before .before .before .before .before in both-fits (exponentAt (s .args .exponents .now) (c .before .before .before .loop .i)) (s .args .e) (omega (arith, s .pre .1 (c .before .before .before .loop .i) (omega arith), s .pre .2))
+sub-pow2-scaled-2 c = let s = c .before .before .before .before .before in both-fits (exponentAt (s .args .exponents .now) (c .before .before .before .loop .i)) (s .args .e) (omega (arith, s .pre .1 (c .before .before .before .loop .i) (omega arith)))
 
 pow2-scaled-requires : tie.Need-pow2-scaled-requires Inv-loop μ-loop
 pow2-scaled-requires c κs = search needs
@@ -65,7 +65,7 @@ loop-again c =
     let l = c .before .before .before .before .loop in
     let x = exponentAt (s .args .exponents .now) (l .i) in
     let e = s .args .e in
-    let k = both-read x e (omega (arith, s .pre .1 (l .i) (omega arith), s .pre .2)) ∙ ap (λ (z : ℤ). negℤ x -ℤ z) (sym (read e (omega (arith, s .pre .2)))) in
+    let k = both-read x e (omega (arith, s .pre .1 (l .i) (omega arith))) ∙ ap (λ (z : ℤ). negℤ x -ℤ z) (sym (read e (omega arith))) in
     filled-more (l .inv) (omega arith) (omega arith) (c .pow2-scaled .ensures ∙ (λ t. pow2Scaled (filled-here nan (l .inv) (omega arith) (omega arith) t) (k t)))
 
 same-length : tie.Need-same-length Inv-loop μ-loop
@@ -73,7 +73,7 @@ same-length c = search needs
 
 returns : tie.Need-returns Inv-loop μ-loop
 unfolding gathered
-returns c = rw (read (c .before .before .before .args .e) (omega (arith, c .before .before .before .pre .2))) at (filled-whole (c .before .loop .inv) (omega arith) refl)
+returns c = rw (read (c .before .before .before .args .e) (omega arith)) at (filled-whole (c .before .loop .inv) (omega arith) refl)
 
 pub scale-spec : {M : Type 1} → statement M
 scale-spec = tie.close (tie.spec Inv-loop μ-loop loop-holds mul-pow2-scaled slice-read-pow2-scaled mul-pow2-scaled-2 shared-slice-copy-out-pow2-scaled sub-pow2-scaled sub-pow2-scaled-2 pow2-scaled-requires mul-out slice-write-out add-i loop-less loop-again same-length returns)

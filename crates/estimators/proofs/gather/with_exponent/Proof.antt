@@ -37,7 +37,7 @@ exponent-requires : tie.Need-exponent-requires
 exponent-requires c κs = search needs
 
 sub-larger : tie.Need-sub-larger
-sub-larger c = minus-fits (c .exponent .result) (c .before .before .args .e) (omega (arith, c .exponent .ensures .1, c .before .before .pre .0))
+sub-larger c = minus-fits (c .exponent .result) (c .before .before .args .e) (omega arith)
 
 larger-requires : tie.Need-larger-requires
 larger-requires c κs = search needs
@@ -47,7 +47,7 @@ unfolding ofBits
 returns-2 c =
     let b = c .before .exponent in
     let s = c .before .before .before in
-    let r = minus-read (b .result) (s .args .e) (omega (arith, b .ensures .1, s .pre .0)) in
+    let r = minus-read (b .result) (s .args .e) (omega arith) in
     other (largestOf (s .args .largest)) (s .args .x) (s .args .e) (b .result) (c .before .before .if1 .left) (b .ensures .0) (s .pre .0) (b .ensures .1) (s .pre .1) _ (rw r at (c .larger .ensures))
 
 pub with-exponent-spec : {M : Type 1} → statement M

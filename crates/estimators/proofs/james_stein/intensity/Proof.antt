@@ -38,10 +38,10 @@ spread-requires : tie.Need-spread-requires
 spread-requires c κs = search needs
 
 add-pow2-scaled : tie.Need-add-pow2-scaled
-add-pow2-scaled c = let e = c .before .before .before .exponent in plus-fits (e .result) (e .result) (omega (arith, e .ensures .1))
+add-pow2-scaled c = let e = c .before .before .before .exponent in plus-fits (e .result) (e .result) (omega arith)
 
 sub-pow2-scaled : tie.Need-sub-pow2-scaled
-sub-pow2-scaled c = let e = c .before .before .before .exponent in rw (read (e .result) (omega (arith, e .ensures .1))) (neg-fits (e .result +ℤ e .result) (omega (arith, e .ensures .1, size-plus (e .result) (e .result))))
+sub-pow2-scaled c = let e = c .before .before .before .exponent in rw (read (e .result) (omega arith)) (neg-fits (e .result +ℤ e .result) (omega (arith, size-plus (e .result) (e .result))))
 
 pow2-scaled-requires : tie.Need-pow2-scaled-requires
 pow2-scaled-requires c κs = search needs
@@ -60,9 +60,9 @@ returns c =
     let b = c .before .before .before .before .before .before .before .before .before in
     let a = b .args in
     let p = b .pre in
-    let h : natAbs (e .result) < 2 ^ 31 = omega (arith, e .ensures .1) in
+    let h : natAbs (e .result) < 2 ^ 31 = omega arith in
     let z = read (e .result) h in
-    let k = neg-read (e .result +ℤ e .result) (omega (arith, e .ensures .1, size-plus (e .result) (e .result))) in
+    let k = neg-read (e .result +ℤ e .result) (omega (arith, size-plus (e .result) (e .result))) in
     answer (a .n) (momentsOf (a .means .now) (a .covariance .now) (a .periods)) (a .values .now) (a .target) (a .largest) (p .4) (p .5) (e .result) (e .ensures .0) (t .result) (l .result) (q .result) (y .result) (c .clamp01 .result)
     (t .ensures)
     (rw (p .3) at (l .ensures))

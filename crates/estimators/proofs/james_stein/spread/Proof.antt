@@ -57,7 +57,7 @@ returns : tie.Need-returns Inv-loop μ-loop
 unfolding spread
 returns c =
     let a = c .before .before .before .args in
-    rw (neg-read (a .shift) (omega (arith, c .before .before .before .pre))) at (at-end (λ k. sumTo k (square (a .means .now) (a .target) (toZ w32 (ofZ w32 (pos 0 -ℤ toZ w32 (ofZ w32 (a .shift))))))) _ _ _ (c .before .loop .inv .1) (c .before .loop .inv .0) (c .loop-test .left))
+    rw (neg-read (a .shift) (omega arith)) at (at-end (λ k. sumTo k (square (a .means .now) (a .target) (toZ w32 (ofZ w32 (pos 0 -ℤ toZ w32 (ofZ w32 (a .shift))))))) _ _ _ (c .before .loop .inv .1) (c .before .loop .inv .0) (c .loop-test .left))
 
 pub spread-spec : {M : Type 1} → statement M
 spread-spec = tie.close (tie.spec Inv-loop μ-loop sub-down loop-holds mul-pow2-scaled shared-slice-read-pow2-scaled pow2-scaled-requires add-i loop-less loop-again returns)

@@ -45,10 +45,10 @@ largest-exponent-requires : tie.Need-largest-exponent-requires
 largest-exponent-requires c κs = search lent
 
 sub-factors : tie.Need-sub-factors
-sub-factors c = let e = c .before .largest-exponent in neg-fits (e .result) (omega (arith, e .ensures .0))
+sub-factors c = let e = c .before .largest-exponent in neg-fits (e .result) (omega arith)
 
 factors-requires : tie.Need-factors-requires
-factors-requires c κs = let e = c .before .largest-exponent in rw (neg-read (e .result) (omega (arith, e .ensures .0)), size-neg) (e .ensures .0)
+factors-requires c κs = let e = c .before .largest-exponent in rw (neg-read (e .result) (omega arith), size-neg) (e .ensures .0)
 
 of-rows-requires : tie.Need-of-rows-requires
 of-rows-requires c κs = search lent
@@ -58,7 +58,7 @@ returns c =
     let a = c .before .before .before .before .before .before .before .before .before .before .before .before .before .before .args in
     let e = c .before .before .before .before .before .largest-exponent in
     let f = c .before .before .before .factors in
-    answer (a .target) (a .periods) (a .n) (a .r .now) (c .before .before .before .before .before .before .before .before .before .before .means2 .ensures) (e .result) (e .ensures .1) (f .result .near) (f .result .far) (rw (neg-read (e .result) (omega (arith, e .ensures .0))) at (f .ensures)) (c .before .of-rows .ensures)
+    answer (a .target) (a .periods) (a .n) (a .r .now) (c .before .before .before .before .before .before .before .before .before .before .means2 .ensures) (e .result) (e .ensures .1) (f .result .near) (f .result .far) (rw (neg-read (e .result) (omega arith)) at (f .ensures)) (c .before .of-rows .ensures)
 
 pub ledoit-wolf-spec : {M : Type 1} → statement M
 ledoit-wolf-spec = tie.close (tie.spec array-borrow-prefix-means slice-aggregate-centers means-requires array-borrow-prefix-sizes slice-aggregate-largest-exponent largest-exponent-requires sub-factors factors-requires of-rows-requires returns)

@@ -26,16 +26,16 @@ of-returns-requires : tie.Need-of-returns-requires
 of-returns-requires c κs =
     let a = c .before .before .args in
     let p = c .before .before .pre in
-    let k = read (a .exponent) (omega (arith, p .3)) in
+    let k = read (a .exponent) (omega arith) in
     let h = length-take-le _ _ (p .1) in
-    (p .0, p .1, p .2, h, λ i l. omega (arith, p .3, ap natAbs (part-at (toZ w32 (ofZ w32 (a .exponent))) maxSide (a .n) (p .1) (pos 0) i (rw h at l) ∙ k)))
+    (p .0, p .1, p .2, h, λ i l. omega (arith, ap natAbs (part-at (toZ w32 (ofZ w32 (a .exponent))) maxSide (a .n) (p .1) (pos 0) i (rw h at l) ∙ k)))
 
 returns : tie.Need-returns
 unfolding scaled
 returns c =
     let a = c .before .before .before .args in
     let p = c .before .before .before .pre in
-    let k = read (a .exponent) (omega (arith, p .3)) in
+    let k = read (a .exponent) (omega arith) in
     c .of-returns .ensures
     ∙ moments-same (a .n) (a .periods) _ _ (λ t i ht b j. pow2Scaled (at (a .r .now) (a .n) t i) (negℤ ((part-at (toZ w32 (ofZ w32 (a .exponent))) maxSide (a .n) (p .1) (pos 0) i b ∙ k) j)))
 

@@ -18,7 +18,7 @@ array-borrow-prefix-units : tie.Need-array-borrow-prefix-units
 array-borrow-prefix-units c = search needs
 
 slice-aggregate-put-moments : tie.Need-slice-aggregate-put-moments
-slice-aggregate-put-moments c = sym (length-take-le _ _ (omega (arith, c .before .before .pre .1)))
+slice-aggregate-put-moments c = sym (length-take-le _ _ (omega arith))
 
 array-borrow-prefix-mean : tie.Need-array-borrow-prefix-mean
 array-borrow-prefix-mean c = search needs

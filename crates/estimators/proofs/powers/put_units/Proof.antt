@@ -39,7 +39,7 @@ factors-requires c κs =
     let i = c .before .before .loop .i in
     let e = exponentAt (s .args .exponents .now) i in
     let h = s .pre .1 i (omega arith) in
-    rw (neg-read e (omega (arith, h)), size-neg e) h
+    rw (neg-read e (omega arith), size-neg e) h
 
 mul-out : tie.Need-mul-out Inv-loop μ-loop
 mul-out c = search needs
@@ -54,7 +54,7 @@ mul-out-2 : tie.Need-mul-out-2 Inv-loop μ-loop
 mul-out-2 c = search needs
 
 slice-write-out-2 : tie.Need-slice-write-out-2 Inv-loop μ-loop
-slice-write-out-2 c = simp length-set (omega (arith, c .before .before .before .loop .inv .1))
+slice-write-out-2 c = simp length-set (omega arith)
 
 add-i : tie.Need-add-i Inv-loop μ-loop
 add-i c = search needs
@@ -72,7 +72,7 @@ loop-again c =
     let h = s .pre .1 (l .i) (omega arith) in (
       omega arith,
       search needs,
-      units-more _ (l .i) es (l .out) _ _ (omega arith) (l .inv .1) (l .inv .2) (rw (neg-read e (omega (arith, h))) at (f .ensures)),
+      units-more _ (l .i) es (l .out) _ _ (omega arith) (l .inv .1) (l .inv .2) (rw (neg-read e (omega arith)) at (f .ensures)),
     )
 
 same-length : tie.Need-same-length Inv-loop μ-loop

@@ -75,7 +75,7 @@ put-row-requires c κs =
     let i = c .before .before .before .loop in
     let p = c .before .before .before .before .before .before .before .pre in
     let long = row-long _ _ (i .out) (i .inv .0) (c .before .before .loop-test .taken) in
-    (omega (arith, long), tab-long _ _ _ (p .2) ∙ sym long)
+    (omega arith, tab-long _ _ _ (p .2) ∙ sym long)
 
 add-i : tie.Need-add-i Inv-loop μ-loop
 add-i c = search needs

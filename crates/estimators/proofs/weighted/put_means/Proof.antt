@@ -17,10 +17,10 @@ array-borrow-prefix-buffer : tie.Need-array-borrow-prefix-buffer
 array-borrow-prefix-buffer c = search needs
 
 slice-aggregate-units : tie.Need-slice-aggregate-units
-slice-aggregate-units c = sym (length-take-le _ _ (omega (arith, c .before .before .before .before .pre .1)))
+slice-aggregate-units c = sym (length-take-le _ _ (omega arith))
 
 put-units-requires : tie.Need-put-units-requires
-put-units-requires c κs = let h = c .before .before .before .before .before .pre in (h .2, h .3, length-take-le _ _ (omega (arith, h .1)))
+put-units-requires c κs = let h = c .before .before .before .before .before .pre in (h .2, h .3, length-take-le _ _ (omega arith))
 
 array-share-prefix-zeros : tie.Need-array-share-prefix-zeros
 array-share-prefix-zeros c = search needs

@@ -1,11 +1,10 @@
 -- `paper::floats::floats` meets its contract: the numbers of a kind stand where the counts before it end.
-use mathlib.Core.Path.{_≡_, refl}
+use mathlib.Core.Path.{refl}
 use Prim.Native.Nat.{_+_, _≤_, _<_}
 use native.Mathlib.Nat.{le-trans, min-le-left}
 use native.Mathlib.Omega.{arith}
-use lib.ListN.{length, getD, take, length-take}
+use lib.ListN.{length, getD, length-take}
 use borrow.Author.Needs.{needs}
-use Rattle.paper.specs.Inner.{total}
 use Rattle.paper.proofs.Table.{how-many}
 use Rattle.paper.proofs.Pieces.{piece-in, floats-filled}
 use Rattle.paper.proofs.floats.floats.Statement.{statement}
