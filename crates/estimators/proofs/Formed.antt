@@ -11,7 +11,7 @@ use Rattle.leaves.specs.Loops.{tab, nth}
 use Rattle.leaves.proofs.Loops.{tab-ext}
 use Rattle.leaves.proofs.Lists.{tab-then}
 use Rattle.matrix.specs.Matrix.{at}
-use Rattle.matrix.proofs.Replaced.{part-nth}
+use Rattle.matrix.proofs.ByRows.{part-nth}
 use Rattle.estimators.specs.Rows.{inUnit, formed, rowsOf}
 use Rattle.estimators.specs.declared.rows.Row.{Row}
 

@@ -12,12 +12,11 @@ use lib.Ieee.{Float, nan}
 use borrow.Author.Tests.{ne-eqb, lt-ltb, le-ltb, ltb-true, eqb-true, eqb-false}
 use Rattle.leaves.specs.Loops.{nth}
 use Rattle.leaves.proofs.Whole.{le-or-lt}
-use Rattle.leaves.proofs.Cells.{row}
+use Rattle.leaves.proofs.Cells.{row, same-row, same-column}
 use Rattle.matrix.specs.Matrix.{at, rows}
 use Rattle.matrix.proofs.Stored.{rows-is}
-use Rattle.matrix.proofs.Replaced.{passed, passed-before, passed-here, passed-more}
+use Rattle.matrix.proofs.ByRows.{passed, passed-before, passed-here, passed-more}
 use Rattle.matrix.proofs.OfStored.{at-stored}
-use Rattle.matrix.proofs.Cells.{same-row, same-column}
 use Rattle.estimators.specs.Rows.{mirrored, mirroredTo}
 
 module _ (n i : ℕ) (old : List Float) where

@@ -1,5 +1,5 @@
 -- Laws of the calls' opening, 1 to 6: what a call answers, by the answers that the code has of its checks. A call looks only at as much of the answer
--- slice as its answer fills. Assumes nothing.
+-- slice as its answer fills, and leaves it as long as it was. Assumes nothing.
 use mathlib.Core.Path.{_≡_, refl, sym, ap, _∙_}
 use mathlib.Core.List.{List, [], _∷_, _++_}
 use Prim.Native.Nat.{ℕ, _≤_}
@@ -31,15 +31,15 @@ module _ (slice : List Float) (accepted : Answered) {k : Check} where
   unfolding settle
   settle-accepted e = ap (λ (k : Check). settle k slice accepted) e
 
--- ---- the answer of m numbers leaves the slice as long as it was
+-- ---- the answer of m numbers
 
+-- it leaves the slice as long as it was
 pub settle-length : (k : Check) (a : Answer) (m : ℕ) (f : ℕ → Float) (slice : List Float) → (k ≡ passes → m ≤ length slice) → length (settle k slice (answered a (fill m f slice)) .slice) ≡ length slice
 unfolding settle
 settle-length passes a m f slice room = length-fill f m slice (room refl)
 settle-length (refuses c) a m f slice room = refl
 
--- ---- in a slice of just as many, and in a longer one
-
+-- in a slice of just as many, and in a longer one
 settle-part : (k : Check) (a b : Answer) (m : ℕ) (f : ℕ → Float) (slice p : List Float) → m ≤ length slice
     → answered b p ≡ settle k (take m slice) (answered a (fill m f (take m slice))) → answered b (p ++ drop m slice) ≡ settle k slice (answered a (fill m f slice))
 unfolding settle fill

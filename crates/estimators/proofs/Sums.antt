@@ -15,7 +15,7 @@ use Rattle.leaves.proofs.Cells.{row}
 use Rattle.leaves.proofs.Lists.{nth-stored, tab-long}
 use Rattle.matrix.specs.Matrix.{Matrix, at, rows}
 use Rattle.matrix.proofs.Stored.{rows-ext}
-use Rattle.matrix.proofs.Replaced.{part-nth, replaced, row-replaced}
+use Rattle.matrix.proofs.ByRows.{part-nth, replaced, row-replaced}
 use Rattle.matrix.proofs.OfStored.{rows-then}
 use Rattle.estimators.specs.Rows.{factor, joined, summand, start, plus, summed, Sized}
 use Rattle.estimators.specs.declared.tables.Term.{Term}

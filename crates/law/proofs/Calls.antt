@@ -52,8 +52,8 @@ module _ (r : List Float) (n P : ℕ) where
   abbrev pub centre : Float
   centre = James.centre n inUnit
 
-  abbrev pub unequal : ℕ → Decomposition
-  unequal limit = James.shrunk limit P n (at r n) .decomposition
+  abbrev pub jamesDecomposition : ℕ → Decomposition
+  jamesDecomposition limit = James.shrunk limit P n (at r n) .decomposition
 
   abbrev pub jamesBy : List Float → Decomposition → Check → Answered
   jamesBy slice d c =
@@ -61,7 +61,7 @@ module _ (r : List Float) (n P : ℕ) where
       settle (first (opening r n P n slice ++ c ∷ when (not (d .found)) Singular ∷ [])) slice
       (answered (Shrunk α (pow2Scaled centre unit) (d .sweeps) (d .rotations)) (fill n (λ i. pow2Scaled (towards α centre (nth (inUnit .mean) i)) unit) slice))
 
-  pub james-is : (limit : ℕ) (slice : List Float) → jamesSteinMean r n P limit slice ≡ jamesBy slice (unequal limit) (sweepLimit limit)
+  pub james-is : (limit : ℕ) (slice : List Float) → jamesSteinMean r n P limit slice ≡ jamesBy slice (jamesDecomposition limit) (sweepLimit limit)
   unfolding jamesSteinMean jamesSteinOrder
   james-is limit slice = refl
 

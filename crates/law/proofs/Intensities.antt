@@ -37,7 +37,7 @@ use Rattle.law.proofs.JamesStein.{clamp-cases, james-cases}
 use Rattle.law.proofs.Pull.{pull-unit}
 use Rattle.law.proofs.Chain.{pass-must}
 use Rattle.law.proofs.Passing.{pass-opening, settled}
-use Rattle.law.proofs.Calls.{ofAnswer, covariance-is, inUnit, centre, unequal, james-is, bayes-is}
+use Rattle.law.proofs.Calls.{ofAnswer, covariance-is, inUnit, centre, jamesDecomposition, james-is, bayes-is}
 use Rattle.law.proofs.Given.{average}
 
 abbrev pub Share : Float → Type 0
@@ -94,5 +94,5 @@ reported r n P (Law.adjusted s given side) slice =
     second h = unfold ofSettings in pass-cons _ _ (pass-cons _ _ h .1) .0
 reported r n P (Law.intensity F) slice = unfold ledoitWolfIntensity in settled Reported (λ c. tt) _ _ _ (λ h. ledoitWolf-share F P n (at r n))
 reported r n P (Law.weightedMean halfLife) slice = unfold exponentiallyWeightedMean in settled Reported (λ c. tt) _ slice _ (λ h. tt)
-reported r n P (Law.jamesStein limit) slice = rw (james-is r n P limit slice) (settled Reported (λ c. tt) _ slice _ (λ h. james-share n (inUnit r n P) (centre r n P) (unequal r n P limit)))
+reported r n P (Law.jamesStein limit) slice = rw (james-is r n P limit slice) (settled Reported (λ c. tt) _ slice _ (λ h. james-share n (inUnit r n P) (centre r n P) (jamesDecomposition r n P limit)))
 reported r n P (Law.bayesStein limit) slice = rw (bayes-is r n P limit slice) (settled Reported (λ c. tt) (first (opening r n P n slice ++ _)) slice _ (λ h. bayes-share r limit n P (pass-opening r n P n slice (pass-append (opening r n P n slice) _ h .0) .0)))

@@ -35,7 +35,7 @@ use Rattle.law.specs.Law.{Question, ask}
 use Rattle.law.proofs.Columns.{found, taken}
 use Rattle.law.proofs.Chain.{pass-must}
 use Rattle.law.proofs.Passing.{Accepted, all-pass}
-use Rattle.law.proofs.Calls.{ofAnswer, covarianceBy, covariance-is, inUnit, centre, unequal, jamesBy, james-is, bayesBy, bayes-is}
+use Rattle.law.proofs.Calls.{ofAnswer, covarianceBy, covariance-is, inUnit, centre, jamesDecomposition, jamesBy, james-is, bayesBy, bayes-is}
 use Rattle.law.proofs.Given.{average}
 
 -- ---- the check of the limit
@@ -79,7 +79,7 @@ module _ (r : List Float) (n P : ℕ) (slice : List Float) where
 
   james-limit : (limit limit′ : ℕ) → limit ≤ limit′ → limit′ ≤ maxSweeps → Accepted (jamesSteinMean r n P limit slice) → jamesSteinMean r n P limit′ slice ≡ jamesSteinMean r n P limit slice
   james-limit limit limit′ l h a =
-      let f = james-found (unequal r n P limit) (sweepLimit limit) (subst Accepted (james-is r n P limit slice) a) in
+      let f = james-found (jamesDecomposition r n P limit) (sweepLimit limit) (subst Accepted (james-is r n P limit slice) a) in
       let m = inUnit r n P in
       james-is r n P limit′ slice ∙ ap₂ (jamesBy r n P slice) (unequal-larger limit limit′ n (largestDeviation n (nth (m .mean)) (centre r n P)) (at (m .covariance) n) l f) (same-limit limit limit′ l h) ∙ sym (james-is r n P limit slice)
 

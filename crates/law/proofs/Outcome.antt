@@ -50,11 +50,11 @@ IsRefused (Shrunk α μ₀ s r) = ⊥
 
 settle-kept : (needed : ℕ) (old : List Float) (A : Answer) (f : ℕ → Float) (c : Check) → (IsRefused A → ⊥) → (c ≡ passes → needed ≤ length old) → Kept needed old (settle c old (answered A (fill needed f old)))
 unfolding settle
-settle-kept needed old A f k other room = record { refused = kept k .0; later = kept k .1; long = settle-length k A needed f old room }
+settle-kept needed old A f k other room = record { refused = left k .0; later = left k .1; long = settle-length k A needed f old room }
   where
-    kept : (k : Check) → let w = settle k old (answered A (fill needed f old)) in ((c : Refusal) → w .answer ≡ Refused c → w .slice ≡ old) × (drop needed (w .slice) ≡ drop needed old)
-    kept passes = (λ c e. absurd (other (subst IsRefused (sym e) tt)), unfold fill in drop-at (tab needed f) (drop needed old) needed (length-tab f needed))
-    kept (refuses c) = (λ c e. refl, refl)
+    left : (k : Check) → let w = settle k old (answered A (fill needed f old)) in ((c : Refusal) → w .answer ≡ Refused c → w .slice ≡ old) × (drop needed (w .slice) ≡ drop needed old)
+    left passes = (λ c e. absurd (other (subst IsRefused (sym e) tt)), unfold fill in drop-at (tab needed f) (drop needed old) needed (length-tab f needed))
+    left (refuses c) = (λ c e. refl, refl)
 
 -- whatever is checked after the opening
 opened-kept : (r : List Float) (n P needed : ℕ) (old : List Float) (A : Answer) (f : ℕ → Float) (cs : List Check) → (IsRefused A → ⊥)

@@ -1,5 +1,5 @@
 -- Where the numbers of a table stored row by row stand: row t, column j at t * n + j, of n columns. Assumes nothing.
-use mathlib.Core.Path.{_≡_, refl, subst}
+use mathlib.Core.Path.{_≡_, refl, sym, ap, _∙_, subst}
 use Prim.Native.Nat.{ℕ, zero, suc, _+_, _*_, _/_, _%_, _≤_, _<_, zero-le, suc-le-suc}
 use native.Mathlib.Nat.{lt-of-lt-of-le, mul-zero, mul-le-mul-right, mod-lt, div-lt-iff-lt-mul, div-mul-le-self, not-suc-le-zero}
 use native.Mathlib.Omega.{arith}
@@ -28,6 +28,13 @@ row-below k m n h = div-lt-iff-lt-mul (has-column k m n h) .1 h
 
 pub col-below : (k m n : ℕ) → k < m * n → k % n < n
 col-below k m n h = mod-lt k (has-column k m n h)
+
+-- two cells are one only if their rows and columns are
+pub same-row : (n i k j m : ℕ) → j < n → m < n → k * n + j ≡ i * n + m → k ≡ i
+same-row n i k j m hj hm e = sym (digits-div k hj) ∙ ap (λ (a : ℕ). a / n) e ∙ digits-div i hm
+
+pub same-column : (n i k j m : ℕ) → j < n → m < n → k * n + j ≡ i * n + m → j ≡ m
+same-column n i k j m hj hm e = sym (digits-mod k hj) ∙ ap (λ (a : ℕ). a % n) e ∙ digits-mod i hm
 
 -- the numbers of a column lie within the table
 pub column-in : (size n j t rows : ℕ) → rows ≡ columnLength size n j → t < rows → t * n + j < size

@@ -4,9 +4,9 @@ use mathlib.Core.Path.{_≡_, refl, sym, ap, _∙_}
 use mathlib.Core.Logic.{_⊎_, inl, inr, _≢_}
 use mathlib.Core.Bool.{Bool, true, false, cond}
 use mathlib.Core.List.{List}
-use Prim.Native.Nat.{ℕ, zero, suc, _+_, _*_, _/_, _%_, _≤_, _<_}
+use Prim.Native.Nat.{ℕ, zero, suc, _+_, _*_, _≤_, _<_}
 use native.Mathlib.Nat.{le-refl, le-trans, le-suc, le-of-suc-le-suc, lt-trans, ne-of-lt, eq-or-lt-of-le, not-suc-le-zero}
-use lib.Arith.{digits-lt, digits-div, digits-mod}
+use lib.Arith.{digits-lt}
 use lib.Dec.{eqb}
 use lib.ListN.{length, getD, set, length-set}
 use lib.Seq.{getD-set-same, getD-set-other}
@@ -14,6 +14,7 @@ use borrow.Author.Tests.{eqb-true, eqb-false, eq-eqb, ne-eqb}
 use lib.Ieee.{Float, nan}
 use Rattle.leaves.specs.Numbers.{_⊕_, _⊖_, _⊗_}
 use Rattle.leaves.specs.Loops.{loop, nth}
+use Rattle.leaves.proofs.Cells.{same-row, same-column}
 use Rattle.matrix.specs.Matrix.{at}
 use Rattle.matrix.specs.Rotation.{turn, turnColumns}
 
@@ -38,13 +39,6 @@ two-set l a b k x y ha hb d = go (eqb k a) (eqb k b) (eqb-true k a) (eqb-false k
     go true v ea na eb nb = getD-set-other (set l a x) b k y nan (λ e. d (sym (ea refl) ∙ e)) ∙ ap (λ (k : ℕ). getD (set l a x) k nan) (ea refl) ∙ getD-set-same l a x nan ha
     go false true ea na eb nb = ap (λ (k : ℕ). getD (set (set l a x) b y) k nan) (eb refl) ∙ getD-set-same (set l a x) b y nan (rw length-set hb)
     go false false ea na eb nb = getD-set-other (set l a x) b k y nan (nb refl) ∙ getD-set-other l a k x nan (na refl)
-
--- two cells are one only if their rows and columns are
-pub same-row : (n i k j m : ℕ) → j < n → m < n → k * n + j ≡ i * n + m → k ≡ i
-same-row n i k j m hj hm e = sym (digits-div k hj) ∙ ap (λ (a : ℕ). a / n) e ∙ digits-div i hm
-
-pub same-column : (n i k j m : ℕ) → j < n → m < n → k * n + j ≡ i * n + m → j ≡ m
-same-column n i k j m hj hm e = sym (digits-mod k hj) ∙ ap (λ (a : ℕ). a % n) e ∙ digits-mod i hm
 
 -- ---- the lines of an n × n matrix, which are its rows or its columns: number j of line k stands at `index k j`
 pub record Lines (n : ℕ) (index : ℕ → ℕ → ℕ) : Type 0 where

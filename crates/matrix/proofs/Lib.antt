@@ -6,7 +6,7 @@ pub mod FilledRows
 pub mod First
 pub mod Alike
 pub mod OfStored
-pub mod Replaced
+pub mod ByRows
 pub mod Largest
 -- what the sweeps begin with
 pub mod Identity

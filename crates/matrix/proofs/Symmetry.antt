@@ -16,6 +16,7 @@ use Rattle.leaves.specs.Numbers.{_⊕_, _⊖_, _⊗_, zero⁺, half}
 use Rattle.leaves.specs.Loops.{loop}
 use Rattle.leaves.proofs.Whole.{le-or-lt}
 use Rattle.leaves.proofs.Commutative.{plus-comm}
+use Rattle.leaves.proofs.Cells.{same-row, same-column}
 use Rattle.matrix.specs.Matrix.{Matrix, at, rows, identity, product, transpose, Symmetric, divided, symmetrized}
 use Rattle.matrix.specs.Rotation.{State, tangent, cosine, turnColumns, turnRows, rotated, rotateBy, rotate, turnedBoth}
 use Rattle.matrix.specs.Jacobi.{afterSweeps, start, sweepRow}
@@ -23,7 +24,7 @@ use Rattle.matrix.specs.Inner.{state, turnedBlock, mirrored}
 use Rattle.matrix.proofs.Stored.{rows-at, rows-is}
 use Rattle.matrix.proofs.Rotated.{rotate-cases}
 use Rattle.matrix.proofs.Counts.{row-keeps, rows-keep, sweeps-keep}
-use Rattle.matrix.proofs.Cells.{turnedRow, turned-p, turned-q, turned-other, two-set, same-row, same-column, inRows, row-lines, Replaced, lines-all, length-columns, columns-at}
+use Rattle.matrix.proofs.Cells.{turnedRow, turned-p, turned-q, turned-other, two-set, inRows, row-lines, Replaced, lines-all, length-columns, columns-at}
 use Rattle.matrix.proofs.CellRows.{turned-same, length-turned-rows, turned-rows-at}
 
 -- ---- two cells of a stored matrix replaced

@@ -5,7 +5,7 @@ use borrow.Author.Needs.{needs}
 use lib.ListN.{length}
 use Rattle.leaves.specs.Loops.{nth}
 use Rattle.matrix.specs.Matrix.{at}
-use Rattle.matrix.proofs.Replaced.{passed, passed-none, passed-all, each-more}
+use Rattle.matrix.proofs.ByRows.{passed, passed-none, passed-all, each-more}
 use Rattle.estimators.specs.Rows.{plus}
 use Rattle.estimators.proofs.tables.add_rows.Statement.{statement}
 use Rattle.estimators.proofs.tables.add_rows.Tie as tie

@@ -3,7 +3,7 @@ use mathlib.Core.Path.{_≡_, _∙_}
 use Prim.Native.Nat.{_*_, _-_}
 use borrow.Author.Needs.{needs}
 use lib.ListN.{length}
-use Rattle.matrix.proofs.Replaced.{passed, passed-none, passed-all}
+use Rattle.matrix.proofs.ByRows.{passed, passed-none, passed-all}
 use Rattle.estimators.specs.Rows.{mirrored}
 use Rattle.estimators.proofs.Mirror.{mirrored-more}
 use Rattle.estimators.proofs.tables.mirror.Statement.{statement}

@@ -13,7 +13,7 @@ use Rattle.leaves.proofs.Loops.{tab-ext}
 use Rattle.leaves.proofs.Cells.{row}
 use Rattle.leaves.proofs.Lists.{nth-stored, tab-long}
 use Rattle.matrix.specs.Matrix.{Matrix, at}
-use Rattle.matrix.proofs.Replaced.{passed, passed-none, passed-all, row-long, passed-row}
+use Rattle.matrix.proofs.ByRows.{passed, passed-none, passed-all, row-long, passed-row}
 use Rattle.estimators.specs.Sample.{volatility}
 use Rattle.estimators.specs.LedoitWolf.{averageCorrelation, constantCorrelation}
 use borrow.Author.Needs.{needs}

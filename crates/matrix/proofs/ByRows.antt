@@ -1,4 +1,4 @@
--- A stored matrix of which a part is replaced: a row from a column on (`row-replaced`), and row by row, by a loop over the rows (`passed`). Assumes nothing.
+-- A stored matrix that is made anew row by row: one row, from a column on (`row-replaced`), and a loop over the rows (`passed`). Assumes nothing.
 use mathlib.Core.Path.{_≡_, refl, sym, ap, _∙_, subst}
 use mathlib.Core.List.{List, _++_}
 use mathlib.Core.Logic.{⊎-elim}
