@@ -4,7 +4,7 @@ use Prim.Native.Nat.{ℕ}
 use mathlib.Core.List.{List, [], _∷_}
 use lib.Ieee.{Float}
 use Rattle.leaves.specs.Numbers.{zero⁺}
-use Rattle.estimators.specs.Refusals.{Place, nowhere, only, entry, value, number, place}
+use Rattle.estimators.specs.Refusals.{Detail, nothing, only, entry, value, number, detail}
 use Rattle.estimators.specs.declared.Refusal.{Refusal}
 use Rattle.estimators.specs.declared.Answer.{Answer}
 use Rattle.estimators.specs.declared.Answer.the-variants.{Refused, Covariance, Intensity, Mean, Shrunk}
@@ -16,27 +16,27 @@ handed number numbers wholes = record { number = number; numbers = numbers; whol
 abbrev pub reported : ℕ → Float → Float → ℕ → ℕ → Report
 reported number x y i j = handed number (x ∷ y ∷ []) (i ∷ j ∷ [])
 
--- a refusal's place: one number, a row and a column, or an eigenvalue
-abbrev pub firstOf : Place → ℕ
-firstOf nowhere = 0
+-- a refusal's detail: one number, a row and a column, or an eigenvalue
+abbrev pub firstOf : Detail → ℕ
+firstOf nothing = 0
 firstOf (only i) = i
 firstOf (entry i j) = i
 firstOf (value x) = 0
 
-abbrev pub secondOf : Place → ℕ
-secondOf nowhere = 0
+abbrev pub secondOf : Detail → ℕ
+secondOf nothing = 0
 secondOf (only i) = 0
 secondOf (entry i j) = j
 secondOf (value x) = 0
 
-abbrev pub valueOr : Float → Place → Float
-valueOr y nowhere = y
+abbrev pub valueOr : Float → Detail → Float
+valueOr y nothing = y
 valueOr y (only i) = y
 valueOr y (entry i j) = y
 valueOr y (value x) = x
 
 abbrev pub refused : Refusal → Report
-refused c = reported (number c) (valueOr zero⁺ (place c)) zero⁺ (firstOf (place c)) (secondOf (place c))
+refused c = reported (number c) (valueOr zero⁺ (detail c)) zero⁺ (firstOf (detail c)) (secondOf (detail c))
 
 -- intensity and target, sweeps and rotations
 unfoldable pub reportOf : Answer → Report

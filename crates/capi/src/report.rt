@@ -26,7 +26,7 @@ fn field_number(field: Field) -> usize
 }
 
 fn first_of(refusal: Refusal) -> usize
-    ensures { λ r. ⌜ r ≡ Flat.firstOf (Refusals.place refusal) ⌝ }
+    ensures { λ r. ⌜ r ≡ Flat.firstOf (Refusals.detail refusal) ⌝ }
 {
     match refusal {
         Refusal::NoAssets => 0,
@@ -47,7 +47,7 @@ fn first_of(refusal: Refusal) -> usize
 }
 
 fn second_of(refusal: Refusal) -> usize
-    ensures { λ r. ⌜ r ≡ Flat.secondOf (Refusals.place refusal) ⌝ }
+    ensures { λ r. ⌜ r ≡ Flat.secondOf (Refusals.detail refusal) ⌝ }
 {
     match refusal {
         Refusal::NoAssets => 0,
@@ -68,7 +68,7 @@ fn second_of(refusal: Refusal) -> usize
 }
 
 fn value_or(otherwise: f64, refusal: Refusal) -> f64
-    ensures { λ r. ⌜ r ≡ Flat.valueOr otherwise (Refusals.place refusal) ⌝ }
+    ensures { λ r. ⌜ r ≡ Flat.valueOr otherwise (Refusals.detail refusal) ⌝ }
 {
     match refusal {
         Refusal::NoAssets => otherwise,

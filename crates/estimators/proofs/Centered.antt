@@ -18,7 +18,7 @@ use Rattle.matrix.proofs.OfStored.{at-stored}
 use Rattle.matrix.proofs.SumOver.{sum-over-ext}
 use Rattle.matrix.proofs.Largest.{amax-columns}
 use Rattle.estimators.specs.Sample.{mean, deviation, gram, scaled, volatility}
-use Rattle.estimators.specs.LedoitWolf.{apart, averageCorrelation, variation, covariation, targetVariation, error, distance, intensityBy, intensityOf, ledoitWolf, secondMoments, intensityFrom, crossVariation, distance²}
+use Rattle.estimators.specs.LedoitWolf.{apart, averageCorrelation, variation, covariation, targetCovariation, error, distance, intensityBy, intensityOf, ledoitWolf, secondMoments, intensityFrom, crossCovariation, distance²}
 use Rattle.estimators.specs.Rows.{inUnit, formed, rowsOf}
 use Rattle.estimators.specs.Powers.{Factored}
 use Rattle.estimators.specs.declared.Target.{Target}
@@ -49,10 +49,10 @@ module _ (T n : ℕ) (z z′ : Matrix) (alike : (t i : ℕ) → t < T → i < n 
     unfolding total
     total-ext = sum-over-ext n every _ _ zero⁺ variation-ext
 
-    target-ext : targetVariation T n z s ≡ targetVariation T n z′ s
-    unfolding targetVariation trace
+    target-ext : targetCovariation T n z s ≡ targetCovariation T n z′ s
+    unfolding targetCovariation trace
     target-ext =
-        ap (sumOver n apart (crossVariation (averageCorrelation n s) (volatility s) (covariation T z s))) (sum-ext n _ _ (λ i h. variation-ext i i h h))
+        ap (sumOver n apart (crossCovariation (averageCorrelation n s) (volatility s) (covariation T z s))) (sum-ext n _ _ (λ i h. variation-ext i i h h))
         ∙ sum-over-ext n apart _ _ _ (λ i j hi hj k. averageCorrelation n s ⊗ volatility s j ⊘ volatility s i ⊗ covariation-ext i j hi hj k)
 
     error-ext : (F : Target) → error F T n z s ≡ error F T n z′ s

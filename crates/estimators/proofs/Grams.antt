@@ -31,7 +31,7 @@ below-over T n m d x f {floors} {l} {y} em ey ef e =
 
 -- with the weights of l
 pub weighted-alike : (T n m : ℕ) (l : Float) (x : Matrix) {w centers roots out : List Float} {d : Float} → m ≡ T → w ≡ weights T l → d ≡ denominator T l → centers ≡ tab n (weightedMean T w x)
-    → roots ≡ tab m (λ t. sqrt (nth w t ⊘ d)) → out ≡ rows n n (gram T (rowsOf Row.Weighted n [] centers roots x)) → out ≡ rows n n (weightedCovariance T l x)
+    → roots ≡ tab m (λ t. sqrt (nth w t ⊘ d)) → out ≡ rows n n (gram T (rowsOf Row.WeightedDeviation n [] centers roots x)) → out ≡ rows n n (weightedCovariance T l x)
 unfolding weightedCovariance formed
 weighted-alike T n m l x {w} {centers} {roots} {out} {d} em ew ed ec er e =
     e ∙ rows-ext n n _ _ (gram-ext T n _ (λ t a. (x t a ⊖ weightedMean T (weights T l) x a) ⊗ sqrt (nth (weights T l) t ⊘ denominator T l)) alike)
@@ -42,5 +42,5 @@ weighted-alike T n m l x {w} {centers} {roots} {out} {d} em ew ed ec er e =
     root : (t : ℕ) → t < T → nth roots t ≡ sqrt (nth (weights T l) t ⊘ denominator T l)
     root t h = nth-stored m (λ t. sqrt (nth w t ⊘ d)) er t (omega arith) ∙ (λ k. sqrt (nth (ew k) t ⊘ ed k))
 
-    alike : (t i : ℕ) → t < T → i < n → rowsOf Row.Weighted n [] centers roots x t i ≡ (x t i ⊖ weightedMean T (weights T l) x i) ⊗ sqrt (nth (weights T l) t ⊘ denominator T l)
-    alike t i ht hi = row-bare Row.Weighted n centers roots x t i hi ∙ (λ k. (x t i ⊖ center i hi k) ⊗ root t ht k)
+    alike : (t i : ℕ) → t < T → i < n → rowsOf Row.WeightedDeviation n [] centers roots x t i ≡ (x t i ⊖ weightedMean T (weights T l) x i) ⊗ sqrt (nth (weights T l) t ⊘ denominator T l)
+    alike t i ht hi = row-bare Row.WeightedDeviation n centers roots x t i hi ∙ (λ k. (x t i ⊖ center i hi k) ⊗ root t ht k)

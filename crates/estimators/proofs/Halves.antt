@@ -20,7 +20,7 @@ use Rattle.estimators.specs.Sample.{gram}
 use Rattle.estimators.specs.LedoitWolf.{variation, covariation, distance²}
 use Rattle.estimators.specs.Rows.{factor, joined, summand, start, plus, summed, mirrored}
 use Rattle.estimators.specs.declared.tables.Term.{Term}
-use Rattle.estimators.specs.declared.tables.Term.the-variants.{Product, Square, Cube}
+use Rattle.estimators.specs.declared.tables.Term.the-variants.{Product, Variation, Covariation}
 use Rattle.estimators.proofs.Sums.{start-low, whole-sum}
 
 -- ---- half of a table
@@ -55,16 +55,16 @@ unfolding rows
 rows-over f n m x l em e = tab-then l (n * n) (λ k. f (k / n) (k % n)) (λ k v. v ⊘ x) em e
 
 module _ (s : List Float) (z : Matrix) (n m T : ℕ) (out : List Float) (x : Float) (em : m ≡ n * n) (ex : x ≡ count T) where
-  pub variation-over : (l : List Float) → Symmetric n s → out ≡ summed n (λ t. plus Square (at s n) (z t)) T → l ≡ rows n n (mirrored n out) → tab m (λ k. nth l k ⊘ x) ≡ rows n n (variation T z (at s n))
+  pub variation-over : (l : List Float) → Symmetric n s → out ≡ summed n (λ t. plus Variation (at s n) (z t)) T → l ≡ rows n n (mirrored n out) → tab m (λ k. nth l k ⊘ x) ≡ rows n n (variation T z (at s n))
   unfolding variation joined factor
   variation-over l symmetric e e′ =
-      rows-over (λ i j. sumTo T (λ t. summand Square (at s n) (z t) i j)) n m x l em
-      (e′ ∙ half-mirrored Square (at s n) n T z (λ t i j hi hj k. distance² (product-comm (z t i) (z t j) k) (symmetric i j hi hj k)) out e)
-      ∙ ap (λ (c : Float). rows n n (λ i j. sumTo T (λ t. summand Square (at s n) (z t) i j) ⊘ c)) ex
+      rows-over (λ i j. sumTo T (λ t. summand Variation (at s n) (z t) i j)) n m x l em
+      (e′ ∙ half-mirrored Variation (at s n) n T z (λ t i j hi hj k. distance² (product-comm (z t i) (z t j) k) (symmetric i j hi hj k)) out e)
+      ∙ ap (λ (c : Float). rows n n (λ i j. sumTo T (λ t. summand Variation (at s n) (z t) i j) ⊘ c)) ex
 
-  pub covariation-over : out ≡ summed n (λ t. plus Cube (at s n) (z t)) T → tab m (λ k. nth out k ⊘ x) ≡ rows n n (covariation T z (at s n))
+  pub covariation-over : out ≡ summed n (λ t. plus Covariation (at s n) (z t)) T → tab m (λ k. nth out k ⊘ x) ≡ rows n n (covariation T z (at s n))
   unfolding covariation joined factor start
   covariation-over e =
-      rows-over (λ i j. sumTo T (λ t. summand Cube (at s n) (z t) i j)) n m x out em
-      (e ∙ rows-ext n n _ (λ i j. sumTo T (λ t. summand Cube (at s n) (z t) i j)) (λ i j hi hj. whole-sum Cube (at s n) z T i j (omega arith)))
-      ∙ ap (λ (c : Float). rows n n (λ i j. sumTo T (λ t. summand Cube (at s n) (z t) i j) ⊘ c)) ex
+      rows-over (λ i j. sumTo T (λ t. summand Covariation (at s n) (z t) i j)) n m x out em
+      (e ∙ rows-ext n n _ (λ i j. sumTo T (λ t. summand Covariation (at s n) (z t) i j)) (λ i j hi hj. whole-sum Covariation (at s n) z T i j (omega arith)))
+      ∙ ap (λ (c : Float). rows n n (λ i j. sumTo T (λ t. summand Covariation (at s n) (z t) i j) ⊘ c)) ex

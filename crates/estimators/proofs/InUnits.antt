@@ -22,14 +22,14 @@ use Rattle.estimators.proofs.Samples.{unit-scaled}
 
 module _ (T n : ℕ) (x : Matrix) (es : List ℤ) (w : List Float) where
   -- the sums in the units that are stored, over the weights' sum
-  pub mean-sums : (m p : ℕ) (units centers : List Float) {out : List Float} {s : Float} → m ≡ n → p ≡ T → length units ≡ n + n → Units n es units → out ≡ tab n (λ i. sumTo T (λ t. rowsOf Row.Times n units centers w x t i))
+  pub mean-sums : (m p : ℕ) (units centers : List Float) {out : List Float} {s : Float} → m ≡ n → p ≡ T → length units ≡ n + n → Units n es units → out ≡ tab n (λ i. sumTo T (λ t. rowsOf Row.Weighted n units centers w x t i))
       → s ≡ sumTo p (nth w) → tab m (λ k. nth out k ⊘ s) ≡ tab n (λ i. scaledMean T w x i (exponentAt es i))
   unfolding rowsOf formed scaled
   mean-sums m p units centers {out} {s} em ep lu u e es′ =
-      tab-then out n (λ i. sumTo T (λ t. rowsOf Row.Times n units centers w x t i)) (λ k v. v ⊘ s) em e
+      tab-then out n (λ i. sumTo T (λ t. rowsOf Row.Weighted n units centers w x t i)) (λ k v. v ⊘ s) em e
       ∙ tab-ext _ (λ i. scaledMean T w x i (exponentAt es i)) n (λ i hi k. sums i hi k ⊘ (es′ ∙ ap (λ (p : ℕ). sumTo p (nth w)) ep) k)
     where
-      sums : (i : ℕ) → i < n → sumTo T (λ t. rowsOf Row.Times n units centers w x t i) ≡ sumTo T (λ t. nth w t ⊗ pow2Scaled (x t i) (negℤ (exponentAt es i)))
+      sums : (i : ℕ) → i < n → sumTo T (λ t. rowsOf Row.Weighted n units centers w x t i) ≡ sumTo T (λ t. nth w t ⊗ pow2Scaled (x t i) (negℤ (exponentAt es i)))
       sums i hi = sum-ext T _ _ (λ t ht k. nth w t ⊗ unit-scaled n es units x lu u t i hi k)
 
   -- each put back, where es holds the powers near the largest returns

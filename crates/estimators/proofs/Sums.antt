@@ -19,22 +19,22 @@ use Rattle.matrix.proofs.ByRows.{part-nth, replaced, row-replaced}
 use Rattle.matrix.proofs.OfStored.{rows-then}
 use Rattle.estimators.specs.Rows.{factor, joined, summand, start, plus, summed, Sized}
 use Rattle.estimators.specs.declared.tables.Term.{Term}
-use Rattle.estimators.specs.declared.tables.Term.the-variants.{Product, Square, Cube}
+use Rattle.estimators.specs.declared.tables.Term.the-variants.{Product, Variation, Covariation}
 
 -- ---- what of s is read
 
 sized-less : (term : Term) (s : List Float) (k m : ℕ) → Sized term k s → m ≤ k → Sized term m s
 sized-less Product s k m z h = tt
-sized-less Square s k m z h = omega arith
-sized-less Cube s k m z h = omega arith
+sized-less Variation s k m z h = omega arith
+sized-less Covariation s k m z h = omega arith
 
 -- ---- one row
 
 pub start-low : (term : Term) (i : ℕ) → start term i ≤ i
 unfolding start
 start-low Product i = omega arith
-start-low Square i = omega arith
-start-low Cube i = omega arith
+start-low Variation i = omega arith
+start-low Covariation i = omega arith
 
 -- row i and its first column lie within the table
 pub row-room : (term : Term) (i n from : ℕ) → i < n → from ≡ start term i → (i * n + n ≤ n * n) × (from ≤ i)
@@ -125,8 +125,8 @@ module _ (term : Term) (s : Matrix) (n : ℕ) (d : List Float) (y : ℕ → Floa
   factor-stored : (t : Term) (i : ℕ) → i < n → factor t s (nth d) i ≡ factor t s y i
   unfolding factor
   factor-stored Product i h = number i h
-  factor-stored Square i h = number i h
-  factor-stored Cube i h = ap (λ (x : Float). (x ⊗ x ⊖ s i i) ⊗ x) (number i h)
+  factor-stored Variation i h = number i h
+  factor-stored Covariation i h = ap (λ (x : Float). (x ⊗ x ⊖ s i i) ⊗ x) (number i h)
 
   plus-stored : (i j : ℕ) (v : Float) → i < n → j < n → plus term s (nth d) i j v ≡ plus term s y i j v
   unfolding plus

@@ -35,7 +35,7 @@ isGiven (Weighted halfLife) = false
 isGiven Semi = false
 isGiven (SemiBelow threshold) = false
 
--- the decomposition of a given matrix g, averaged with its transpose; nothing is done for the other estimates
+-- the decomposition of the given matrix g, which is averaged with its transpose already; nothing is done for the other estimates
 unfoldable pub decompositionOf : Settings → ℕ → Matrix → Decomposition
 decompositionOf s side g = elim (isGiven (s .estimate)) [ true ↦ decomposeGiven (s .limit) side g | false ↦ unturned 0 true ]
 
@@ -54,13 +54,13 @@ intensity (Fixed δ) T n x = δ
 intensity (LedoitWolf F) T n x = ledoitWolf F T n x
 
 -- δ F, for constant variance as (δ m) I
-unfoldable pub pull : Target → Float → ℕ → Matrix → Matrix
-pull ConstantVariance δ n b i j = δ ⊗ averageVariance n b ⊗ identity i j
-pull ConstantCorrelation δ n b i j = δ ⊗ constantCorrelation n b i j
+unfoldable pub weightedTarget : Target → Float → ℕ → Matrix → Matrix
+weightedTarget ConstantVariance δ n b i j = δ ⊗ averageVariance n b ⊗ identity i j
+weightedTarget ConstantCorrelation δ n b i j = δ ⊗ constantCorrelation n b i j
 
 -- δ F + (1 - δ) B
 unfoldable pub mixed : Target → Float → ℕ → Matrix → Matrix
-mixed F δ n b i j = pull F δ n b i j ⊕ (one ⊖ δ) ⊗ b i j
+mixed F δ n b i j = weightedTarget F δ n b i j ⊕ (one ⊖ δ) ⊗ b i j
 
 unfoldable pub shrunk : Shrinkage → Float → ℕ → Matrix → Matrix
 shrunk Unshrunk δ n b = b

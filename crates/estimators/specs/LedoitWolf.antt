@@ -49,18 +49,18 @@ unfoldable pub covariation : ℕ → Matrix → Matrix → Matrix
 covariation T z s i j = meanTo T (λ t. (z t i ⊗ z t i ⊖ s i i) ⊗ z t i ⊗ z t j)
 
 -- its share in ρ, by the average correlation r and the volatilities v
-abbrev pub crossVariation : Float → (ℕ → Float) → Matrix → Matrix
-crossVariation r v θ i j = r ⊗ v j ⊘ v i ⊗ θ i j
+abbrev pub crossCovariation : Float → (ℕ → Float) → Matrix → Matrix
+crossCovariation r v θ i j = r ⊗ v j ⊘ v i ⊗ θ i j
 
 -- ρ, the covariance of the target with the sample
-unfoldable pub targetVariation : ℕ → ℕ → Matrix → Matrix → Float
-targetVariation T n z s =
-    sumOver n apart (crossVariation (averageCorrelation n s) (volatility s) (covariation T z s)) (trace n (variation T z s))
+unfoldable pub targetCovariation : ℕ → ℕ → Matrix → Matrix → Float
+targetCovariation T n z s =
+    sumOver n apart (crossCovariation (averageCorrelation n s) (volatility s) (covariation T z s)) (trace n (variation T z s))
 
 -- the estimation error: π, less ρ for [b]
 unfoldable pub error : Target → ℕ → ℕ → Matrix → Matrix → Float
 error ConstantVariance T n z s = total n (variation T z s)
-error ConstantCorrelation T n z s = total n (variation T z s) ⊖ targetVariation T n z s
+error ConstantCorrelation T n z s = total n (variation T z s) ⊖ targetCovariation T n z s
 
 -- γ, the squared distance to the target
 unfoldable pub distance : Target → ℕ → Matrix → Float

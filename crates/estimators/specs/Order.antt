@@ -162,7 +162,7 @@ byCorrelations n largest Σ C = constantReturns n Σ largest ∷ when (not (allF
 abbrev pub notFound : Decomposition → Check
 notFound d = when (not (d .found)) Singular
 
--- 14 by their decomposition
+-- 14 by the correlations' decomposition
 abbrev pub byDecomposition : ℕ → Decomposition → List Check
 byDecomposition n d = notFound d ∷ when (singular n d) Singular ∷ []
 

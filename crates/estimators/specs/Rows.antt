@@ -11,9 +11,9 @@ use Rattle.leaves.specs.Loops.{loop, nth}
 use Rattle.matrix.specs.Matrix.{Matrix, at, rows}
 use Rattle.estimators.specs.LedoitWolf.{distance²}
 use Rattle.estimators.specs.declared.rows.Row.{Row}
-use Rattle.estimators.specs.declared.rows.Row.the-variants.{Plain, Times, Deviation, Shortfall, Weighted, Scaled}
+use Rattle.estimators.specs.declared.rows.Row.the-variants.{Plain, Weighted, Deviation, Shortfall, WeightedDeviation, Scaled}
 use Rattle.estimators.specs.declared.tables.Term.{Term}
-use Rattle.estimators.specs.declared.tables.Term.the-variants.{Product, Square, Cube}
+use Rattle.estimators.specs.declared.tables.Term.the-variants.{Product, Variation, Covariation}
 
 -- a number of column i of n times its column's unit, a power of two as two factors, where there are units
 unfoldable pub inUnit : ℕ → List Float → ℕ → Float → Float
@@ -26,10 +26,10 @@ inUnits n units x t i = inUnit n units i (x t i)
 -- a number, by its column's center and its period's weight
 unfoldable pub formed : Row → Float → Float → Float → Float
 formed Plain x c w = x
-formed Times x c w = w ⊗ x
+formed Weighted x c w = w ⊗ x
 formed Deviation x c w = x ⊖ c
 formed Shortfall x c w = min0 (x ⊖ c)
-formed Weighted x c w = (x ⊖ c) ⊗ w
+formed WeightedDeviation x c w = (x ⊖ c) ⊗ w
 formed (Scaled near far) x c w = (x ⊖ c) ⊗ near ⊗ far
 
 -- the rows of all periods
@@ -45,13 +45,13 @@ centered row n centers r = rowsOf row n [] centers [] (at r n)
 -- the summand of entry i j, from the row y: row i's factor, joined with the number of column j
 unfoldable pub factor : Term → Matrix → (ℕ → Float) → ℕ → Float
 factor Product s y i = y i
-factor Square s y i = y i
-factor Cube s y i = (y i ⊗ y i ⊖ s i i) ⊗ y i
+factor Variation s y i = y i
+factor Covariation s y i = (y i ⊗ y i ⊖ s i i) ⊗ y i
 
 unfoldable pub joined : Term → Float → Float → Float → Float
 joined Product a x s = a ⊗ x
-joined Square a x s = distance² (a ⊗ x) s
-joined Cube a x s = a ⊗ x
+joined Variation a x s = distance² (a ⊗ x) s
+joined Covariation a x s = a ⊗ x
 
 abbrev pub summand : Term → Matrix → (ℕ → Float) → Matrix
 summand term s y i j = joined term (factor term s y i) (y j) (s i j)
@@ -63,8 +63,8 @@ aligned i = i - i % 4
 -- the first column of row i that is summed up: of a symmetric table the diagonal's, or up to three before it, so that rows are whole vectors
 unfoldable pub start : Term → ℕ → ℕ
 start Product i = aligned i
-start Square i = aligned i
-start Cube i = 0
+start Variation i = aligned i
+start Covariation i = 0
 
 -- entry i j with the row y's summand added
 unfoldable pub plus : Term → Matrix → (ℕ → Float) → ℕ → ℕ → Float → Float
@@ -84,5 +84,5 @@ mirroredTo n i j old p q = cond (eqb p i) (cond (ltb q j) (at old n q p) (at old
 -- s has k numbers, where it is read
 abbrev pub Sized : Term → ℕ → List Float → Type 0
 Sized Product k s = Unit {0}
-Sized Square k s = k ≤ length s
-Sized Cube k s = k ≤ length s
+Sized Variation k s = k ≤ length s
+Sized Covariation k s = k ≤ length s

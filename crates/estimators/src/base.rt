@@ -49,7 +49,7 @@ pub(crate) fn put_base(
     }
 }
 
-// Refusal 7 for fields 3 and 4: the half-life's log in [-708, 0), the threshold finite.
+// Refusal 7 for fields 3 and 4: ln λ of the half-life in [-708, 0), the threshold finite.
 pub(crate) fn bad_estimate(estimate: Estimate) -> Check
     ensures { λ r. ⌜ checked r ≡ Order.badEstimate estimate ⌝ }
 {

@@ -57,7 +57,7 @@ pub(crate) fn variation(
 {
     let none = [0.0; 0];
     tables::sum(
-        Term::Square,
+        Term::Variation,
         row,
         r,
         n,
@@ -87,7 +87,7 @@ pub(crate) fn covariation(
 {
     let none = [0.0; 0];
     tables::sum(
-        Term::Cube,
+        Term::Covariation,
         row,
         r,
         n,

@@ -143,7 +143,7 @@ fn pull_held(m: Moments, n: usize, target: f64, limit: usize) -> Pulled
     )
 }
 
-// The means moved towards the target, in units of 2^exponent.
+// The means moved towards the target, out of the unit 2^exponent.
 fn put_means(means: &[f64], intensity: f64, target: f64, exponent: i32, out: &mut [f64])
     requires { ⌜ length (now means) ≡ length (now out) ⌝ }
     ensures { λ _. ⌜ now (out .exit) ≡ tab (length (now (out .entry))) (λ (i : ℕ). pow2Scaled (JamesStein.towards intensity target (nth (now (means .entry)) i)) exponent) ⌝ }

@@ -12,7 +12,7 @@ ghost use Rattle.matrix.specs.Matrix.{Matrix, at, rows, trace, amax, sumOver, s
 ghost use Rattle.estimators.specs.Exponents.{maxExponent};
 ghost use Rattle.estimators.specs.Sample as Sample;
 ghost use Rattle.estimators.specs.LedoitWolf as LedoitWolf;
-ghost use Rattle.estimators.specs.LedoitWolf.{apart, variation, covariation, crossVariation, intensityOf, intensityFrom, secondMoments};
+ghost use Rattle.estimators.specs.LedoitWolf.{apart, variation, covariation, crossCovariation, intensityOf, intensityFrom, secondMoments};
 ghost use Rattle.estimators.specs.Rows.{centered};
 use crate::Target;
 use crate::columns;
@@ -34,9 +34,9 @@ fn distance(s: &[f64], n: usize, work: &mut [f64]) -> f64
 }
 
 // The summands of ρ in row i, added to `sum`.
-fn add_variations(r: f64, sd: &[f64], theta: &[f64], n: usize, i: usize, sum: f64) -> f64
+fn add_covariations(r: f64, sd: &[f64], theta: &[f64], n: usize, i: usize, sum: f64) -> f64
     requires { ⌜ (i < n) × (length (now sd) ≡ n) × (length (now theta) ≡ n * n) ⌝ }
-    ensures { λ t. ⌜ t ≡ sumRow n apart (crossVariation r (nth (now (sd .entry))) (at (now (theta .entry)) n)) i sum ⌝ }
+    ensures { λ t. ⌜ t ≡ sumRow n apart (crossCovariation r (nth (now (sd .entry))) (at (now (theta .entry)) n)) i sum ⌝ }
 {
     let base = i * n;
     let mut t = sum;
@@ -49,14 +49,14 @@ fn add_variations(r: f64, sd: &[f64], theta: &[f64], n: usize, i: usize, sum: f6
 }
 
 // ρ, from the average correlation r and the volatilities.
-fn target_variation(r: f64, sd: &[f64], pi: &[f64], theta: &[f64], n: usize) -> f64
+fn target_covariation(r: f64, sd: &[f64], pi: &[f64], theta: &[f64], n: usize) -> f64
     requires { ⌜ (length (now sd) ≡ n) × (length (now pi) ≡ n * n) × (length (now theta) ≡ n * n) ⌝ }
-    ensures { λ t. ⌜ t ≡ sumOver n apart (crossVariation r (nth (now (sd .entry))) (at (now (theta .entry)) n)) (trace n (at (now (pi .entry)) n)) ⌝ }
+    ensures { λ t. ⌜ t ≡ sumOver n apart (crossCovariation r (nth (now (sd .entry))) (at (now (theta .entry)) n)) (trace n (at (now (pi .entry)) n)) ⌝ }
 {
     let mut t = matrix::sums::trace(pi, n);
     let mut i = 0;
     while i < n {
-        t = add_variations(r, sd, theta, n, i, t);
+        t = add_covariations(r, sd, theta, n, i, t);
         i += 1;
     }
     t
@@ -101,7 +101,7 @@ fn to_correlation(
     let r = targets::average_correlation(s, sd, n);
     targets::put_constant_correlation(s, r, sd, n, work);
     let gamma = distance(s, n, work);
-    let error = matrix::sums::total(pi, n) - target_variation(r, sd, pi, theta, n);
+    let error = matrix::sums::total(pi, n) - target_covariation(r, sd, pi, theta, n);
     intensity(error, periods, gamma)
 }
 

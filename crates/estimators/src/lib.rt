@@ -77,7 +77,7 @@ pub enum Field {
     SweepLimitField,
 }
 
-// Each with what is returned with it: a count of periods, a row and a column, a column, a side, an eigenvalue.
+// Each with what is returned with it: a count of periods, a row and a column, a setting, a column, a side, an eigenvalue.
 pub enum Refusal {
     NoAssets,
     TooLarge,

@@ -22,7 +22,7 @@ pub(crate) struct Moments {
     pub periods: f64,
 }
 
-// b(x), and its size.
+// b(x), which is at most `maxExponent` in size.
 pub(crate) fn exponent(x: f64) -> i32
     ensures { λ r. ⌜ (r ≡ binaryExponent x) × (natAbs r ≤ maxExponent) ⌝ }
 {

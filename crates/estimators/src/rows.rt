@@ -1,4 +1,4 @@
-// A period's row of numbers, formed from its returns. The sums of the estimators differ in their rows alone.
+// A period's row of numbers, formed from its returns. The sums of the estimators differ in their rows and in what a row adds.
 ghost use mathlib.Core.Path.{_≡_};
 ghost use Prim.Native.Nat.{ℕ, _+_, _*_, _≤_, _<_};
 ghost use lib.ListN.{length};
@@ -12,10 +12,10 @@ ghost use Rattle.estimators.specs.Rows.{inUnit, formed, rowsOf};
 // weight, or times a power of two as two factors.
 pub(crate) enum Row {
     Plain,
-    Times,
+    Weighted,
     Deviation,
     Shortfall,
-    Weighted,
+    WeightedDeviation,
     Scaled(f64, f64),
 }
 
@@ -24,10 +24,10 @@ fn entry(row: Row, x: f64, c: f64, w: f64) -> f64
 {
     match row {
         Row::Plain => x,
-        Row::Times => w * x,
+        Row::Weighted => w * x,
         Row::Deviation => x - c,
         Row::Shortfall => leaves::numbers::min0(x - c),
-        Row::Weighted => (x - c) * w,
+        Row::WeightedDeviation => (x - c) * w,
         Row::Scaled(near, far) => (x - c) * near * far,
     }
 }

@@ -18,8 +18,8 @@ use crate::vectors;
 // What a period adds to an entry: a product of two numbers of its row, the square of that product's distance from s, or a summand of θ.
 pub(crate) enum Term {
     Product,
-    Square,
-    Cube,
+    Variation,
+    Covariation,
 }
 
 // The last multiple of 4 up to i.
@@ -35,8 +35,8 @@ fn start(term: Term, i: usize) -> usize
 {
     match term {
         Term::Product => aligned(i),
-        Term::Square => aligned(i),
-        Term::Cube => 0,
+        Term::Variation => aligned(i),
+        Term::Covariation => 0,
     }
 }
 
@@ -48,8 +48,8 @@ fn factor(term: Term, i: usize, n: usize, d: &[f64], s: &[f64]) -> f64
     let x = d[i];
     match term {
         Term::Product => x,
-        Term::Square => x,
-        Term::Cube => (x * x - s[i * n + i]) * x,
+        Term::Variation => x,
+        Term::Covariation => (x * x - s[i * n + i]) * x,
     }
 }
 
@@ -62,10 +62,10 @@ fn add_terms(term: Term, a: f64, xs: &[f64], s: &[f64], from: usize, out: &mut [
         Term::Product => {
             vectors::add_times(a, xs, out);
         }
-        Term::Square => {
+        Term::Variation => {
             vectors::add_squares(a, xs, s, from, out);
         }
-        Term::Cube => {
+        Term::Covariation => {
             vectors::add_times(a, xs, out);
         }
     }
@@ -89,10 +89,10 @@ fn add_terms2(
         Term::Product => {
             vectors::add_times2(a, xs, b, ys, out);
         }
-        Term::Square => {
+        Term::Variation => {
             vectors::add_squares2(a, xs, b, ys, s, from, out);
         }
-        Term::Cube => {
+        Term::Covariation => {
             vectors::add_times2(a, xs, b, ys, out);
         }
     }

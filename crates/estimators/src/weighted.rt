@@ -95,11 +95,20 @@ fn put_means(
     let twice = n + n;
     let units = &mut buffer[..twice];
     put_units(exponents, n, units);
-    columns::sum(Row::Times, r, n, periods, units, &zeros[..n], weights, out);
+    columns::sum(
+        Row::Weighted,
+        r,
+        n,
+        periods,
+        units,
+        &zeros[..n],
+        weights,
+        out,
+    );
     vectors::divide(leaves::sums::sum(weights), out);
 }
 
-// Σ wₜ xₜ / Σ wₜ of each asset, in units of a power of two near its largest return.
+// Σ wₜ xₜ / Σ wₜ of each asset, by way of a power of two near its largest return.
 pub(crate) fn means(r: &[f64], n: usize, periods: usize, weights: &[f64], out: &mut [f64])
     requires { ⌜ (length (now r) ≡ periods * n) × (n ≤ maxSide) × (length (now weights) ≡ periods) × (length (now out) ≡ n) ⌝ }
     ensures { λ _. ⌜ now (out .exit) ≡ tab n (Weighted.weightedMean periods (now (weights .entry)) (at (now (r .entry)) n)) ⌝ }
@@ -130,7 +139,16 @@ fn covariance_in(
     put_weights(l, weights);
     means(r, n, periods, weights, centers);
     put_roots(weights, denominator(l, periods), roots);
-    gram(Row::Weighted, r, n, periods, &none, centers, roots, out);
+    gram(
+        Row::WeightedDeviation,
+        r,
+        n,
+        periods,
+        &none,
+        centers,
+        roots,
+        out,
+    );
 }
 
 pub(crate) fn covariance(l: f64, r: &[f64], n: usize, periods: usize, out: &mut [f64])

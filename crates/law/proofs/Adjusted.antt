@@ -29,7 +29,7 @@ use Rattle.matrix.proofs.Alike.{finite-same, finite-all}
 use Rattle.estimators.specs.Refusals.{Check, passes, when, first}
 use Rattle.estimators.specs.Sample.{covariance, largest, constantAsset}
 use Rattle.estimators.specs.LedoitWolf.{constantCorrelation, ledoitWolf}
-use Rattle.estimators.specs.Adjusted.{isSample, isGiven, decompositionOf, base, intensity, shrunk, regularized, isAdjusted}
+use Rattle.estimators.specs.Adjusted.{isSample, isGiven, decompositionOf, base, intensity, shrunk, regularized, isAdjusted, baseOf}
 use Rattle.estimators.specs.Adjusted as Spec
 use Rattle.estimators.specs.Order.{opening, badRegularization, badShrinkage, badEstimate, notTheSample, noCorrelation, noVariance, ofSettings, ledoitWolfOrder, adjustedOrder, byAnswer}
 use Rattle.estimators.specs.Calls.{answered, settle, ledoitWolfIntensity, adjustedCovariance}
@@ -49,7 +49,7 @@ use Rattle.law.specs.Law as Law
 use Rattle.law.proofs.Ranges.{intensityBounds, shrunkBounds}
 use Rattle.law.proofs.Numbers.{times-itself, filled-alike}
 use Rattle.law.proofs.Chain.{Chain, ends, pass-must, pass-some, chain-same, chain-test, chain-must, chain-map, chain-append, chained, parts, settled}
-use Rattle.law.proofs.Sizes.{le-not-lt}
+use Rattle.law.proofs.Sizes.{le-not-lt, unit-range, clamped-range}
 use Rattle.law.proofs.Sample.{tolerance-moved, Sampled}
 use Rattle.law.proofs.Matrices.{trace-moved, rows-moved}
 use Rattle.law.proofs.Opening.{Shape, returns, sample-moved, opening-chain}
@@ -58,7 +58,6 @@ use Rattle.law.proofs.Correlation.{sign-variance, sign-largest, above-z
 use Rattle.law.proofs.Given.{average}
 use Rattle.law.proofs.Shrinkage.{Estimated, Shrunken, Adjusted, correlation-mixed, variance-mixed, nan-mixed, Regularized}
 use Rattle.law.proofs.Shrinkage as Shrinking
-use Rattle.law.proofs.JamesStein.{unit-range, clamped-range}
 use Rattle.law.proofs.Estimates.{Based, estimate-chain}
 
 -- ---- the intensity: a number of the granted size, or NaN from Ledoit and Wolf
@@ -218,7 +217,7 @@ module _ (k : ℕ) (small : k ≤ maxPower) (r : List Float) (sizes : All (Sized
   d E H g = decompositionOf (settings E S H limit) side (average side g)
 
   abbrev estimate : Estimate → List Float → List Float → List Float
-  estimate E r g = rows n n (base E P (at r n) (average side g))
+  estimate E r g = baseOf (settings E S H limit) P n (at r n) (average side g)
 
   abbrev adjusted : Float → Estimate → Regularization → List Float → List Float → List Float
   adjusted δ E H r g = rows n n (regularized H (shrunk S δ n (at (estimate E r g) n)))

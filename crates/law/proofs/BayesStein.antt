@@ -31,16 +31,16 @@ use Rattle.law.proofs.Ranges.{returnBounds, exponentAbove}
 use Rattle.law.proofs.Chain.{Chain, ends, chain-same, chain-test, chain-must, chain-some, chained, parts, settled}
 use Rattle.law.proofs.Moments.{large, Copied, shrunk-alike, shrunkInto, Large}
 use Rattle.law.proofs.Opening.{Shape, returns, opening-chain, column}
-use Rattle.law.proofs.Columns.{constant-same, exponent-at, found, found-same, sizeOf, taken, Σ}
+use Rattle.law.proofs.Columns.{constant-same, exponent-at, unitMoments, unit-moments-same, sizeOf, taken, Σ}
 use Rattle.law.proofs.Pull.{Passed, target-fits, target-moved, intensity-same, means-moved}
 
 -- ---- the call
 module _ (k : ℕ) (small : k ≤ maxPower) (r : List Float) (sizes : All (Sized returnRange) r) (sizes' : All (Sized returnRange) (map (shift (pos k)) r)) (n P limit : ℕ) where
   abbrev w : List Float → Shrinking
-  w r = bayesStein n limit (found P n (at r n)) (exponentsOf P n (at r n))
+  w r = bayesStein n limit (unitMoments P n (at r n)) (exponentsOf P n (at r n))
 
   abbrev order : List Float → List Float → List Check
-  order r slice = let m = found P n (at r n) in bayesSteinOrder r n P limit slice (sizeOf P n (at r n)) (Σ n m) (correlations n m) (taken limit n m)
+  order r slice = let m = unitMoments P n (at r n) in bayesSteinOrder r n P limit slice (sizeOf P n (at r n)) (Σ n m) (correlations n m) (taken limit n m)
 
   pub bayes-stein-law : (slice slice' : List Float) → length slice' ≡ length slice → Large (parts n (ask r n P (Law.bayesStein limit) slice)) → Large (parts n (ask (map (shift (pos k)) r) n P (Law.bayesStein limit) slice'))
       → Alike (pos k) (parts n (ask r n P (Law.bayesStein limit) slice)) (parts n (ask (map (shift (pos k)) r) n P (Law.bayesStein limit) slice'))
@@ -51,12 +51,12 @@ module _ (k : ℕ) (small : k ≤ maxPower) (r : List Float) (sizes : All (Sized
       let a = large n (w r) slice p large₁ in
       shrunk-alike slice slice' (copied (q .0) (q .1) (a .0) (a .1) (large n (w r') slice' p' large₂ .1)))
     where
-      chain : Chain (Shape r n P × Passed limit n (found P n (at r n)) (sizeOf P n (at r n))) (order r slice) (order (map (shift (pos k)) r) slice')
+      chain : Chain (Shape r n P × Passed limit n (unitMoments P n (at r n)) (sizeOf P n (at r n))) (order r slice) (order (map (shift (pos k)) r) slice')
       chain = unfold bayesSteinOrder in
           opening-chain k small r sizes n P n slice slice' e (λ s opens.
           let R = returns k small r sizes n P s in
-          let m = found P n (at r n) in
-          let same = found-same small R in
+          let m = unitMoments P n (at r n) in
+          let same = unit-moments-same small R in
           chain-same (sweepLimit limit) refl (λ e₁.
           chain-some (constantAsset n (Σ n m) (sizeOf P n (at r n))) ZeroVariance (ap (λ (m : Moments). constantAsset n (Σ n m) (sizeOf P n (at (map (shift (pos k)) r) n))) same ∙ constant-same small R m) (λ e₂.
           chain-must (allFinite n n (correlations n m)) Singular (ap (λ (m : Moments). allFinite n n (correlations n m)) same) (λ e₃.
@@ -70,12 +70,12 @@ module _ (k : ℕ) (small : k ≤ maxPower) (r : List Float) (sizes : All (Sized
             },
           )))))))
 
-      copied : (s : Shape r n P) → Passed limit n (found P n (at r n)) (sizeOf P n (at r n)) → AtLeast meanRange (w r .intensity) → AtLeast meanRange (w r .target) → AtLeast meanRange (w (map (shift (pos k)) r) .target) → Copied k n (w r) (w (map (shift (pos k)) r))
+      copied : (s : Shape r n P) → Passed limit n (unitMoments P n (at r n)) (sizeOf P n (at r n)) → AtLeast meanRange (w r .intensity) → AtLeast meanRange (w r .target) → AtLeast meanRange (w (map (shift (pos k)) r) .target) → Copied k n (w r) (w (map (shift (pos k)) r))
       copied s q a b c =
           let r' = map (shift (pos k)) r in
           let R = returns k small r sizes n P s in
           let v : Moments → Shrinking = λ m. bayesStein n limit m (exponentsOf P n (at r' n)) in
-          let same = found-same small R in
+          let same = unit-moments-same small R in
           let s' : Shape r' n P = (s .0, s .1, s .2, s .3, length-map r (shift (pos k)) ∙ s .4) in
           let tops : (i : ℕ) → i < n → over (exponentsOf P n (at r' n) i) ≤ exponentAbove returnBounds = λ i l. rw (exponent-at P n (at r' n) i l) (column (lit≤ {m = 0} tt) (returns 0 (lit≤ tt) r' sizes' n P s') i l .small .0) in
           let c' = subst (λ (m : Moments). AtLeast meanRange (v m .target)) same c in

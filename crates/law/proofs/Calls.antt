@@ -20,7 +20,7 @@ use Rattle.estimators.specs.declared.Settings.{Settings}
 use Rattle.estimators.specs.declared.Refusal.the-variants.{Singular}
 use Rattle.estimators.specs.declared.Answer.the-variants.{Covariance, Shrunk}
 use Rattle.law.proofs.JamesStein as James
-use Rattle.law.proofs.Columns.{found, Σ, taken, sizeOf}
+use Rattle.law.proofs.Columns.{unitMoments, Σ, taken, sizeOf}
 use Rattle.law.proofs.Given.{average}
 
 -- ---- the adjusted covariance
@@ -47,7 +47,7 @@ module _ (r : List Float) (n P : ℕ) where
   unit = binaryExponent (amax P n (at r n))
 
   abbrev pub inUnit : Moments
-  inUnit = James.found P n (at r n)
+  inUnit = James.unitMoments P n (at r n)
 
   abbrev pub centre : Float
   centre = James.centre n inUnit
@@ -67,14 +67,14 @@ module _ (r : List Float) (n P : ℕ) where
 
   -- ---- the Bayes-Stein mean
   abbrev pub pullBy : Decomposition → Pull
-  pullBy d = let m = found P n (at r n) in bayesSteinPull n (m .periods) (nth (m .mean)) (Σ n m) (exponentsOf P n (at r n)) d
+  pullBy d = let m = unitMoments P n (at r n) in bayesSteinPull n (m .periods) (nth (m .mean)) (Σ n m) (exponentsOf P n (at r n)) d
 
   abbrev pub bayesBy : List Float → Decomposition → Check → Answered
   bayesBy slice d c =
-      let m = found P n (at r n) in
+      let m = unitMoments P n (at r n) in
       settle (first (opening r n P n slice ++ (c ∷ byCorrelations n (sizeOf P n (at r n)) (Σ n m) (correlations n m) ++ byDecomposition n d))) slice
       (answered (Shrunk (pullBy d .intensity) (pullBy d .target) (d .sweeps) (d .rotations)) (fill n (λ i. pulled (pullBy d) (nth (m .mean) i) (exponentsOf P n (at r n) i)) slice))
 
-  pub bayes-is : (limit : ℕ) (slice : List Float) → bayesSteinMean r n P limit slice ≡ bayesBy slice (taken limit n (found P n (at r n))) (sweepLimit limit)
+  pub bayes-is : (limit : ℕ) (slice : List Float) → bayesSteinMean r n P limit slice ≡ bayesBy slice (taken limit n (unitMoments P n (at r n))) (sweepLimit limit)
   unfolding bayesSteinMean bayesSteinOrder
   bayes-is limit slice = refl

@@ -8,16 +8,16 @@ use mathlib.Core.Option.{Option, none, some}
 use lib.IntN.{ℤ}
 use lib.Ieee.{Float}
 use borrow.Author.Tests.{not-false}
-use Rattle.estimators.specs.Refusals.{Place, number, place, Check, passes, refuses, when, whenSome, first}
+use Rattle.estimators.specs.Refusals.{Detail, number, detail, Check, passes, refuses, when, whenSome, first}
 use Rattle.estimators.specs.Calls.{Answered, settle}
 use Rattle.estimators.specs.declared.Refusal.{Refusal}
 use Rattle.estimators.proofs.Passed.{passes-not, pass-test}
 use Rattle.law.specs.Law.{compared, AnswerParts, answerParts, Alike}
 
--- both checks pass, and P holds; or both refuse with the same refusal at the same place
+-- both checks pass, and P holds; or both refuse with the same refusal at the same detail
 pub data Both (P : Type 0) : Check → Check → Type 0 where
   accepted : P → Both P passes passes
-  refused : {c c' : Refusal} → number c ≡ number c' → compared (place c) ≡ compared (place c') → Both P (refuses c) (refuses c')
+  refused : {c c' : Refusal} → number c ≡ number c' → compared (detail c) ≡ compared (detail c') → Both P (refuses c) (refuses c')
 
 pub data Chain (P : Type 0) : List Check → List Check → Type 0 where
   ends : P → Chain P [] []
@@ -40,8 +40,8 @@ module _ {P : Type 0} {cs cs' : List Check} where
       go passes = accepted tt
       go (refuses c) = refused refl refl
 
-  -- a test, with a refusal each of the same number and place
-  pub chain-when : (b : Bool) {b' : Bool} (c c' : Refusal) → b' ≡ b → number c ≡ number c' → compared (place c) ≡ compared (place c') → (b ≡ false → Chain P cs cs') → Chain P (when b c ∷ cs) (when b' c' ∷ cs')
+  -- a test, with a refusal each of the same number and detail
+  pub chain-when : (b : Bool) {b' : Bool} (c c' : Refusal) → b' ≡ b → number c ≡ number c' → compared (detail c) ≡ compared (detail c') → (b ≡ false → Chain P cs cs') → Chain P (when b c ∷ cs) (when b' c' ∷ cs')
   chain-when b c c' e i p h = next (subst (λ (z : Bool). Both (Unit {0}) (when b c) (when z c')) (sym e) (alike b)) (λ q. h (pass-test b c q))
     where
       alike : (b : Bool) → Both (Unit {0}) (when b c) (when b c')
@@ -92,4 +92,4 @@ pub settled : {P : Type 0} {c c' : Check} → Both P c c' → (k : ℤ) (n : ℕ
     → (c ≡ passes → c' ≡ passes → P → Alike k (parts n w) (parts n w')) → Alike k (parts n (settle c slice w)) (parts n (settle c' slice' w'))
 unfolding settle
 settled (accepted p) k n slice slice' w w' h = h refl refl p
-settled (refused i p) k n slice slice' w w' h = record { refusal = ap₂ (λ (i : ℕ) (p : Place). some (i, p)) i p; entries = tt; meansAndTarget = tt; intensity = tt; sweepsAndRotations = refl }
+settled (refused i p) k n slice slice' w w' h = record { refusal = ap₂ (λ (i : ℕ) (p : Detail). some (i, p)) i p; entries = tt; meansAndTarget = tt; intensity = tt; sweepsAndRotations = refl }

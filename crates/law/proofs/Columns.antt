@@ -13,7 +13,7 @@ use Rattle.leaves.specs.Numbers.{_⊗_, _⊘_, zero⁺, one, 1e-10}
 use Rattle.leaves.specs.Loops.{nth}
 use Rattle.leaves.specs.Root.{sqrt}
 use Rattle.leaves.specs.Scaling.{binaryExponent, pow2Scaled}
-use Rattle.leaves.proofs.Loops.{nth-tab}
+use Rattle.leaves.proofs.Loops.{getD-tab}
 use Rattle.leaves.proofs.First.{first-ext}
 use Rattle.leaves.proofs.Whole.{over, under}
 use Rattle.leaves.proofs.SqrtNearest.{moved-sqrt}
@@ -34,7 +34,7 @@ use Rattle.estimators.specs.BayesStein.{exponentsOf, largestIn, correlations}
 use borrow.Author.Tests.{ne-eqb}
 use Rattle.estimators.proofs.SameReturns.{moments-same}
 use Rattle.law.specs.Law.{maxPower}
-use Rattle.law.proofs.Ranges.{zeroBounds, returnBounds, tenBillionthBounds, covarianceOf, exponentAbove, exponentBelow, unitBounds, unitMeanBounds, unitVarianceBounds, unitVolatilityBounds, toleranceBounds, steadyVolatilityBounds, inverseBounds, meanShareBounds}
+use Rattle.law.proofs.Ranges.{zeroBounds, returnBounds, tenBillionthBounds, covarianceOf, exponentAbove, exponentBelow, unitBounds, unitMeanBounds, unitVarianceBounds, unitVolatilityBounds, toleranceBounds, steadyVolatilityBounds, inverseBounds, meanOverBounds}
 use Rattle.law.proofs.Sizes.{plus-val, le-no}
 use Rattle.law.proofs.Sample.{Returns, entries-as, covariance-moved, largest-moved, largest-above, ten-billionth-moved, ten-billionth-above}
 use Rattle.law.proofs.Scaled.{scaled-least, exponent-within}
@@ -45,8 +45,8 @@ use Rattle.law.proofs.Opening.{returns-scalable, column}
 use Rattle.law.proofs.Ratio.{product-is, quotient-is}
 
 -- ---- the parts of the call
-abbrev pub found : ℕ → ℕ → Matrix → Moments
-found P n x = moments P n (scaled (exponentsOf P n x) x)
+abbrev pub unitMoments : ℕ → ℕ → Matrix → Moments
+unitMoments P n x = moments P n (scaled (exponentsOf P n x) x)
 
 abbrev pub Σ : ℕ → Moments → Matrix
 Σ n m = at (m .covariance) n
@@ -58,7 +58,7 @@ abbrev pub sizeOf : ℕ → ℕ → Matrix → ℕ → Float
 sizeOf P n x = largestIn (exponentsOf P n x) P x
 
 pub exponent-at : (P n : ℕ) (x : Matrix) (i : ℕ) → i < n → exponentsOf P n x i ≡ binaryExponent (largest P x i)
-exponent-at P n x i l = nth-tab n (λ i. binaryExponent (largest P x i)) i (pos 0) l
+exponent-at P n x i l = getD-tab n (λ i. binaryExponent (largest P x i)) i (pos 0) l
 
 -- ---- each column over its power of two
 module _ {k n P : ℕ} {x y : Matrix} (small : k ≤ maxPower) (r : Returns k n P returnBounds x y) where
@@ -67,8 +67,8 @@ module _ {k n P : ℕ} {x y : Matrix} (small : k ≤ maxPower) (r : Returns k n 
   entry-same t i a b =
       ap (λ (e : ℤ). pow2Scaled (y t i) (negℤ e)) (exponent-at P n y i b) ∙ column small r i b .same (r .entries t i a b) (largest-above r t i a b) ∙ sym (ap (λ (e : ℤ). pow2Scaled (x t i) (negℤ e)) (exponent-at P n x i b))
 
-  pub found-same : found P n y ≡ found P n x
-  found-same = moments-same n P (scaled (exponentsOf P n y) y) (scaled (exponentsOf P n x) x) entry-same
+  pub unit-moments-same : unitMoments P n y ≡ unitMoments P n x
+  unit-moments-same = moments-same n P (scaled (exponentsOf P n y) y) (scaled (exponentsOf P n x) x) entry-same
 
   size-same : (i : ℕ) → i < n → sizeOf P n y i ≡ sizeOf P n x i
   size-same i b =
@@ -90,26 +90,26 @@ module _ {k n P : ℕ} {x y : Matrix} (small : k ≤ maxPower) (r : Returns k n 
   units = entries-as r (λ t i a b. still unitBounds (subst (Bounded unitBounds) (sym (entry-is t i a b)) (column small r i b .moved (r .entries t i a b) (largest-above r t i a b) .range)))
 
   abbrev m : Moments
-  m = found P n x
+  m = unitMoments P n x
 
-  pub μ-range : (i : ℕ) → i < n → Bounded unitMeanBounds (nth (found P n x .mean) i)
+  pub μ-range : (i : ℕ) → i < n → Bounded unitMeanBounds (nth (unitMoments P n x .mean) i)
   μ-range i a = means-moved units zero-le i a .range
 
-  variance-is : (i : ℕ) → i < n → Σ n (found P n x) i i ≡ covariance P (scaled (exponentsOf P n x) x) i i
+  variance-is : (i : ℕ) → i < n → Σ n (unitMoments P n x) i i ≡ covariance P (scaled (exponentsOf P n x) x) i i
   unfolding moments
   variance-is i a = rows-at (covariance P u) n n i i a a
 
-  variance-range : (i : ℕ) → i < n → Bounded unitVarianceBounds (Σ n (found P n x) i i)
+  variance-range : (i : ℕ) → i < n → Bounded unitVarianceBounds (Σ n (unitMoments P n x) i i)
   variance-range i a = rw (variance-is i a) (covariance-moved units (lit≤ tt, lit≤ tt, lit≤ tt, lit≤ tt) i i a a .range)
 
-  variance-plus : (i : ℕ) → i < n → sign (Σ n (found P n x) i i) ≡ false
+  variance-plus : (i : ℕ) → i < n → sign (Σ n (unitMoments P n x) i i) ≡ false
   variance-plus i a = ap sign (variance-is i a) ∙ sign-variance P u i
 
-  v-range : (i : ℕ) → i < n → Bounded unitVolatilityBounds (sqrt (Σ n (found P n x) i i))
+  v-range : (i : ℕ) → i < n → Bounded unitVolatilityBounds (sqrt (Σ n (unitMoments P n x) i i))
   v-range i a = moved-sqrt {k = 0} (still unitVarianceBounds (variance-range i a)) (sign-not-below (Σ n m i i) (variance-plus i a)) .range
 
   -- ---- a column that is accepted
-  module _ (i : ℕ) (a : i < n) (h : le (sqrt (Σ n (found P n x) i i)) (1e-10 ⊗ sizeOf P n x i) ≡ false) where
+  module _ (i : ℕ) (a : i < n) (h : le (sqrt (Σ n (unitMoments P n x) i i)) (1e-10 ⊗ sizeOf P n x i) ≡ false) where
     abbrev A : Float
     A = largest P x i
 
@@ -125,7 +125,7 @@ module _ {k n P : ℕ} {x y : Matrix} (small : k ≤ maxPower) (r : Returns k n 
     tolerance-range : Bounded toleranceBounds (1e-10 ⊗ sizeOf P n x i)
     tolerance-range = moved-mul ten-billionth-moved (still unitBounds size-range) (lit≤ tt) (lit≤ tt) .range
 
-    v-above : 0 < mag (sqrt (Σ n (found P n x) i i))
+    v-above : 0 < mag (sqrt (Σ n (unitMoments P n x) i i))
     v-above = above-zero (Σ n m i i) (sizeOf P n x i) (v-range i a) tolerance-range (variance-plus i a) size-plus h
 
     -- the column is not zero: the volatility of zeros is a zero, for their bounds leave room for nothing else
@@ -154,7 +154,7 @@ module _ {k n P : ℕ} {x y : Matrix} (small : k ≤ maxPower) (r : Returns k n 
     exponent-small = rw (exponent-at P n x i a) (column small r i a .small)
 
     -- at least the tolerance of a column whose largest is at least 1
-    v-least : 2 ^ tenBillionthBounds .least ≤ mag (sqrt (Σ n (found P n x) i i))
+    v-least : 2 ^ tenBillionthBounds .least ≤ mag (sqrt (Σ n (unitMoments P n x) i i))
     v-least =
         let t = 1e-10 ⊗ sizeOf P n x i in
         let one : 2 ^ oneBits ≤ mag (sizeOf P n x i) = rw (exponent-at P n x i a) (scaled-least returnBounds A A-range not-zero returns-scalable) in
@@ -162,14 +162,14 @@ module _ {k n P : ℕ} {x y : Matrix} (small : k ≤ maxPower) (r : Returns k n 
         (near-least (mag 1e-10 * mag (sizeOf P n x i)) U (2 ^ tenBillionthBounds .least) U-pos (held-pow (tenBillionthBounds .least)) (le-trans (le-of-eq (ap (λ (z : ℕ). 2 ^ tenBillionthBounds .least * z) U-is)) (mul-le-mul (ten-billionth-moved .range .least ten-billionth-above) one))) in
         le-of-lt (lt-of-le-of-lt least (le-no (sqrt (Σ n m i i)) t (plus-val (sqrt (Σ n m i i)) (v-range i a .fit) (v-range i a .finite) (sign-sqrt (Σ n m i i) (variance-plus i a))) (plus-val t (tolerance-range .fit) (tolerance-range .finite) (sign-mul 1e-10 (sizeOf P n x i) (unfold sign ofBits in sym size-plus))) h))
 
-    v-moved : Moved 0 steadyVolatilityBounds (sqrt (Σ n (found P n x) i i)) (sqrt (Σ n (found P n x) i i))
+    v-moved : Moved 0 steadyVolatilityBounds (sqrt (Σ n (unitMoments P n x) i i)) (sqrt (Σ n (unitMoments P n x) i i))
     v-moved = still steadyVolatilityBounds (range-size (steadyVolatilityBounds .least) (2 ^ steadyVolatilityBounds .most) (sqrt (Σ n m i i)) (lit≤ tt) (v-range i a .fit) (v-range i a .finite) (inr v-least) (v-range i a .most))
 
     -- its inverse, and the mean over it
-    inverse-range : Bounded inverseBounds (one ⊘ sqrt (Σ n (found P n x) i i))
+    inverse-range : Bounded inverseBounds (one ⊘ sqrt (Σ n (unitMoments P n x) i i))
     inverse-range = moved-over one-moved v-moved v-above (lit≤ tt) (lit≤ tt) .range
 
-    inverse-above : 0 < mag (one ⊘ sqrt (Σ n (found P n x) i i))
+    inverse-above : 0 < mag (one ⊘ sqrt (Σ n (unitMoments P n x) i i))
     inverse-above = rw (quotient-is one (sqrt (Σ n m i i)) (one-moved .range .fit) (v-range i a .fit) (v-range i a .finite) v-above (inverse-range .finite))
         (lt-of-lt-of-le (pow-pos (inverseBounds .least)) (near-least (mag one * U) (mag (sqrt (Σ n m i i))) (2 ^ inverseBounds .least) v-above (held-pow (inverseBounds .least))
         (le-trans (mul-le-mul-left (2 ^ inverseBounds .least) (v-range i a .most)) (le-trans powers (mul-le-mul-right U one-least)))))
@@ -180,19 +180,19 @@ module _ {k n P : ℕ} {x y : Matrix} (small : k ≤ maxPower) (r : Returns k n 
         powers : 2 ^ inverseBounds .least * 2 ^ unitVolatilityBounds .most ≤ 2 ^ oneBits * U
         powers = unfold U in lit≤ tt
 
-    pub inverse-some : eq (one ⊘ sqrt (Σ n (found P n x) i i)) zero⁺ ≡ false
+    pub inverse-some : eq (one ⊘ sqrt (Σ n (unitMoments P n x) i i)) zero⁺ ≡ false
     inverse-some = eq-zero (one ⊘ sqrt (Σ n m i i)) (inverse-range .fit) (inverse-range .finite) ∙ ne-eqb (mag (one ⊘ sqrt (Σ n m i i))) 0 (λ e. lt-irrefl 0 (subst (λ (n : ℕ). 0 < n) e inverse-above))
 
-    pub inverse-exponent : (over (binaryExponent (one ⊘ sqrt (Σ n (found P n x) i i))) ≤ exponentAbove inverseBounds) × (under (binaryExponent (one ⊘ sqrt (Σ n (found P n x) i i))) ≤ exponentBelow inverseBounds)
+    pub inverse-exponent : (over (binaryExponent (one ⊘ sqrt (Σ n (unitMoments P n x) i i))) ≤ exponentAbove inverseBounds) × (under (binaryExponent (one ⊘ sqrt (Σ n (unitMoments P n x) i i))) ≤ exponentBelow inverseBounds)
     inverse-exponent = exponent-within inverseBounds (one ⊘ sqrt (Σ n m i i)) inverse-range inverse-above (lit≤ tt) (lit≤ tt)
 
-    pub share-range : Bounded meanShareBounds (nth (found P n x .mean) i ⊘ sqrt (Σ n (found P n x) i i))
-    share-range = moved-over (still unitMeanBounds (μ-range i a)) v-moved v-above (lit≤ tt) (lit≤ tt) .range
+    pub mean-over-range : Bounded meanOverBounds (nth (unitMoments P n x .mean) i ⊘ sqrt (Σ n (unitMoments P n x) i i))
+    mean-over-range = moved-over (still unitMeanBounds (μ-range i a)) v-moved v-above (lit≤ tt) (lit≤ tt) .range
 
-    pub share-exponent : (over (binaryExponent (nth (found P n x .mean) i ⊘ sqrt (Σ n (found P n x) i i))) ≤ exponentAbove meanShareBounds) × (under (binaryExponent (nth (found P n x .mean) i ⊘ sqrt (Σ n (found P n x) i i))) ≤ exponentBelow meanShareBounds)
-    share-exponent =
+    pub mean-over-exponent : (over (binaryExponent (nth (unitMoments P n x .mean) i ⊘ sqrt (Σ n (unitMoments P n x) i i))) ≤ exponentAbove meanOverBounds) × (under (binaryExponent (nth (unitMoments P n x .mean) i ⊘ sqrt (Σ n (unitMoments P n x) i i))) ≤ exponentBelow meanOverBounds)
+    mean-over-exponent =
         let z = nth (m .mean) i ⊘ sqrt (Σ n m i i) in
         elim (eq-zero-or-pos (mag z)) [
-          | inr p ↦ exponent-within meanShareBounds z share-range p (lit≤ tt) (lit≤ tt)
-          | inl e ↦ (rw (exponent-null z (range-value share-range) e) (unfold over under in (zero-le, zero-le)))
+          | inr p ↦ exponent-within meanOverBounds z mean-over-range p (lit≤ tt) (lit≤ tt)
+          | inl e ↦ (rw (exponent-null z (range-value mean-over-range) e) (unfold over under in (zero-le, zero-le)))
         ]

@@ -1,5 +1,5 @@
 -- The constant-correlation target of a covariance s whose variances are above zero, and of its copy s', each entry 4 ^ k times as large: volatilities are 2 ^ k times as large and correlations the same.
--- Products are in the normal range all the way, so nothing rounds differently. Assumes nothing.
+-- Products are in the normal range all the way, so nothing rounds differently. Before it, what a volatility above its tolerance says of any column. Assumes nothing.
 use mathlib.Core.Path.{_≡_, refl, sym}
 use Prim.Native.Nat.{ℕ, _+_, _-_, _*_, _^_, _≤_, _<_, zero-le}
 use native.Mathlib.Nat.{le-trans, sub-le, lt-of-le-of-lt, zero-add, mul-pos}
@@ -17,9 +17,9 @@ use Rattle.leaves.proofs.Signs.{sign-mul, sign-div, sign-sum, sign-count, sign-
 use Rattle.leaves.proofs.SqrtNearest.{moved-sqrt}
 use Rattle.leaves.proofs.Totals.{amax-one}
 use Rattle.matrix.specs.Matrix.{Matrix}
+use Rattle.matrix.specs.Limits.{maxSide}
 use Rattle.estimators.specs.Sample.{deviation, gram, covariance, volatility, correlation, largest}
 use Rattle.estimators.specs.LedoitWolf.{apart, averageCorrelation, constantCorrelation}
-use Rattle.matrix.specs.Limits.{maxSide}
 use Rattle.law.specs.Law.{maxPower}
 use Rattle.law.proofs.Bits.{cellBits, cell-bits}
 use Rattle.law.proofs.Ranges.{volatilityBounds, correlationBounds, averageCorrelationBounds, targetBounds}

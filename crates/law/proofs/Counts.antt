@@ -23,7 +23,7 @@ use Rattle.estimators.specs.declared.Answer.the-variants.{Refused, Covariance, 
 use Rattle.estimators.specs.BayesStein.{correlations}
 use Rattle.law.specs.Law as Law
 use Rattle.law.specs.Law.{Question, ask}
-use Rattle.law.proofs.Columns.{found}
+use Rattle.law.proofs.Columns.{unitMoments}
 use Rattle.law.proofs.Passing.{settled}
 use Rattle.law.proofs.Calls.{covariance-is, james-is, bayes-is}
 use Rattle.law.proofs.Given.{average}
@@ -94,17 +94,17 @@ counted r n P (Law.adjusted s given side) slice = rw (covariance-is r n P s give
 counted r n P (Law.intensity F) slice = unfold ledoitWolfIntensity in settled (Counted 0 0) (λ c. tt) _ _ _ (λ h. tt)
 counted r n P (Law.weightedMean halfLife) slice = unfold exponentiallyWeightedMean in settled (Counted 0 0) (λ c. tt) _ slice _ (λ h. tt)
 counted r n P (Law.jamesStein limit) slice = rw (james-is r n P limit slice) (settled (Counted n limit) (λ c. tt) _ slice _ (λ h. unequal-few limit n _ _))
-counted r n P (Law.bayesStein limit) slice = rw (bayes-is r n P limit slice) (settled (Counted n limit) (λ c. tt) _ slice _ (λ h. decompose-few limit n (correlations n (found P n (at r n)))))
+counted r n P (Law.bayesStein limit) slice = rw (bayes-is r n P limit slice) (settled (Counted n limit) (λ c. tt) _ slice _ (λ h. decompose-few limit n (correlations n (unitMoments P n (at r n)))))
 
 -- ---- the first test
 sweeping-first : (limit n : ℕ) (most : Float) (st : State) → 0 < limit → test n most st ≡ converged → (sweeping limit n most st .done ≡ true) × (sweeping limit n most st .sweeps ≡ 0)
 unfolding afterSweeps loop
 sweeping-first limit n most st p e = rw (sweeping-is n most st limit, first-at (stopping n most st) 0 limit (first-none _) (ap stops e) p) (ap isConverged e, refl)
 
--- a matrix over its largest entry, as the first test sees it
-abbrev pub begins : ℕ → Matrix → Test
-begins n a = let b = start n (amax n n a) a in test n (tolerance n b) (initial n b)
+-- what the first test says of a matrix over its largest entry
+abbrev pub firstTest : ℕ → Matrix → Test
+firstTest n a = let b = start n (amax n n a) a in test n (tolerance n b) (initial n b)
 
-pub found-at-once : (limit n : ℕ) (a : Matrix) → 0 < limit → allFinite n n a ≡ true → eq (amax n n a) zero⁺ ≡ false → begins n a ≡ converged → (decompose limit n a .found ≡ true) × (decompose limit n a .sweeps ≡ 0)
+pub found-at-once : (limit n : ℕ) (a : Matrix) → 0 < limit → allFinite n n a ≡ true → eq (amax n n a) zero⁺ ≡ false → firstTest n a ≡ converged → (decompose limit n a .found ≡ true) × (decompose limit n a .sweeps ≡ 0)
 unfolding scaledBack swept
 found-at-once limit n a p f z e = let b = start n (amax n n a) a in rw (decompose-is limit n a, f, z) (sweeping-first limit n (tolerance n b) (initial n b) p e)

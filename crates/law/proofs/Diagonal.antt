@@ -26,7 +26,7 @@ use Rattle.matrix.proofs.Identity.{scaledEntry, start-is, quotients-finite}
 use Rattle.matrix.proofs.Alike.{finite-all}
 use Rattle.matrix.proofs.Sweeps.{decompose-is}
 use Rattle.estimators.specs.Given.{decomposeGiven}
-use Rattle.law.proofs.Counts.{begins, found-at-once}
+use Rattle.law.proofs.Counts.{firstTest, found-at-once}
 use Rattle.law.proofs.Given.{average}
 use Rattle.law.proofs.Zeros.{Zero, Plus, zero-is, zero-add, zero-square, zero-half, zero-double, zero-average, is-zero, zero-over, number-zero-plus, number-twice, number-half, plus-square, plus-add, plus-tolerance, zero-below}
 
@@ -95,8 +95,8 @@ module _ (n : ℕ) (a : Matrix) (fit : (i j : ℕ) → i < n → j < n → T (fi
   unfolding begun
   start-begun = start-is n (amax n n a) a (quotients-finite n a fit all nonzero)
 
-  diagonal-begins : begins n a ≡ converged
-  diagonal-begins =
+  diagonal-converges : firstTest n a ≡ converged
+  diagonal-converges =
       let l = rows n n begun in
       rw start-begun (passes-test n l (λ i j hi hj. rw (rows-at begun n n i j hi hj) (begun-number i j hi hj)) (λ i j hi hj h. rw (rows-at begun n n i j hi hj) (begun-zero i j hi hj (λ e. lt-irrefl j (subst (λ (k : ℕ). k < j) e h)))))
 
@@ -105,7 +105,7 @@ diagonal-found limit n a p fit all diagonal = go (eq (amax n n a) zero⁺) refl
   where
     go : (b : Bool) → eq (amax n n a) zero⁺ ≡ b → decompose limit n a .found ≡ true
     go true e = rw (decompose-is limit n a, all, e) (unfold unturned in refl)
-    go false e = found-at-once limit n a p all e (diagonal-begins n a fit all diagonal e) .0
+    go false e = found-at-once limit n a p all e (diagonal-converges n a fit all diagonal e) .0
 
 -- ---- a given matrix: its averages are to be finite, which those of entries of size 2^1023 are not
 finite-from : (n : ℕ) (a : Matrix) → ((i j : ℕ) → i < n → j < n → T (isFinite (a i j))) → allFinite n n a ≡ true

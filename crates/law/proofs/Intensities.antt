@@ -30,10 +30,10 @@ use Rattle.estimators.proofs.Firsts.{pass-append}
 use Rattle.estimators.proofs.Passed.{pass-cons}
 use Rattle.law.specs.Law as Law
 use Rattle.law.specs.Law.{Question, ask}
-use Rattle.law.proofs.Sizes.{not-lt}
-use Rattle.law.proofs.Columns.{found}
+use Rattle.law.proofs.Sizes.{not-lt, clamp-cases}
+use Rattle.law.proofs.Columns.{unitMoments}
 use Rattle.law.proofs.LedoitWolf.{ledoitWolf-cases}
-use Rattle.law.proofs.JamesStein.{clamp-cases, james-cases}
+use Rattle.law.proofs.JamesStein.{james-cases}
 use Rattle.law.proofs.Pull.{pull-unit}
 use Rattle.law.proofs.Chain.{pass-must}
 use Rattle.law.proofs.Passing.{pass-opening, settled}
@@ -64,9 +64,9 @@ ledoitWolf-share F P n x = ledoitWolf-cases Share F P n x zero-share (λ w t. cl
 james-share : (n : ℕ) (m : Moments) (μ₀ : Float) (d : Decomposition) → Share (jamesSteinIntensity n m μ₀ d)
 james-share n m μ₀ d = james-cases Share n m μ₀ d zero-share (λ w t. clamped w)
 
-bayes-share : (r : List Float) (limit n P : ℕ) → n ≤ maxSide → Share (bayesStein n limit (found P n (at r n)) (exponentsOf P n (at r n)) .intensity)
+bayes-share : (r : List Float) (limit n P : ℕ) → n ≤ maxSide → Share (bayesStein n limit (unitMoments P n (at r n)) (exponentsOf P n (at r n)) .intensity)
 bayes-share r limit n P few =
-    let m = found P n (at r n) in
+    let m = unitMoments P n (at r n) in
     let u = pull-unit limit n m (exponentsOf P n (at r n)) few (unfold moments in sign-count P) in
     share-of (bayesStein n limit m (exponentsOf P n (at r n)) .intensity) (u .0) (u .1)
 

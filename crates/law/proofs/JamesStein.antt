@@ -1,30 +1,29 @@
 -- The James-Stein mean. Over the power of two of the largest return the returns are the same floats in both runs, so the moments, the decomposition and the intensity are; the target and the
 -- means are one number each, scaled back by 2 ^ e and by 2 ^ (e + k). An intensity of 2 ^ -400 or more, or 0, leaves them multiples of a unit far above the smallest: nothing rounds. An
 -- intensity that is not a number makes every mean NaN, in both runs. Assumes nothing.
-use mathlib.Core.Path.{_≡_, refl, sym, ap, _∙_, subst}
+use mathlib.Core.Path.{_≡_, refl, ap, _∙_}
 use mathlib.Core.Logic.{_⊎_, inl, inr}
-use Prim.Native.Nat.{ℕ, zero, suc, _+_, _-_, _^_, _≤_, _<_, zero-le}
-use native.Mathlib.Nat.{le-trans, le-of-eq, zero-add}
+use Prim.Native.Nat.{ℕ, _+_, _≤_, _<_}
+use native.Mathlib.Nat.{le-trans, zero-add}
 use native.Mathlib.Omega.{arith}
-use mathlib.Core.Bool.{Bool, true, false, cond}
+use mathlib.Core.Bool.{Bool, true, false}
 use mathlib.Core.List.{List, map}
 use lib.Dec.{T, lit≤}
 use lib.IntN.{pos}
 use lib.ListN.{length}
-use lib.Pow.{pow-mono}
-use lib.Ieee.{Float, nan, inf, fin, binary64, fits, eq, lt, mul}
-use Rattle.leaves.specs.Numbers.{_⊕_, _⊖_, _⊗_, zero⁺, one, isFinite, clamp01}
+use lib.Ieee.{Float, nan, binary64, fits, eq, mul}
+use Rattle.leaves.specs.Numbers.{_⊕_, _⊖_, _⊗_, zero⁺, one, clamp01}
 use Rattle.leaves.specs.Loops.{nth}
 use Rattle.leaves.specs.Scaling.{binaryExponent, pow2Scaled}
 use Rattle.leaves.specs.Shift.{shift}
 use Rattle.leaves.proofs.Nan.{nan-add}
-use Rattle.leaves.proofs.Units.{oneBits, topBits, fractionBits, Val, sign, mag, val-mag, mag-val, zero-mag, finite-fin, one-val, U}
-use Rattle.leaves.proofs.Zero.{no, is-below}
+use Rattle.leaves.proofs.Units.{topBits}
 use Rattle.leaves.proofs.Shift.{shift-nan}
-use Rattle.leaves.proofs.Range.{range-size, count-pos}
+use Rattle.leaves.proofs.Range.{count-pos}
 use Rattle.leaves.proofs.Bounds.{Bounds, Bounded, zero-bounded, sumOf}
 use Rattle.leaves.proofs.Operations.{Moved, still, moved-add, moved-sub, moved-mul, moved-over}
 use Rattle.leaves.proofs.Totals.{moved-sum}
+use Rattle.leaves.proofs.Scale.{scaled-fits, nan-scaled}
 use Rattle.matrix.specs.Matrix.{Matrix, at, amax}
 use Rattle.matrix.specs.Jacobi.{Decomposition}
 use Rattle.estimators.specs.Refusals.{Check}
@@ -39,54 +38,16 @@ use Rattle.estimators.proofs.SameReturns.{moments-same}
 use Rattle.law.specs.Law.{All, Sized, AtLeast, Alike, ask, maxPower, returnRange, meanRange}
 use Rattle.law.specs.Law as Law
 use Rattle.law.proofs.Bits.{sideBits, side-bits}
-use Rattle.law.proofs.Ranges.{fractionBounds, meanIntensityBounds, returnBounds, exponentAbove, exponentBelow, unitBounds, unitMeanBounds, centreBounds, pulledPartBounds}
+use Rattle.law.proofs.Ranges.{meanIntensityBounds, returnBounds, exponentAbove, exponentBelow, unitBounds, unitMeanBounds, centreBounds, pulledPartBounds}
 use Rattle.law.proofs.Chain.{Chain, ends, chain-same, chain-must, chained, parts, settled}
-use Rattle.law.proofs.Sizes.{at-least, lt-no}
 use Rattle.law.proofs.Sample.{Returns, entries-as, count-moved}
 use Rattle.law.proofs.Matrices.{amax-moved, amax-above}
 use Rattle.law.proofs.Scaled.{Scaling, scaling, scaled-back}
-use Rattle.leaves.proofs.Scale.{scaled-fits, nan-scaled}
 use Rattle.law.proofs.Moments.{large, Copied, shrunk-alike, means-moved, shrunkInto, Large}
 use Rattle.law.proofs.Opening.{Shape, returns, returns-scalable, opening-chain}
+use Rattle.law.proofs.Sizes.{clamped-range}
 
--- ---- an intensity: NaN, or from 0 to 1
--- and 0 or at least 2 ^ -l
-pub unit-range : (l : ℕ) → fractionBits + l ≤ oneBits → (x : Float) → T (fits binary64 x) → AtLeast l x → lt x zero⁺ ≡ false → lt one x ≡ false → (x ≡ nan) ⊎ Bounded (fractionBounds l) x
-unit-range l h nan t a b c = inl refl
-unit-range l h (inf true) t a b c = unfold lt in absurd (subst T b tt)
-unit-range l h (inf false) t a b c = unfold lt in absurd (subst T c tt)
-unit-range l h (fin s m e) t a b c =
-    let x = fin s m e in
-    let f = finite-fin s m e in
-    let v = mag-val x t f in
-    let most : mag x ≤ 2 ^ oneBits = sign-case s v b c in
-    inr (range-size (oneBits - l) (2 ^ oneBits) x (omega arith) t f (at-least l (omega arith) x v a) most)
-  where
-    sign-case : (s : Bool) → Val (fin s m e) (sign (fin s m e)) (mag (fin s m e)) → lt (fin s m e) zero⁺ ≡ false → lt one (fin s m e) ≡ false → mag (fin s m e) ≤ 2 ^ oneBits
-    sign-case false v b c = unfold U in lt-no one (fin false m e) one-val (unfold sign in v) c
-    sign-case true v b c = zero-case m v b
-      where
-        zero-case : (m : ℕ) → Val (fin true m e) (sign (fin true m e)) (mag (fin true m e)) → lt (fin true m e) zero⁺ ≡ false → mag (fin true m e) ≤ 2 ^ oneBits
-        zero-case zero v b = le-trans (le-of-eq (zero-mag true e)) zero-le
-        zero-case (suc m) v b = no (is-below m e) b
-
--- what holds of 0, of 1 and of what is neither below 0 nor above 1 holds of every number cut to that range
-pub clamp-cases : (P : Float → Type 0) (x : Float) → P zero⁺ → P one → (lt x zero⁺ ≡ false → lt one x ≡ false → P x) → P (clamp01 x)
-unfolding clamp01
-clamp-cases P x none all part = go (lt x zero⁺) refl (lt one x) refl
-  where
-    go : (a : Bool) → lt x zero⁺ ≡ a → (b : Bool) → lt one x ≡ b → P (cond a zero⁺ (cond b one x))
-    go true e b f = none
-    go false e true f = all
-    go false e false f = part e f
-
-pub clamped-range : (l : ℕ) → fractionBits + l ≤ oneBits → (x : Float) → T (fits binary64 x) → AtLeast l (clamp01 x) → (clamp01 x ≡ nan) ⊎ Bounded (fractionBounds l) (clamp01 x)
-clamped-range l h x t =
-    let i = val-mag one false (2 ^ oneBits) (unfold U in one-val) .1 in
-    let all : Bounded (fractionBounds l) one = range-size (oneBits - l) (2 ^ oneBits) one (omega arith) (unfold fits in tt) (unfold isFinite in tt) (inr (le-trans (pow-mono {i = oneBits - l} {j = oneBits} (omega arith)) (le-of-eq (sym i)))) (le-of-eq i) in
-    clamp-cases (λ z. AtLeast l z → (z ≡ nan) ⊎ Bounded (fractionBounds l) z) x (λ a. inr (zero-bounded (fractionBounds l))) (λ a. inr all) (λ b c a. unit-range l h x t a b c)
-
--- one that shrinks a mean
+-- ---- an intensity that shrinks a mean
 abbrev pub MeanIntensity : Float → Type 0
 MeanIntensity α = Bounded meanIntensityBounds α
 
@@ -107,39 +68,39 @@ intensity-range : (n : ℕ) (m : Moments) (μ₀ : Float) (d : Decomposition) �
 intensity-range n m μ₀ d = james-cases (λ z. AtLeast meanRange z → (z ≡ nan) ⊎ MeanIntensity z) n m μ₀ d (λ a. inr (zero-bounded meanIntensityBounds)) (clamped-range meanRange (lit≤ tt))
 
 -- ---- returns over the power of two of the largest
-abbrev pub found : ℕ → ℕ → Matrix → Moments
-found P n x = moments P n (scaled (λ i. binaryExponent (amax P n x)) x)
+abbrev pub unitMoments : ℕ → ℕ → Matrix → Moments
+unitMoments P n x = moments P n (scaled (λ i. binaryExponent (amax P n x)) x)
 
 -- what the call answers with
 abbrev pub shrunk : ℕ → ℕ → ℕ → Matrix → Shrinking
-shrunk limit P n x = jamesStein n limit (found P n x) (binaryExponent (amax P n x))
+shrunk limit P n x = jamesStein n limit (unitMoments P n x) (binaryExponent (amax P n x))
 
 module _ {k n P : ℕ} {x y : Matrix} (small : k ≤ maxPower) (r : Returns k n P returnBounds x y) where
   common : Scaling k returnBounds (amax P n x) (amax P n y)
   common = scaling (amax-moved P n x y (r .entries)) returns-scalable (omega arith)
 
-  pub found-same : found P n y ≡ found P n x
+  pub unit-moments-same : unitMoments P n y ≡ unitMoments P n x
   unfolding scaled
-  found-same = moments-same n P (scaled (λ i. binaryExponent (amax P n y)) y) (scaled (λ i. binaryExponent (amax P n x)) x) (λ t i a b. common .same (r .entries t i a b) (amax-above P n x y (r .entries) t i a b))
+  unit-moments-same = moments-same n P (scaled (λ i. binaryExponent (amax P n y)) y) (scaled (λ i. binaryExponent (amax P n x)) x) (λ t i a b. common .same (r .entries t i a b) (amax-above P n x y (r .entries) t i a b))
 
   units : Returns (common .still) n P unitBounds (scaled (λ i. binaryExponent (amax P n x)) x) (scaled (λ i. binaryExponent (amax P n x)) x)
   unfolding scaled
   units = entries-as r (λ t i a b. common .moved (r .entries t i a b) (amax-above P n x y (r .entries) t i a b))
 
   abbrev m : Moments
-  m = found P n x
+  m = unitMoments P n x
 
-  abbrev μ-moved : (i : ℕ) → i < n → Moved (common .still) unitMeanBounds (nth (found P n x .mean) i) (nth (found P n x .mean) i)
+  abbrev μ-moved : (i : ℕ) → i < n → Moved (common .still) unitMeanBounds (nth (unitMoments P n x .mean) i) (nth (unitMoments P n x .mean) i)
   μ-moved = means-moved units (le-trans (common .few) small)
 
-  centre-moved : Moved (common .still) centreBounds (centre n (found P n x)) (centre n (found P n x))
+  centre-moved : Moved (common .still) centreBounds (centre n (unitMoments P n x)) (centre n (unitMoments P n x))
   unfolding grandMean
   centre-moved =
       let j = common .few in
       moved-over (moved-sum (common .still) unitMeanBounds n sideBits (side-bits (r .few)) (lit≤ tt) (omega arith) (nth (m .mean)) (nth (m .mean)) μ-moved) (count-moved sideBits n (lit≤ tt) (side-bits (r .few))) (count-pos n (r .assets) (le-trans (r .few) (lit≤ tt)))
       (lit≤ tt) (omega arith)
 
-  towards-moved : (α : Float) → MeanIntensity α → (i : ℕ) → i < n → Moved (common .still) (sumOf 1 pulledPartBounds) (towards α (centre n (found P n x)) (nth (found P n x .mean) i)) (towards α (centre n (found P n x)) (nth (found P n x .mean) i))
+  towards-moved : (α : Float) → MeanIntensity α → (i : ℕ) → i < n → Moved (common .still) (sumOf 1 pulledPartBounds) (towards α (centre n (unitMoments P n x)) (nth (unitMoments P n x .mean) i)) (towards α (centre n (unitMoments P n x)) (nth (unitMoments P n x .mean) i))
   unfolding towards
   towards-moved α a i l =
       let few = common .few in
@@ -153,11 +114,11 @@ module _ {k n P : ℕ} {x y : Matrix} (small : k ≤ maxPower) (r : Returns k n 
   back {z = z} q l h = (scaled-fits z (binaryExponent (amax P n x)), scaled-back common q l (omega arith))
 
   pub decomposition-same : (limit : ℕ) → shrunk limit P n y .decomposition ≡ shrunk limit P n x .decomposition
-  decomposition-same limit = ap (λ (m : Moments). jamesStein n limit m (binaryExponent (amax P n y)) .decomposition) found-same
+  decomposition-same limit = ap (λ (m : Moments). jamesStein n limit m (binaryExponent (amax P n y)) .decomposition) unit-moments-same
 
   james-copied : (limit : ℕ) → AtLeast meanRange (shrunk limit P n x .intensity) → Copied k n (shrunk limit P n x) (shrunk limit P n y)
   james-copied limit a =
-      let same = found-same in
+      let same = unit-moments-same in
       let w : Moments → Shrinking = λ m. jamesStein n limit m (binaryExponent (amax P n y)) in
       let t = back centre-moved (lit≤ tt) (lit≤ tt) in
       record {
@@ -168,7 +129,7 @@ module _ {k n P : ℕ} {x y : Matrix} (small : k ≤ maxPower) (r : Returns k n 
       }
     where
       one : (i : ℕ) → i < n → (shrunk limit P n x .intensity ≡ nan) ⊎ MeanIntensity (shrunk limit P n x .intensity)
-          → T (fits binary64 (shrunk limit P n x .mean i)) × (jamesStein n limit (found P n x) (binaryExponent (amax P n y)) .mean i ≡ shift (pos k) (shrunk limit P n x .mean i))
+          → T (fits binary64 (shrunk limit P n x .mean i)) × (jamesStein n limit (unitMoments P n x) (binaryExponent (amax P n y)) .mean i ≡ shift (pos k) (shrunk limit P n x .mean i))
       one i l (inr q) = back (towards-moved (shrunk limit P n x .intensity) q i l) (lit≤ tt) (lit≤ tt)
       one i l (inl q) = nothing (towards (shrunk limit P n x .intensity) (centre n m) (nth (m .mean) i)) (unfold towards mul in (ap (λ (z : Float). nth (m .mean) i ⊕ z ⊗ (centre n m ⊖ nth (m .mean) i)) q ∙ nan-add (nth (m .mean) i) nan (inr refl)))
         where

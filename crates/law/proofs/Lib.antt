@@ -6,6 +6,7 @@ pub mod Bits
 pub mod Ranges
 pub mod Numbers
 pub mod Sizes
+pub mod Sums
 pub mod Opening
 pub mod Matrices
 pub mod LedoitWolf

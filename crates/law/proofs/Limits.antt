@@ -32,7 +32,7 @@ use Rattle.estimators.proofs.Firsts.{pass-append}
 use Rattle.estimators.proofs.Passed.{pass-cons}
 use Rattle.law.specs.Law as Law
 use Rattle.law.specs.Law.{Question, ask}
-use Rattle.law.proofs.Columns.{found, taken}
+use Rattle.law.proofs.Columns.{unitMoments, taken}
 use Rattle.law.proofs.Chain.{pass-must}
 use Rattle.law.proofs.Passing.{Accepted, all-pass}
 use Rattle.law.proofs.Calls.{ofAnswer, covarianceBy, covariance-is, inUnit, centre, jamesDecomposition, jamesBy, james-is, bayesBy, bayes-is}
@@ -93,7 +93,7 @@ module _ (r : List Float) (n P : ℕ) (slice : List Float) where
 
   bayes-limit : (limit limit′ : ℕ) → limit ≤ limit′ → limit′ ≤ maxSweeps → Accepted (bayesSteinMean r n P limit slice) → bayesSteinMean r n P limit′ slice ≡ bayesSteinMean r n P limit slice
   bayes-limit limit limit′ l h a =
-      let m = found P n (at r n) in
+      let m = unitMoments P n (at r n) in
       let f = bayes-found (taken limit n m) (sweepLimit limit) (subst Accepted (bayes-is r n P limit slice) a) in
       bayes-is r n P limit′ slice ∙ ap₂ (bayesBy r n P slice) (larger-limit n (correlations n m) limit limit′ l f) (same-limit limit limit′ l h) ∙ sym (bayes-is r n P limit slice)
 

@@ -9,7 +9,7 @@ use lib.ListN.{take}
 use lib.Ieee.{Float, binary64, fits, nan}
 use Rattle.leaves.specs.Loops.{fill, nth}
 use Rattle.leaves.specs.Shift.{shift}
-use Rattle.leaves.proofs.Loops.{nth-tab}
+use Rattle.leaves.proofs.Loops.{getD-tab}
 use Rattle.leaves.proofs.Operations.{Moved}
 use Rattle.matrix.specs.Matrix.{Matrix}
 use Rattle.matrix.specs.Jacobi.{Decomposition}
@@ -27,7 +27,7 @@ use Rattle.law.proofs.Sample.{Returns, mean-moved}
 -- ---- the means of returns below 2 in size
 pub means-moved : {k n P : ℕ} {u : Matrix} → Returns k n P unitBounds u u → k ≤ maxPower → (i : ℕ) → i < n → Moved k unitMeanBounds (nth (moments P n u .mean) i) (nth (moments P n u .mean) i)
 unfolding moments
-means-moved {n = n} {P = P} {u = u} r small i a = rw (nth-tab n (mean P u) i nan a) (mean-moved r (lit≤ tt) (omega arith) i a)
+means-moved {n = n} {P = P} {u = u} r small i a = rw (getD-tab n (mean P u) i nan a) (mean-moved r (lit≤ tt) (omega arith) i a)
 
 -- ---- what a Stein mean answers
 abbrev pub shrunkInto : ℕ → Shrinking → List Float → Answered

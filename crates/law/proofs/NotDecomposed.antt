@@ -164,7 +164,7 @@ settings-avoid s δ P n side x b a = (
 )
 
 -- ---- the call
--- the decomposition of a given matrix, if one is made, was found
+-- the number of a refusal, 0 of an answer
 abbrev numberOf : Answer → ℕ
 numberOf (Refused c) = number c
 numberOf (Covariance δ s r) = 0
@@ -181,6 +181,7 @@ module _ (r : List Float) (n P : ℕ) (s : Settings) (g : List Float) (side : �
   abbrev d : Decomposition
   d = decompositionOf s side (average side g)
 
+  -- where the decomposition of a given matrix, if one is made, was found
   decomposed : (isGiven (s .estimate) ≡ true → d .found ≡ true) → eqb (numberOf (adjustedCovariance r n P s g side slice .answer)) (number NotDecomposed) ≡ false
   decomposed h =
       let o = opening r n P (n * n) slice in

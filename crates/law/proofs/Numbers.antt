@@ -120,7 +120,7 @@ times-up k x y h = times-back (negsuc k) (pos (suc k)) (λ a b e. sym e) x y h
 pub times-down : (k : ℕ) (x y : Float) → Times (pos (suc k)) x y → Times (negsuc k) y x
 times-down k x y h = times-back (pos (suc k)) (negsuc k) (λ a b e. sym e) x y h
 
--- negsuc k twice is negsuc (suc (k + k))
+-- pos (suc k) twice, of which negsuc (suc (k + k)) is the opposite
 pub twice : (k : ℕ) → pos (suc k) +ℤ pos (suc k) ≡ pos (suc (suc (k + k)))
 twice k = ap pos (omega arith)
 

@@ -18,7 +18,7 @@ use Rattle.leaves.specs.Root.{sqrt}
 use Rattle.leaves.specs.Scaling.{pow2, binaryExponent, pow2Scaled}
 use Rattle.leaves.specs.Shift.{shift}
 use Rattle.leaves.proofs.Nan.{nan-add}
-use Rattle.leaves.proofs.Loops.{tab-ext, nth-tab}
+use Rattle.leaves.proofs.Loops.{tab-ext, getD-tab}
 use Rattle.leaves.proofs.Whole.{over, under, plus, minus, same, one-side, over-neg, under-neg}
 use Rattle.leaves.proofs.Shift.{shift-nan, isFinite-shift}
 use Rattle.leaves.proofs.Rounding.{near-most, held-pow}
@@ -41,18 +41,18 @@ use Rattle.estimators.specs.BayesStein.{singular, commonExponent, gathered, pro
 use borrow.Author.Tests.{ne-eqb}
 use Rattle.leaves.proofs.Zero.{not-above}
 use Rattle.law.specs.Law.{AtLeast, maxPower, meanRange}
-use Rattle.law.proofs.Ranges.{returnBounds, meanIntensityBounds, exponentAbove, exponentBelow, scaledBackOf, unitMeanBounds, inverseBounds, meanShareBounds, leftMeanBounds}
-use Rattle.law.proofs.Sizes.{pow2-val, at-least}
+use Rattle.law.proofs.Ranges.{returnBounds, meanIntensityBounds, exponentAbove, exponentBelow, scaledBackOf, unitMeanBounds, inverseBounds, meanOverBounds, leftMeanBounds}
+use Rattle.law.proofs.Sizes.{pow2-val, at-least, unit-range}
 use Rattle.law.proofs.Sample.{Returns}
 use Rattle.law.proofs.Scaled.{topOf, under-power, scaled-range}
 use Rattle.law.proofs.Shrinkage.{one-moved}
-use Rattle.law.proofs.Weighted.{sum-fits}
-use Rattle.law.proofs.JamesStein.{unit-range, MeanIntensity}
+use Rattle.law.proofs.Sums.{sum-fits, sum-finite, sum-most}
+use Rattle.law.proofs.JamesStein.{MeanIntensity}
 use Rattle.law.proofs.Share.{max0-plus, share-unit}
 use Rattle.law.proofs.Common.{LeZ, common-in, common-above, common-lower}
 use Rattle.law.proofs.Tied.{tied}
-use Rattle.law.proofs.Ratio.{product-is, sum-finite, sum-most, ratio-most, ratioMost, projectedMost, turnedMost}
-use Rattle.law.proofs.Columns.{exponent-small, found, grows, inverse-exponent, inverse-some, share-exponent, share-range, sizeOf, taken, Σ, μ-range}
+use Rattle.law.proofs.Ratio.{product-is, ratio-most, ratioMost, projectedMost, turnedMost}
+use Rattle.law.proofs.Columns.{exponent-small, unitMoments, grows, inverse-exponent, inverse-some, mean-over-exponent, mean-over-range, sizeOf, taken, Σ, μ-range}
 
 -- ---- the exponents of the two vectors
 -- how far above and below 0: of the ones over the volatilities, of the means over them, and of the target
@@ -63,10 +63,10 @@ abbrev onesBelow : ℕ
 onesBelow = exponentBelow inverseBounds + exponentAbove returnBounds
 
 abbrev meansAbove : ℕ
-meansAbove = exponentAbove meanShareBounds
+meansAbove = exponentAbove meanOverBounds
 
 abbrev meansBelow : ℕ
-meansBelow = exponentBelow meanShareBounds
+meansBelow = exponentBelow meanOverBounds
 
 abbrev targetAbove : ℕ
 targetAbove = meansAbove + onesBelow
@@ -106,15 +106,15 @@ below-two {g} {L} h x r j low high not-above = elim (eq-zero-or-pos (mag x)) [
 -- the values are numbers of the format
 values-fit : (limit n : ℕ) (a : Matrix) (e : ℕ) → e < n → T (fits binary64 (nth (decompose limit n a .values) e))
 values-fit limit n a e l =
-    decompose-cases (λ d. T (fits binary64 (nth (d .values) e))) limit n a (λ found. unfold unturned in rw (nth-tab n (λ i. zero⁺) e nan l) (unfold fits in tt))
-    (unfold scaledBack in rw (nth-tab n (λ i. at (swept limit n (start n (amax n n a) a) .reached .matrix) n i i ⊗ amax n n a) e nan l) (mul-fits binary64 (at (swept limit n (start n (amax n n a) a) .reached .matrix) n e e) (amax n n a)))
+    decompose-cases (λ d. T (fits binary64 (nth (d .values) e))) limit n a (λ found. unfold unturned in rw (getD-tab n (λ i. zero⁺) e nan l) (unfold fits in tt))
+    (unfold scaledBack in rw (getD-tab n (λ i. at (swept limit n (start n (amax n n a) a) .reached .matrix) n i i ⊗ amax n n a) e nan l) (mul-fits binary64 (at (swept limit n (start n (amax n n a) a) .reached .matrix) n e e) (amax n n a)))
 
 -- a projection, where it is finite
 project-most : (limit n : ℕ) (a : Matrix) → n ≤ maxSide → limit ≤ maxSweeps → (z : ℕ → Float) → ((i : ℕ) → i < n → T (fits binary64 (z i)) × T (isFinite (z i)) × (mag (z i) ≤ 2 ^ suc oneBits))
     → (e : ℕ) → e < n → T (isFinite (nth (project n (decompose limit n a) z) e)) → mag (nth (project n (decompose limit n a) z) e) ≤ 2 ^ projectedMost
 project-most limit n a few short z each e l F =
     let W = at (decompose limit n a .vectors) n in
-    let i : nth (project n (decompose limit n a) z) e ≡ sumTo n (λ i. W i e ⊗ z i) = unfold project in nth-tab n (λ e. sumTo n (λ i. W i e ⊗ z i)) e nan l in
+    let i : nth (project n (decompose limit n a) z) e ≡ sumTo n (λ i. W i e ⊗ z i) = unfold project in getD-tab n (λ e. sumTo n (λ i. W i e ⊗ z i)) e nan l in
     rw i (sum-most n turnedMost (λ i. W i e ⊗ z i) few (lit≤ tt) (λ t b.
     let f = sum-finite n (λ i. W i e ⊗ z i) (subst (λ (y : Float). T (isFinite y)) i F) t b in
     let q = mul-finite (W t e) (z t) f in
@@ -142,20 +142,20 @@ pub record Passed (limit n : ℕ) (m : Moments) (s : ℕ → Float) : Type 0 whe
 abbrev inverse : ℕ → Moments → ℕ → Float
 inverse n m i = one ⊘ sqrt (Σ n m i i)
 
-abbrev share : ℕ → Moments → ℕ → Float
-share n m i = nth (m .mean) i ⊘ sqrt (Σ n m i i)
+abbrev meanOver : ℕ → Moments → ℕ → Float
+meanOver n m i = nth (m .mean) i ⊘ sqrt (Σ n m i i)
 
 abbrev aOf : ℕ → Moments → (ℕ → ℤ) → ℤ
 aOf n m e = commonExponent n (inverse n m) (λ i. negℤ (e i))
 
 abbrev bOf : ℕ → Moments → ℤ
-bOf n m = commonExponent n (share n m) (λ i. pos 0)
+bOf n m = commonExponent n (meanOver n m) (λ i. pos 0)
 
 abbrev ones : ℕ → Moments → (ℕ → ℤ) → List Float
 ones n m e = gathered n (inverse n m) (λ i. negℤ (e i)) (aOf n m e)
 
 abbrev means : ℕ → Moments → List Float
-means n m = gathered n (share n m) (λ i. pos 0) (bOf n m)
+means n m = gathered n (meanOver n m) (λ i. pos 0) (bOf n m)
 
 abbrev distance : ℕ → Decomposition → Float → List Float → List Float → ℤ → Float
 distance n d P x y b = P ⊗ pow2Scaled (max0 (distanceOf n d x y (ratioOf n d x y))) (b +ℤ b)
@@ -188,11 +188,11 @@ ratio-small limit (suc n) a p few short test x y hy F =
     (projected x) (projected y) (project-most limit (suc n) a few short (nth y) hy) F
   where
     projected : (x : List Float) (e : ℕ) → e < suc n → T (fits binary64 (nth (project (suc n) (decompose limit (suc n) a) (nth x)) e))
-    projected x e l = unfold project in rw (nth-tab (suc n) (λ e. sumTo (suc n) (λ i. at (decompose limit (suc n) a .vectors) (suc n) i e ⊗ nth x i)) e nan l) (sum-fits (suc n) (λ i. at (decompose limit (suc n) a .vectors) (suc n) i e ⊗ nth x i))
+    projected x e l = unfold project in rw (getD-tab (suc n) (λ e. sumTo (suc n) (λ i. at (decompose limit (suc n) a .vectors) (suc n) i e ⊗ nth x i)) e nan l) (sum-fits (suc n) (λ i. at (decompose limit (suc n) a .vectors) (suc n) i e ⊗ nth x i))
 
-module _ {k n P : ℕ} {x y : Matrix} (small : k ≤ maxPower) (r : Returns k n P returnBounds x y) (tops : (i : ℕ) → i < n → over (exponentsOf P n y i) ≤ exponentAbove returnBounds) (limit : ℕ) (p : Passed limit n (found P n x) (sizeOf P n x)) where
+module _ {k n P : ℕ} {x y : Matrix} (small : k ≤ maxPower) (r : Returns k n P returnBounds x y) (tops : (i : ℕ) → i < n → over (exponentsOf P n y i) ≤ exponentAbove returnBounds) (limit : ℕ) (p : Passed limit n (unitMoments P n x) (sizeOf P n x)) where
   abbrev m' : Moments
-  m' = found P n x
+  m' = unitMoments P n x
 
   abbrev e : ℕ → ℤ
   e = exponentsOf P n x
@@ -201,25 +201,25 @@ module _ {k n P : ℕ} {x y : Matrix} (small : k ≤ maxPower) (r : Returns k n 
   f = exponentsOf P n y
 
   abbrev d : Decomposition
-  d = taken limit n (found P n x)
+  d = taken limit n (unitMoments P n x)
 
-  a-small : Within onesAbove onesBelow (aOf n (found P n x) (exponentsOf P n x))
+  a-small : Within onesAbove onesBelow (aOf n (unitMoments P n x) (exponentsOf P n x))
   a-small = common-in (inverse n m') (λ i. negℤ (e i)) (Within onesAbove onesBelow) n (none-small onesAbove onesBelow) (λ i l.
       plus-small (binaryExponent (inverse n m' i)) (negℤ (e i)) (inverse-exponent small r i l (p .above i l)) (neg-small (e i) (exponent-small small r i l (p .above i l))))
 
-  a'-small : under (aOf n (found P n x) (exponentsOf P n y)) ≤ onesBelow
+  a'-small : under (aOf n (unitMoments P n x) (exponentsOf P n y)) ≤ onesBelow
   a'-small = common-in (inverse n m') (λ i. negℤ (f i)) (λ z. under z ≤ onesBelow) n (none-small 0 onesBelow .1) (λ i l.
       let b = binaryExponent (inverse n m' i) in
       let q = inverse-exponent small r i l (p .above i l) in
       omega (arith, plus b (negℤ (f i)), one-side (b +ℤ negℤ (f i)), under-neg (f i), tops i l))
 
-  b-small : Within meansAbove meansBelow (bOf n (found P n x))
-  b-small = common-in (share n m') (λ i. pos 0) (Within meansAbove meansBelow) n (none-small meansAbove meansBelow) (λ i l. plus-small (binaryExponent (share n m' i)) (pos 0) (share-exponent small r i l (p .above i l)) (none-small 0 0))
+  b-small : Within meansAbove meansBelow (bOf n (unitMoments P n x))
+  b-small = common-in (meanOver n m') (λ i. pos 0) (Within meansAbove meansBelow) n (none-small meansAbove meansBelow) (λ i l. plus-small (binaryExponent (meanOver n m' i)) (pos 0) (mean-over-exponent small r i l (p .above i l)) (none-small 0 0))
 
-  lower : aOf n (found P n x) (exponentsOf P n y) +ℤ pos k ≡ aOf n (found P n x) (exponentsOf P n x)
+  lower : aOf n (unitMoments P n x) (exponentsOf P n y) +ℤ pos k ≡ aOf n (unitMoments P n x) (exponentsOf P n x)
   lower = common-lower (inverse n m') e f k n (r .assets) (λ i l. grows small r i l (p .above i l)) (λ i l. inverse-some small r i l (p .above i l))
 
-  ones-same : ones n (found P n x) (exponentsOf P n y) ≡ ones n (found P n x) (exponentsOf P n x)
+  ones-same : ones n (unitMoments P n x) (exponentsOf P n y) ≡ ones n (unitMoments P n x) (exponentsOf P n x)
   unfolding gathered
   ones-same =
       let A = aOf n m' e in
@@ -228,20 +228,20 @@ module _ {k n P : ℕ} {x y : Matrix} (small : k ≤ maxPower) (r : Returns k n 
       (let g = grows small r i l (p .above i l) in omega (arith, minus (negℤ (f i)) B, minus (negℤ (e i)) A, over-neg (f i), under-neg (f i), over-neg (e i), under-neg (e i), plus (e i) (pos k), plus B (pos k), ap over g, ap under g, ap over lower, ap under lower))))
 
   -- ---- the ratio
-  means-small : (i : ℕ) → i < n → T (fits binary64 (nth (means n (found P n x)) i)) × T (isFinite (nth (means n (found P n x)) i)) × (mag (nth (means n (found P n x)) i) ≤ 2 ^ suc oneBits)
+  means-small : (i : ℕ) → i < n → T (fits binary64 (nth (means n (unitMoments P n x)) i)) × T (isFinite (nth (means n (unitMoments P n x)) i)) × (mag (nth (means n (unitMoments P n x)) i) ≤ 2 ^ suc oneBits)
   unfolding gathered over under
   means-small i l =
       let b = bOf n m' in
       let j = pos 0 -ℤ b in
-      let z = share n m' i in
+      let z = meanOver n m' i in
       let c = b-small in
-      let q = below-two (meanShareBounds .most) z (share-range small r i l (p .above i l)) j (omega (arith, minus (pos 0) b)) (omega (arith, minus (pos 0) b)) (λ s.
-      let w = common-above (share n m') (λ i. pos 0) n i l (eq-zero z (share-range small r i l (p .above i l) .fit) (share-range small r i l (p .above i l) .finite) ∙ ne-eqb (mag z) 0 (λ e. lt-irrefl 0 (subst (λ (n : ℕ). 0 < n) e s))) in
+      let q = below-two (meanOverBounds .most) z (mean-over-range small r i l (p .above i l)) j (omega (arith, minus (pos 0) b)) (omega (arith, minus (pos 0) b)) (λ s.
+      let w = common-above (meanOver n m') (λ i. pos 0) n i l (eq-zero z (mean-over-range small r i l (p .above i l) .fit) (mean-over-range small r i l (p .above i l) .finite) ∙ ne-eqb (mag z) 0 (λ e. lt-irrefl 0 (subst (λ (n : ℕ). 0 < n) e s))) in
       omega (arith, plus (binaryExponent z) j, minus (pos 0) b, plus (binaryExponent z) (pos 0))) in
-      rw (nth-tab n (λ i. pow2Scaled (share n m' i) (pos 0 -ℤ b)) i nan l) (scaled-fits z j, q .0, q .1)
+      rw (getD-tab n (λ i. pow2Scaled (meanOver n m' i) (pos 0 -ℤ b)) i nan l) (scaled-fits z j, q .0, q .1)
 
   abbrev R : Float
-  R = ratioOf n (taken limit n (found P n x)) (ones n (found P n x) (exponentsOf P n x)) (means n (found P n x))
+  R = ratioOf n (taken limit n (unitMoments P n x)) (ones n (unitMoments P n x) (exponentsOf P n x)) (means n (unitMoments P n x))
 
   R-small : T (isFinite R) → mag R ≤ 2 ^ ratioMost
   R-small = ratio-small limit n (correlations n m') (r .assets) (r .few) (p .limited) (p .regular) (ones n m' e) (means n m') means-small
@@ -255,22 +255,22 @@ module _ {k n P : ℕ} {x y : Matrix} (small : k ≤ maxPower) (r : Returns k n 
   targetMost = ratioMost + targetAbove - k
 
   abbrev S : ℤ
-  S = bOf n (found P n x) -ℤ aOf n (found P n x) (exponentsOf P n x)
+  S = bOf n (unitMoments P n x) -ℤ aOf n (unitMoments P n x) (exponentsOf P n x)
 
   S-small : Within targetAbove targetBelow S
   S-small = (omega (arith, minus (bOf n m') (aOf n m' e), one-side S, a-small, b-small), omega (arith, minus (bOf n m') (aOf n m' e), one-side S, a-small, b-small))
 
-  S-moves : bOf n (found P n x) -ℤ aOf n (found P n x) (exponentsOf P n y) ≡ S +ℤ pos k
+  S-moves : bOf n (unitMoments P n x) -ℤ aOf n (unitMoments P n x) (exponentsOf P n y) ≡ S +ℤ pos k
   S-moves = same (bOf n m' -ℤ aOf n m' f) (S +ℤ pos k) (omega (arith, minus (bOf n m') (aOf n m' f), minus (bOf n m') (aOf n m' e), plus S (pos k), plus (aOf n m' f) (pos k), ap over lower, ap under lower))
 
   S'-small : Within targetAbove targetBelow (S +ℤ pos k)
   unfolding under
   S'-small = (omega (arith, ap over S-moves, minus (bOf n m') (aOf n m' f), one-side (bOf n m' -ℤ aOf n m' f), a'-small, b-small), omega (arith, plus S (pos k), one-side (S +ℤ pos k), S-small))
 
-  target-is : bayesStein n limit (found P n x) (exponentsOf P n x) .target ≡ pow2Scaled R S
+  target-is : bayesStein n limit (unitMoments P n x) (exponentsOf P n x) .target ≡ pow2Scaled R S
   target-is = pull-is limit n m' e .1
 
-  target'-is : bayesStein n limit (found P n x) (exponentsOf P n y) .target ≡ pow2Scaled R (S +ℤ pos k)
+  target'-is : bayesStein n limit (unitMoments P n x) (exponentsOf P n y) .target ≡ pow2Scaled R (S +ℤ pos k)
   target'-is = pull-is limit n m' f .1 ∙ ap₂ (λ (o : List Float) (j : ℤ). pow2Scaled (ratioOf n d o (means n m')) j) ones-same S-moves
 
   endless : (s : Bool) → shift (pos k) (inf s) ≡ inf s
@@ -285,14 +285,14 @@ module _ {k n P : ℕ} {x y : Matrix} (small : k ≤ maxPower) (r : Returns k n 
       let F : T (isFinite R) = subst (λ (z : Float). T (isFinite z)) (sym q) (unfold isFinite in tt) in
       tied R R-fits F ratioMost (R-small F) S k small (le-trans (S-small .1) (lit≤ tt)) (le-trans (S-small .0) (lit≤ tt)) (let c = S'-small in omega arith) a b
 
-  pub target-fits : T (fits binary64 (bayesStein n limit (found P n x) (exponentsOf P n x) .target))
+  pub target-fits : T (fits binary64 (bayesStein n limit (unitMoments P n x) (exponentsOf P n x) .target))
   target-fits = rw target-is (scaled-fits R S)
 
-  pub target-moved : AtLeast meanRange (bayesStein n limit (found P n x) (exponentsOf P n x) .target) → AtLeast meanRange (bayesStein n limit (found P n x) (exponentsOf P n y) .target) → bayesStein n limit (found P n x) (exponentsOf P n y) .target ≡ shift (pos k) (bayesStein n limit (found P n x) (exponentsOf P n x) .target)
+  pub target-moved : AtLeast meanRange (bayesStein n limit (unitMoments P n x) (exponentsOf P n x) .target) → AtLeast meanRange (bayesStein n limit (unitMoments P n x) (exponentsOf P n y) .target) → bayesStein n limit (unitMoments P n x) (exponentsOf P n y) .target ≡ shift (pos k) (bayesStein n limit (unitMoments P n x) (exponentsOf P n x) .target)
   target-moved a b = target'-is ∙ scaled-moved R refl (subst (AtLeast meanRange) target-is a) (subst (AtLeast meanRange) target'-is b) ∙ ap (shift (pos k)) (sym target-is)
 
   -- a finite target's range: 0, or from 2 ^ -400, and not so large that it overflows in either run
-  target-range : AtLeast meanRange (bayesStein n limit (found P n x) (exponentsOf P n x) .target) → T (isFinite (bayesStein n limit (found P n x) (exponentsOf P n x) .target)) → Bounded (sizes (meanIntensityBounds .least) targetMost) (bayesStein n limit (found P n x) (exponentsOf P n x) .target)
+  target-range : AtLeast meanRange (bayesStein n limit (unitMoments P n x) (exponentsOf P n x) .target) → T (isFinite (bayesStein n limit (unitMoments P n x) (exponentsOf P n x) .target)) → Bounded (sizes (meanIntensityBounds .least) targetMost) (bayesStein n limit (unitMoments P n x) (exponentsOf P n x) .target)
   target-range a F = rw target-is (go (subst (AtLeast meanRange) target-is a) (subst (λ (z : Float). T (isFinite z)) target-is F))
     where
       go : AtLeast meanRange (pow2Scaled R S) → T (isFinite (pow2Scaled R S)) → Bounded (sizes (meanIntensityBounds .least) targetMost) (pow2Scaled R S)
@@ -310,12 +310,12 @@ module _ {k n P : ℕ} {x y : Matrix} (small : k ≤ maxPower) (r : Returns k n 
 
   -- ---- the intensity
   abbrev α : Float
-  α = bayesStein n limit (found P n x) (exponentsOf P n x) .intensity
+  α = bayesStein n limit (unitMoments P n x) (exponentsOf P n x) .intensity
 
-  pub intensity-same : bayesStein n limit (found P n x) (exponentsOf P n y) .intensity ≡ bayesStein n limit (found P n x) (exponentsOf P n x) .intensity
+  pub intensity-same : bayesStein n limit (unitMoments P n x) (exponentsOf P n y) .intensity ≡ bayesStein n limit (unitMoments P n x) (exponentsOf P n x) .intensity
   intensity-same = pull-is limit n m' f .0 ∙ ap (λ (o : List Float). intensityAt n (distance n d (m' .periods) o (means n m') (bOf n m'))) ones-same ∙ sym (pull-is limit n m' e .0)
 
-  intensity-range : AtLeast meanRange (bayesStein n limit (found P n x) (exponentsOf P n x) .intensity) → (bayesStein n limit (found P n x) (exponentsOf P n x) .intensity ≡ nan) ⊎ MeanIntensity (bayesStein n limit (found P n x) (exponentsOf P n x) .intensity)
+  intensity-range : AtLeast meanRange (bayesStein n limit (unitMoments P n x) (exponentsOf P n x) .intensity) → (bayesStein n limit (unitMoments P n x) (exponentsOf P n x) .intensity ≡ nan) ⊎ MeanIntensity (bayesStein n limit (unitMoments P n x) (exponentsOf P n x) .intensity)
   intensity-range a =
       let u = pull-unit limit n m' e (r .few) (unfold moments in sign-count P) in
       unit-range meanRange (lit≤ tt) α (rw (pull-is limit n m' e .0) (div-fits binary64 (count n ⊕ two) _)) a (u .0) (u .1)
@@ -324,9 +324,9 @@ module _ {k n P : ℕ} {x y : Matrix} (small : k ≤ maxPower) (r : Returns k n 
   -- with a target that is finite, and with one that is not
   module _ (i : ℕ) (l : i < n) (a : MeanIntensity α) where
     abbrev t : Float
-    t = bayesStein n limit (found P n x) (exponentsOf P n x) .target
+    t = bayesStein n limit (unitMoments P n x) (exponentsOf P n x) .target
 
-    part : Moved k (scaledBackOf leftMeanBounds) (pow2Scaled ((one ⊖ α) ⊗ nth (found P n x .mean) i) (exponentsOf P n x i)) (pow2Scaled ((one ⊖ α) ⊗ nth (found P n x .mean) i) (exponentsOf P n y i))
+    part : Moved k (scaledBackOf leftMeanBounds) (pow2Scaled ((one ⊖ α) ⊗ nth (unitMoments P n x .mean) i) (exponentsOf P n x i)) (pow2Scaled ((one ⊖ α) ⊗ nth (unitMoments P n x .mean) i) (exponentsOf P n y i))
     part =
         let rest = moved-sub meanIntensityBounds tt tt one-moved (still meanIntensityBounds a) (lit≤ tt) in
         let q = moved-mul rest (still unitMeanBounds (μ-range small r i l)) (lit≤ tt) (lit≤ tt) .range in
@@ -339,7 +339,7 @@ module _ {k n P : ℕ} {x y : Matrix} (small : k ≤ maxPower) (r : Returns k n 
               (fits-move (leftMeanBounds .most) z q (j +ℤ pos k) (unfold over under in omega (arith, plus j (pos k))) (unfold over under in omega (arith, plus j (pos k))));
         }
 
-    mean-finite : AtLeast meanRange t → T (isFinite t) → (t' : Float) → t' ≡ shift (pos k) t → pow2Scaled ((one ⊖ α) ⊗ nth (found P n x .mean) i) (exponentsOf P n y i) ⊕ α ⊗ t' ≡ shift (pos k) (pow2Scaled ((one ⊖ α) ⊗ nth (found P n x .mean) i) (exponentsOf P n x i) ⊕ α ⊗ t)
+    mean-finite : AtLeast meanRange t → T (isFinite t) → (t' : Float) → t' ≡ shift (pos k) t → pow2Scaled ((one ⊖ α) ⊗ nth (unitMoments P n x .mean) i) (exponentsOf P n y i) ⊕ α ⊗ t' ≡ shift (pos k) (pow2Scaled ((one ⊖ α) ⊗ nth (unitMoments P n x .mean) i) (exponentsOf P n x i) ⊕ α ⊗ t)
     mean-finite b F t' e =
         let c = sizes (meanIntensityBounds .least) targetMost in
         let d = productOf meanIntensityBounds c in
@@ -347,7 +347,7 @@ module _ {k n P : ℕ} {x y : Matrix} (small : k ≤ maxPower) (r : Returns k n 
         let q = rw (zero-add k) at (moved-mul (still meanIntensityBounds a) w (lit≤ tt) (omega arith)) in
         moved-add d (is-covered d (scaledBackOf leftMeanBounds) (lit≤ tt) (omega arith)) (is-covered d d (le-refl (d .grain)) (le-refl (d .most))) part q (omega arith) .copy
 
-    mean-endless : (T (isFinite t) → ⊥) → (t' : Float) → t' ≡ shift (pos k) t → pow2Scaled ((one ⊖ α) ⊗ nth (found P n x .mean) i) (exponentsOf P n y i) ⊕ α ⊗ t' ≡ shift (pos k) (pow2Scaled ((one ⊖ α) ⊗ nth (found P n x .mean) i) (exponentsOf P n x i) ⊕ α ⊗ t)
+    mean-endless : (T (isFinite t) → ⊥) → (t' : Float) → t' ≡ shift (pos k) t → pow2Scaled ((one ⊖ α) ⊗ nth (unitMoments P n x .mean) i) (exponentsOf P n y i) ⊕ α ⊗ t' ≡ shift (pos k) (pow2Scaled ((one ⊖ α) ⊗ nth (unitMoments P n x .mean) i) (exponentsOf P n x i) ⊕ α ⊗ t)
     mean-endless F t' e =
         let z = α ⊗ t in
         let G : T (isFinite z) → ⊥ = λ g. F (mul-finite α t g .1) in
@@ -369,8 +369,8 @@ module _ {k n P : ℕ} {x y : Matrix} (small : k ≤ maxPower) (r : Returns k n 
         absorbs (fin r c w) (inf s) f g = unfold add in refl
         absorbs x (fin s c w) f g = absurd (g (unfold isFinite in tt))
 
-  pub means-moved : AtLeast meanRange α → AtLeast meanRange (bayesStein n limit (found P n x) (exponentsOf P n x) .target) → AtLeast meanRange (bayesStein n limit (found P n x) (exponentsOf P n y) .target) → (i : ℕ) → i < n
-      → bayesStein n limit (found P n x) (exponentsOf P n y) .mean i ≡ shift (pos k) (bayesStein n limit (found P n x) (exponentsOf P n x) .mean i)
+  pub means-moved : AtLeast meanRange α → AtLeast meanRange (bayesStein n limit (unitMoments P n x) (exponentsOf P n x) .target) → AtLeast meanRange (bayesStein n limit (unitMoments P n x) (exponentsOf P n y) .target) → (i : ℕ) → i < n
+      → bayesStein n limit (unitMoments P n x) (exponentsOf P n y) .mean i ≡ shift (pos k) (bayesStein n limit (unitMoments P n x) (exponentsOf P n x) .mean i)
   unfolding pulled
   means-moved a b c i l =
       let t' = bayesStein n limit m' f .target in
@@ -378,13 +378,13 @@ module _ {k n P : ℕ} {x y : Matrix} (small : k ≤ maxPower) (r : Returns k n 
       ap (λ (z : Float). pow2Scaled ((one ⊖ z) ⊗ μ) (exponentsOf P n y i) ⊕ z ⊗ t') intensity-same ∙ go (intensity-range a)
     where
       t : Float
-      t = bayesStein n limit (found P n x) (exponentsOf P n x) .target
+      t = bayesStein n limit (unitMoments P n x) (exponentsOf P n x) .target
 
       decide : (b : Bool) → isFinite t ≡ b → T (isFinite t) ⊎ (T (isFinite t) → ⊥)
       decide true e = inl (rw e tt)
       decide false e = inr (λ f. subst T e f)
 
-      go : (α ≡ nan) ⊎ MeanIntensity α → pow2Scaled ((one ⊖ α) ⊗ nth (found P n x .mean) i) (exponentsOf P n y i) ⊕ α ⊗ bayesStein n limit (found P n x) (exponentsOf P n y) .target ≡ shift (pos k) (pow2Scaled ((one ⊖ α) ⊗ nth (found P n x .mean) i) (exponentsOf P n x i) ⊕ α ⊗ bayesStein n limit (found P n x) (exponentsOf P n x) .target)
+      go : (α ≡ nan) ⊎ MeanIntensity α → pow2Scaled ((one ⊖ α) ⊗ nth (unitMoments P n x .mean) i) (exponentsOf P n y i) ⊕ α ⊗ bayesStein n limit (unitMoments P n x) (exponentsOf P n y) .target ≡ shift (pos k) (pow2Scaled ((one ⊖ α) ⊗ nth (unitMoments P n x .mean) i) (exponentsOf P n x i) ⊕ α ⊗ bayesStein n limit (unitMoments P n x) (exponentsOf P n x) .target)
       go (inr q) = elim (decide (isFinite t) refl) [ inl F ↦ mean-finite i l q b F (bayesStein n limit m' f .target) (target-moved b c) | inr F ↦ mean-endless i l q F (bayesStein n limit m' f .target) (target-moved b c) ]
       go (inl q) = nothing (pow2Scaled ((one ⊖ α) ⊗ nth (m' .mean) i) (exponentsOf P n y i)) (bayesStein n limit m' f .target) ∙ sym (shift-nan (pos k)) ∙ ap (shift (pos k)) (sym (nothing (pow2Scaled ((one ⊖ α) ⊗ nth (m' .mean) i) (exponentsOf P n x i)) (bayesStein n limit m' e .target)))
         where

@@ -178,8 +178,8 @@ steadyVolatilityBounds = sizes (tenBillionthBounds .least) (unitVolatilityBounds
 abbrev pub inverseBounds : Bounds
 inverseBounds = quotientOf oneBounds steadyVolatilityBounds
 
-abbrev pub meanShareBounds : Bounds
-meanShareBounds = quotientOf unitMeanBounds steadyVolatilityBounds
+abbrev pub meanOverBounds : Bounds
+meanOverBounds = quotientOf unitMeanBounds steadyVolatilityBounds
 
 -- what is left of a mean, scaled back
 abbrev pub leftMeanBounds : Bounds

@@ -5,7 +5,7 @@
 use mathlib.Core.Path.{_≡_, refl, sym, ap, ap₂, _∙_, subst, subst₂}
 use mathlib.Core.Logic.{inl, inr}
 use Prim.Native.Nat.{ℕ, zero, suc, _+_, _-_, _*_, _/_, _^_, _≤_, _<_, zero-le}
-use native.Mathlib.Nat.{le-add-right, sub-le, sub-le-sub-left, le-trans, le-of-eq, le-of-lt, lt-of-lt-of-le, lt-of-le-of-lt, lt-irrefl, lt-suc-self, lt-trans, mul-le-mul, mul-le-mul-left, mul-le-mul-right, mul-pos, mul-assoc, mul-comm, mul-right-comm, one-mul, le-of-mul-le-mul-right, zero-lt-suc, eq-zero-or-pos, not-suc-le-zero, le-div-iff-mul-le, div-mul-le-self, eq-or-lt-of-le, le-of-suc-le-suc, add-zero}
+use native.Mathlib.Nat.{le-add-right, sub-le, sub-le-sub-left, le-trans, le-of-eq, le-of-lt, lt-of-lt-of-le, lt-of-le-of-lt, lt-irrefl, lt-suc-self, lt-trans, mul-le-mul, mul-le-mul-left, mul-le-mul-right, mul-pos, mul-assoc, mul-comm, mul-right-comm, one-mul, le-of-mul-le-mul-right, zero-lt-suc, eq-zero-or-pos, not-suc-le-zero, le-div-iff-mul-le, div-mul-le-self, eq-or-lt-of-le, le-of-suc-le-suc}
 use native.Mathlib.Omega.{arith}
 use mathlib.Core.Bool.{Bool, true, false, cond}
 use lib.Dec.{T, eqb·suc-zero, lit≤, lit<}
@@ -18,23 +18,19 @@ use lib.Ieee.Fits.{mul-fits, div-fits}
 use Rattle.leaves.proofs.Laws.{size-pos}
 use Rattle.leaves.proofs.Whole.{le-or-lt}
 use borrow.Author.Tests.{ltb-true}
-use Rattle.leaves.specs.Numbers.{_⊕_, _⊗_, _⊘_, ε, count, isFinite, larger, smaller}
+use Rattle.leaves.specs.Numbers.{_⊗_, _⊘_, ε, count, isFinite, larger, smaller}
 use Rattle.leaves.specs.Loops.{loop, sumTo, minTo, maxTo}
 use Rattle.leaves.proofs.Rounding.{near, Near, near-most, near-error, near-held, held-times}
 use Rattle.leaves.proofs.Units.{oneBits, topBits, fractionBits, val-pos, U, U-pos, Top, Val, zero-mag, sign, mag, val-mag, val-finite, mag-val, mag-held, finite-fin, fin-val, fin-under-Top, finite-mag, rounded-val}
-use Rattle.leaves.proofs.Arithmetic.{add-finite, mul-finite, div-finite, mul-rounded, div-rounded}
-use Rattle.leaves.proofs.Range.{count-val, range-most, range-null}
-use Rattle.leaves.proofs.Bounds.{multiples, sumOf, only-zero}
-use Rattle.leaves.proofs.Operations.{Moved, still, moved-add}
+use Rattle.leaves.proofs.Arithmetic.{mul-finite, div-finite, mul-rounded, div-rounded}
+use Rattle.leaves.proofs.Range.{count-val}
 use Rattle.leaves.proofs.Signs.{sign-mul, sign-div}
-use Rattle.leaves.proofs.Totals.{moved-sum}
 use Rattle.leaves.proofs.Keys.{number, finite-number, key, lt-key, Fine, larger-by, smaller-by, picked}
 use Rattle.matrix.specs.Limits.{maxSide}
 use Rattle.matrix.proofs.Turn.{turnBits}
-use Rattle.law.proofs.Bits.{sideBits, side-bits}
-use Rattle.law.proofs.Ranges.{zeroBounds}
+use Rattle.law.proofs.Bits.{sideBits}
 use Rattle.law.proofs.Sizes.{over-inf, le-or}
-use Rattle.law.proofs.Weighted.{sum-fits, sum-least}
+use Rattle.law.proofs.Sums.{sum-fits, sum-least, sum-finite, sum-most, sum-some}
 
 -- a product of an entry of V and a number below 2, and a projection, which is a sum of such
 abbrev pub turnedMost : ℕ
@@ -76,36 +72,6 @@ module _ (x y : Float) (fx : T (fits binary64 x)) (fy : T (fits binary64 y)) whe
 
     quotient : T (isFinite (x ⊘ y)) → Near (mag (x ⊘ y)) (mag x * U) (mag y)
     quotient f = subst (λ (g : ℕ). Near g (mag x * U) (mag y)) (sym (quotient-is f)) (near-error (mag x * U) (mag y) p)
-
--- ---- a finite sum has finite terms
-pub sum-finite : (n : ℕ) (f : ℕ → Float) → T (isFinite (sumTo n f)) → (t : ℕ) → t < n → T (isFinite (f t))
-unfolding sumTo loop
-sum-finite zero f h t l = absurd (not-suc-le-zero l)
-sum-finite (suc n) f h t l =
-    let q = add-finite (sumTo n f) (f n) h in
-    elim (eq-or-lt-of-le (le-of-suc-le-suc l)) [ inl e ↦ subst (λ (i : ℕ). T (isFinite (f i))) (sym e) (q .1) | inr i ↦ sum-finite n f (q .0) t i ]
-
--- at most 2 ^ h units each
-pub sum-most : (n h : ℕ) (f : ℕ → Float) → n ≤ maxSide → sideBits + h ≤ topBits → ((t : ℕ) → t < n → T (fits binary64 (f t)) × T (isFinite (f t)) × (mag (f t) ≤ 2 ^ h)) → mag (sumTo n f) ≤ 2 ^ (sideBits + h)
-sum-most n h f few o each = moved-sum 0 (multiples 0 h) n sideBits (side-bits few) (lit≤ tt) (rw (add-zero (sideBits + h)) o) f f (λ t l. let q = each t l in still (multiples 0 h) (range-most (f t) (q .0) (q .1) (q .2))) .range .most
-
--- zeros sum to zero, so a sum that is not zero has a term that is not
-sum-some : (n : ℕ) (f : ℕ → Float) → ((t : ℕ) → t < n → T (fits binary64 (f t))) → T (isFinite (sumTo n f)) → 0 < mag (sumTo n f) → (t : ℕ) × (t < n) × (0 < mag (f t))
-unfolding sumTo loop
-sum-some zero f h F p = absurd (lt-irrefl 0 (subst (λ (n : ℕ). 0 < n) (zero-mag false (pos 0)) p))
-sum-some (suc n) f h F p =
-    let q = add-finite (sumTo n f) (f n) F in
-    let rest : 0 < mag (sumTo n f) → (t : ℕ) × (t < suc n) × (0 < mag (f t)) = λ r. let w = sum-some n f (λ t l. h t (lt-trans l (lt-suc-self n))) (q .0) r in (w .0, lt-trans (w .1) (lt-suc-self n), w .2) in
-    elim (eq-zero-or-pos (mag (f n))) [
-      | inr r ↦ (n, lt-suc-self n, r)
-      | inl z ↦ elim (eq-zero-or-pos (mag (sumTo n f))) [ inr r ↦ rest r | inl y ↦ absurd (both (sumTo n f) (f n) (sum-fits n f) (h n (lt-suc-self n)) (q .0) (q .1) y z p) ]
-    ]
-  where
-    both : (x y : Float) → T (fits binary64 x) → T (fits binary64 y) → T (isFinite x) → T (isFinite y) → mag x ≡ 0 → mag y ≡ 0 → 0 < mag (x ⊕ y) → ⊥
-    both x y fx fy nx ny zx zy p =
-        let b = zeroBounds in
-        let null : (z : Float) → T (fits binary64 z) → T (isFinite z) → mag z ≡ 0 → Moved 0 zeroBounds z z = λ z t f e. still b (range-null z t f e (b .grain) (2 ^ b .least) (2 ^ b .most)) in
-        lt-irrefl 0 (subst (λ (n : ℕ). 0 < n) (only-zero (sumOf 1 b) (lit< tt) (moved-add b tt tt (null x fx nx zx) (null y fy ny zy) (lit≤ tt) .range)) p)
 
 -- ---- values that pass the test of Bayes and Stein
 -- 2 ^ -52, in units, and n of them

@@ -1,4 +1,4 @@
--- What is computed from the returns column by column, for returns x and their copies y, each 2 ^ k times x: means, deviations, largest sizes, the sample covariance and the two semicovariances are
+-- What is computed from the returns column by column, for returns x and their copies y, each 2 ^ k times x: means, deviations, largest sizes, the sample covariance, the two semicovariances and the test for a constant asset are
 -- scaled exactly, because every sum, product and quotient on the way is a whole number of units and far from overflow. The same laws with k = 0 give the bounds of what is computed from
 -- one run's numbers. Assumes nothing.
 use mathlib.Core.Path.{_≡_, ap, ap₂, _∙_}

@@ -23,7 +23,7 @@ use Rattle.law.proofs.Bits.{sideBits, side-bits}
 use Rattle.law.proofs.Ranges.{countBounds}
 use Rattle.law.proofs.Sizes.{over-inf, plus-val, two-is, two-val}
 use Rattle.law.proofs.Sample.{count-moved}
-use Rattle.law.proofs.Weighted.{plus-least}
+use Rattle.law.proofs.Sums.{plus-least}
 
 -- x / (x + y), for a number x above 0 and any y without a minus sign
 ratio-unit : {g L B : ℕ} (x y : Float) → Range g L B x → sign x ≡ false → 0 < mag x → T (fits binary64 y) → sign y ≡ false → lt one (x ⊘ (x ⊕ y)) ≡ false

@@ -17,7 +17,7 @@ use Rattle.leaves.proofs.Operations.{Moved, still, moved-within, moved-zero, mo
 use Rattle.matrix.specs.Matrix.{Matrix, identity}
 use Rattle.matrix.specs.Limits.{maxSide}
 use Rattle.estimators.specs.LedoitWolf.{averageVariance, constantCorrelation}
-use Rattle.estimators.specs.Adjusted.{pull, mixed, regularized, isAdjusted}
+use Rattle.estimators.specs.Adjusted.{weightedTarget, mixed, regularized, isAdjusted}
 use Rattle.estimators.specs.Refusals.{when}
 use Rattle.estimators.specs.Order.{badRegularization}
 use Rattle.estimators.specs.declared.Target.{Target}
@@ -61,7 +61,7 @@ Adjusted k x x' = Moved k adjustedBounds x x'
 
 module _ (k : ℕ) (small : k ≤ maxPower + maxPower) (δ : Float) (d : Intensity δ) (n : ℕ) (b b' : Matrix) (i j : ℕ) where
   -- with (1 - δ) b
-  mixed-moved : {c : Bounds} (F : Target) → T (covers partBounds c) → Moved k c (pull F δ n b i j) (pull F δ n b' i j) → Estimated k (b i j) (b' i j) → Shrunken k (mixed F δ n b i j) (mixed F δ n b' i j)
+  mixed-moved : {c : Bounds} (F : Target) → T (covers partBounds c) → Moved k c (weightedTarget F δ n b i j) (weightedTarget F δ n b' i j) → Estimated k (b i j) (b' i j) → Shrunken k (mixed F δ n b i j) (mixed F δ n b' i j)
   unfolding mixed
   mixed-moved F s p u =
       let rest = moved-sub intensityBounds tt tt one-moved (still intensityBounds d) (lit≤ tt) in
@@ -69,18 +69,18 @@ module _ (k : ℕ) (small : k ≤ maxPower + maxPower) (δ : Float) (d : Intensi
       moved-add partBounds s tt p q (omega arith)
 
   pub correlation-mixed : Targeted k (constantCorrelation n b i j) (constantCorrelation n b' i j) → Estimated k (b i j) (b' i j) → Shrunken k (mixed ConstantCorrelation δ n b i j) (mixed ConstantCorrelation δ n b' i j)
-  unfolding pull
+  unfolding weightedTarget
   correlation-mixed t u = mixed-moved ConstantCorrelation tt (rw (zero-add k) at (moved-mul-normal (still intensityBounds d) t (lit≤ tt) (omega arith))) u
 
   pub variance-mixed : 0 < n → n ≤ maxSide → ((i j : ℕ) → i < n → j < n → Estimated k (b i j) (b' i j)) → i < n → j < n → Shrunken k (mixed ConstantVariance δ n b i j) (mixed ConstantVariance δ n b' i j)
-  unfolding pull averageVariance
+  unfolding weightedTarget averageVariance
   variance-mixed assets few each a c =
       let m = moved-over (trace-moved n b b' few (omega arith) (λ i l. each i i l l)) (count-moved sideBits n (lit≤ tt) (side-bits few)) (count-pos n assets (le-trans few (lit≤ tt))) (lit≤ tt) (omega arith) in
       let p = rw (zero-add k) at (moved-mul-normal (still intensityBounds d) m (lit≤ tt) (omega arith)) in
       mixed-moved ConstantVariance tt (rw (add-zero k) at (moved-mul p (identity-moved i j) (lit≤ tt) (omega arith))) (each i j a c)
 
 pub nan-mixed : (F : Target) (n : ℕ) (b : Matrix) (i j : ℕ) → mixed F nan n b i j ≡ nan
-unfolding mixed pull add mul
+unfolding mixed weightedTarget add mul
 nan-mixed ConstantVariance n b i j = refl
 nan-mixed ConstantCorrelation n b i j = refl
 

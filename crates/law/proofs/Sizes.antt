@@ -1,29 +1,31 @@
--- The sizes that document 01 grants, as ranges of units: comparisons of numbers that are not negative are comparisons of their units. Assumes nothing.
+-- The sizes that document 01 grants, and numbers from 0 to 1, as ranges of units. Comparisons of numbers that are not negative are comparisons of their units, and of any numbers x ≤ y is the
+-- opposite of y < x. Assumes nothing.
 use mathlib.Core.Path.{_≡_, refl, sym, ap, _∙_, subst}
 use mathlib.Core.Logic.{_⊎_, inl, inr}
-use Prim.Native.Nat.{ℕ, zero, suc, _+_, _-_, _*_, _^_, _≤_, _<_}
-use native.Mathlib.Nat.{add-comm, le-of-eq, le-of-lt, le-of-suc-le-suc, not-suc-le-zero, lt-irrefl, one-mul, eq-zero-or-pos}
+use Prim.Native.Nat.{ℕ, zero, suc, _+_, _-_, _*_, _^_, _≤_, _<_, zero-le}
+use native.Mathlib.Nat.{add-comm, le-of-eq, le-of-lt, le-of-suc-le-suc, not-suc-le-zero, lt-irrefl, one-mul, eq-zero-or-pos, le-trans}
 use native.Mathlib.Omega.{arith}
-use mathlib.Core.Bool.{Bool, true, false, not, _&&_, _||_, and-true, or-not-self}
+use mathlib.Core.Bool.{Bool, true, false, not, _&&_, _||_, and-true, or-not-self, cond}
 use mathlib.Core.List.{List, [], _∷_}
 use lib.Dec.{T, ltb, eqb, lit≤}
 use lib.IntN.{ℤ, pos, negℤ}
 use lib.ListN.{length, getD}
-use lib.Pow.{pow-add}
+use lib.Pow.{pow-add, pow-mono}
 use lib.Ieee.{Float, nan, inf, fin, binary64, fits, eq, lt, le, below, level, up, down, unlike, div, ofInt, isNan}
 use lib.Ieee.Bits.{is-true}
 use lib.Ieee.Fits.{and-l, and-r}
 use mir.Facts.{or-yes}
 use borrow.Author.Tests.{not-true, not-false, lt-ltb, le-ltb, ltb-true, ltb-false, eqb-true, eqb-false}
-use Rattle.leaves.specs.Numbers.{_⊘_, zero⁺, two, count, isFinite, abs}
+use Rattle.leaves.specs.Numbers.{_⊘_, zero⁺, two, count, isFinite, abs, one, clamp01}
 use Rattle.leaves.specs.Scaling.{pow2}
 use Rattle.leaves.proofs.Whole.{over, under, over-neg, under-neg, up-is, down-is}
-use Rattle.leaves.proofs.Units.{oneBits, fractionBits, U, Val, val-finite, abs-val, sign, mag, zero-val, mag-val, lt-val, eq-zero}
+use Rattle.leaves.proofs.Units.{oneBits, fractionBits, U, Val, val-finite, abs-val, sign, mag, zero-val, mag-val, lt-val, eq-zero, val-mag, zero-mag, finite-fin, one-val}
 use Rattle.leaves.proofs.Keys.{number, finite-number}
 use Rattle.leaves.proofs.Range.{range-size, range-null, count-val}
-use Rattle.leaves.proofs.Bounds.{Bounded}
+use Rattle.leaves.proofs.Bounds.{Bounded, zero-bounded}
+use Rattle.leaves.proofs.Zero.{no, is-below}
 use Rattle.law.specs.Law.{All, Sized, AtLeast}
-use Rattle.law.proofs.Ranges.{sizedBounds}
+use Rattle.law.proofs.Ranges.{sizedBounds, fractionBounds}
 
 -- ---- lists
 pub all-at : (P : Float → Type 0) (l : List Float) (i : ℕ) → All P l → i < length l → P (getD l i nan)
@@ -165,3 +167,40 @@ at-least l h x v t = elim (eq-zero-or-pos (mag x)) [ inl z ↦ inl z | inr p ↦
     go true i true j t p = absurd t
     go true i false j t p = lt-no (abs x) (pow2 (negℤ (pos l))) (abs-val x v) (minus-val l h) j
     go false i b j t p = absurd (lt-irrefl 0 (native.Mathlib.Nat.lt-of-lt-of-le p (lt-no zero⁺ (abs x) (zero-val false (pos 0)) (abs-val x v) i)))
+
+-- ---- NaN, or from 0 to 1
+-- and 0 or at least 2 ^ -l
+pub unit-range : (l : ℕ) → fractionBits + l ≤ oneBits → (x : Float) → T (fits binary64 x) → AtLeast l x → lt x zero⁺ ≡ false → lt one x ≡ false → (x ≡ nan) ⊎ Bounded (fractionBounds l) x
+unit-range l h nan t a b c = inl refl
+unit-range l h (inf true) t a b c = unfold lt in absurd (subst T b tt)
+unit-range l h (inf false) t a b c = unfold lt in absurd (subst T c tt)
+unit-range l h (fin s m e) t a b c =
+    let x = fin s m e in
+    let f = finite-fin s m e in
+    let v = mag-val x t f in
+    let most : mag x ≤ 2 ^ oneBits = sign-case s v b c in
+    inr (range-size (oneBits - l) (2 ^ oneBits) x (omega arith) t f (at-least l (omega arith) x v a) most)
+  where
+    sign-case : (s : Bool) → Val (fin s m e) (sign (fin s m e)) (mag (fin s m e)) → lt (fin s m e) zero⁺ ≡ false → lt one (fin s m e) ≡ false → mag (fin s m e) ≤ 2 ^ oneBits
+    sign-case false v b c = unfold U in lt-no one (fin false m e) one-val (unfold sign in v) c
+    sign-case true v b c = zero-case m v b
+      where
+        zero-case : (m : ℕ) → Val (fin true m e) (sign (fin true m e)) (mag (fin true m e)) → lt (fin true m e) zero⁺ ≡ false → mag (fin true m e) ≤ 2 ^ oneBits
+        zero-case zero v b = le-trans (le-of-eq (zero-mag true e)) zero-le
+        zero-case (suc m) v b = no (is-below m e) b
+
+-- what holds of 0, of 1 and of what is neither below 0 nor above 1 holds of every number cut to that range
+pub clamp-cases : (P : Float → Type 0) (x : Float) → P zero⁺ → P one → (lt x zero⁺ ≡ false → lt one x ≡ false → P x) → P (clamp01 x)
+unfolding clamp01
+clamp-cases P x none all part = go (lt x zero⁺) refl (lt one x) refl
+  where
+    go : (a : Bool) → lt x zero⁺ ≡ a → (b : Bool) → lt one x ≡ b → P (cond a zero⁺ (cond b one x))
+    go true e b f = none
+    go false e true f = all
+    go false e false f = part e f
+
+pub clamped-range : (l : ℕ) → fractionBits + l ≤ oneBits → (x : Float) → T (fits binary64 x) → AtLeast l (clamp01 x) → (clamp01 x ≡ nan) ⊎ Bounded (fractionBounds l) (clamp01 x)
+clamped-range l h x t =
+    let i = val-mag one false (2 ^ oneBits) (unfold U in one-val) .1 in
+    let all : Bounded (fractionBounds l) one = range-size (oneBits - l) (2 ^ oneBits) one (omega arith) (unfold fits in tt) (unfold isFinite in tt) (inr (le-trans (pow-mono {i = oneBits - l} {j = oneBits} (omega arith)) (le-of-eq (sym i)))) (le-of-eq i) in
+    clamp-cases (λ z. AtLeast l z → (z ≡ nan) ⊎ Bounded (fractionBounds l) z) x (λ a. inr (zero-bounded (fractionBounds l))) (λ a. inr all) (λ b c a. unit-range l h x t a b c)

@@ -1,5 +1,5 @@
 -- One number R scaled by 2 ^ j and by 2 ^ (j + k), where neither result is between 0 and 2 ^ -400 in size: the second is 2 ^ k times the first. If R's digits end above the smallest unit in the first
--- they do in the second; if not, both results are so small that they must be zero. R is NaN, infinite, or so small that neither result overflows. Assumes nothing.
+-- they do in the second; if not, both results are so small that they must be zero. R is finite, and so small that neither result overflows. Assumes nothing.
 use mathlib.Core.Path.{_≡_, sym, ap, _∙_, subst, subst₂}
 use mathlib.Core.Logic.{inl, inr}
 use Prim.Native.Nat.{ℕ, suc, _+_, _-_, _*_, _^_, _≤_}

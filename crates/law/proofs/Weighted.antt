@@ -1,32 +1,29 @@
 -- The weighted mean and covariance. The weights are the same in both runs; over the power of two of a column's largest the returns are too, so the weighted mean of a column is one number, scaled back
 -- by 2 ^ e and by 2 ^ (e + k). Everything is in a range in which nothing rounds differently, and the weighted covariance's products with it. Assumes nothing.
 use mathlib.Core.Path.{_≡_, refl, sym, ap, _∙_, subst}
-use mathlib.Core.Logic.{inl, inr}
 use Prim.Native.Nat.{ℕ, zero, suc, _+_, _-_, _≤_, _<_}
-use native.Mathlib.Nat.{le-trans, le-of-eq, lt-of-lt-of-le, lt-suc-self, lt-trans, zero-add, add-zero}
+use native.Mathlib.Nat.{lt-of-lt-of-le, zero-add, add-zero}
 use native.Mathlib.Omega.{arith}
 use mathlib.Core.Bool.{Bool, true, false, _||_}
 use mathlib.Core.List.{List, map}
-use lib.Dec.{T, eqb, lit≤, lit<}
+use lib.Dec.{T, eqb, lit≤}
 use lib.IntN.{ℤ, pos, negℤ}
 use lib.ListN.{length}
 use lib.Ieee.{Float, nan, binary64, fits, le}
 use lib.Ieee.Bits.{is-true}
-use lib.Ieee.Fits.{add-fits, and-l, and-r}
+use lib.Ieee.Fits.{and-l, and-r}
 use borrow.Author.Tests.{ne-eqb}
-use Rattle.leaves.specs.Numbers.{_⊕_, _⊖_, _⊗_, _⊘_, count, isFinite}
-use Rattle.leaves.specs.Loops.{loop, sumTo, tab, fill, nth}
+use Rattle.leaves.specs.Numbers.{_⊖_, _⊗_, _⊘_, count}
+use Rattle.leaves.specs.Loops.{sumTo, tab, fill, nth}
 use Rattle.leaves.specs.Root.{sqrt}
 use Rattle.leaves.specs.Scaling.{binaryExponent, pow2Scaled}
 use Rattle.leaves.specs.Shift.{shift}
 use Rattle.leaves.specs.Exp.{exp}
-use Rattle.leaves.proofs.Loops.{sum-ext, nth-tab}
-use Rattle.leaves.proofs.Rounding.{near, near-least}
-use Rattle.leaves.proofs.Units.{sign, mag, mag-held, finite-mag}
-use Rattle.leaves.proofs.Arithmetic.{add-rounded, add-finite}
+use Rattle.leaves.proofs.Loops.{sum-ext, getD-tab}
+use Rattle.leaves.proofs.Units.{sign, mag}
 use Rattle.leaves.proofs.Operations.{Moved, still, moved-sub, moved-mul, moved-over}
 use Rattle.leaves.proofs.Bounds.{productOf}
-use Rattle.leaves.proofs.Signs.{sign-sum, sign-div, sign-not-below}
+use Rattle.leaves.proofs.Signs.{sign-div, sign-not-below}
 use Rattle.leaves.proofs.SqrtNearest.{moved-sqrt}
 use Rattle.leaves.proofs.Totals.{moved-sum}
 use Rattle.matrix.specs.Matrix.{Matrix, at}
@@ -46,35 +43,10 @@ use Rattle.law.proofs.Chain.{Chain, ends, chain-must, chained, parts, s
 use Rattle.law.proofs.Sample.{Returns, largest-above}
 use Rattle.law.proofs.Scaled.{Scaling, scaled-back, scaled-range}
 use Rattle.law.proofs.Opening.{returns, opening-chain, column}
-use Rattle.law.proofs.Sizes.{plus-val}
 use Rattle.law.proofs.Shrinkage.{Estimated}
 use Rattle.law.proofs.Exponential.{Weight}
 use Rattle.law.proofs.Weights.{weight-range, denominator-range}
-
--- ---- a sum of numbers without a minus sign is as large as each
-pub sum-fits : (n : ℕ) (f : ℕ → Float) → T (fits binary64 (sumTo n f))
-unfolding sumTo loop fits
-sum-fits zero f = tt
-sum-fits (suc n) f = add-fits binary64 (sumTo n f) (f n)
-
-pub plus-least : (x y : Float) → T (fits binary64 x) → T (fits binary64 y) → sign x ≡ false → sign y ≡ false → T (isFinite (x ⊕ y)) → (mag x ≤ mag (x ⊕ y)) × (mag y ≤ mag (x ⊕ y))
-plus-least x y tx ty sx sy F =
-    let q = add-finite x y F in
-    let i : mag (x ⊕ y) ≡ near (mag x + mag y) 1 = finite-mag (x ⊕ y) false (mag x + mag y) 1 (lit< tt) (add-rounded x y false false (mag x) (mag y) (plus-val x tx (q .0) sx) (plus-val y ty (q .1) sy)) F in
-    (rw i (near-least (mag x + mag y) 1 (mag x) (lit< tt) (mag-held x tx (q .0) .0) (omega arith)), rw i (near-least (mag x + mag y) 1 (mag y) (lit< tt) (mag-held y ty (q .1) .0) (omega arith)))
-
-pub sum-least : (n : ℕ) (f : ℕ → Float) → ((t : ℕ) → t < n → T (fits binary64 (f t)) × (sign (f t) ≡ false)) → T (isFinite (sumTo n f)) → (t : ℕ) → t < n → mag (f t) ≤ mag (sumTo n f)
-unfolding sumTo loop
-sum-least zero f h F t l = absurd (native.Mathlib.Nat.not-suc-le-zero l)
-sum-least (suc n) f h F t l =
-    let h' : (t : ℕ) → t < n → T (fits binary64 (f t)) × (sign (f t) ≡ false) = λ t l. h t (lt-trans l (lt-suc-self n)) in
-    let q = add-finite (sumTo n f) (f n) F in
-    let s = sign-sum n f (λ t l. h' t l .1) in
-    let x = plus-least (sumTo n f) (f n) (sum-fits n f) (h n (lt-suc-self n) .0) s (h n (lt-suc-self n) .1) F in
-    elim (native.Mathlib.Nat.eq-or-lt-of-le (native.Mathlib.Nat.le-of-suc-le-suc l)) [
-      | inl e ↦ le-trans (le-of-eq (ap (λ (i : ℕ). mag (f i)) e)) (x .1)
-      | inr i ↦ le-trans (sum-least n f h' (q .0) t i) (x .0)
-    ]
+use Rattle.law.proofs.Sums.{sum-least}
 
 -- ---- the weighted mean of a column
 -- weights w, without a minus sign and not zero
@@ -127,7 +99,7 @@ module _ {k n T : ℕ} {x y : Matrix} (small : k ≤ maxPower) (r : Returns k n 
 weighing : (P : ℕ) → 2 ≤ P → P ≤ maxPeriods → (h : Float) → T (fits binary64 h) → accepted (logDecay h) ≡ true → le (count (P - 1)) (count maxHalfLives ⊗ h) ≡ true → Weighing P (weights P (logDecay h))
 unfolding weights
 weighing P two most h fit ok long =
-    let at-t : (t : ℕ) → t < P → exp (count (P - 1 - t) ⊗ logDecay h) ≡ nth (tab P (λ t. exp (count (P - 1 - t) ⊗ logDecay h))) t = λ t l. sym (nth-tab P (λ t. exp (count (P - 1 - t) ⊗ logDecay h)) t nan l) in
+    let at-t : (t : ℕ) → t < P → exp (count (P - 1 - t) ⊗ logDecay h) ≡ nth (tab P (λ t. exp (count (P - 1 - t) ⊗ logDecay h))) t = λ t l. sym (getD-tab P (λ t. exp (count (P - 1 - t) ⊗ logDecay h)) t nan l) in
     let q = weight-range P two most h fit ok long in
     record {
       range = λ t l. subst Weight (at-t t l) (q (P - 1 - t) (omega arith) .0);

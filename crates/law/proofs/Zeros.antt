@@ -1,15 +1,14 @@
 -- Zeros of either sign, which sums, products and quotients keep, and numbers that are not below zero, infinity among them, which stay so and are not below a zero. Assumes nothing.
 use mathlib.Core.Path.{_≡_, refl, sym, ap, ap₂, _∙_, subst}
 use Prim.Native.Nat.{ℕ, zero, suc, _+_, _*_, _^_, _<_, zero-le}
-use native.Mathlib.Nat.{le-antisymm, le-trans, le-of-eq, lt-of-le-of-lt, zero-mul}
+use native.Mathlib.Nat.{le-antisymm, lt-of-le-of-lt}
 use native.Mathlib.Omega.{arith}
 use mathlib.Core.Bool.{Bool, true, false, cond}
-use lib.Dec.{T, ltb, lit≤}
+use lib.Dec.{T, ltb, lit≤, lit<}
 use lib.Pow.{pow-pos}
 use lib.IntN.{ℤ, pos, negsuc}
-use lib.Ieee.{Float, nan, inf, fin, binary64, up, down, unlike, odd, units, round, sum, add, mul, div, lt, le, eq, fits, isNan}
+use lib.Ieee.{Float, nan, inf, fin, binary64, up, down, unlike, odd, units, round, sum, add, mul, lt, le, eq, fits, isNan}
 use lib.Ieee.Fits.{div-fits, round-is}
-use borrow.Author.Tests.{le-ltb}
 use Rattle.leaves.specs.Numbers.{_⊕_, _⊗_, _⊘_, zero⁺, half, two, ε, isFinite}
 use Rattle.leaves.specs.Root.{sqrt}
 use Rattle.leaves.specs.Shift.{shift}
@@ -18,7 +17,7 @@ use Rattle.leaves.proofs.Zero.{no, zero-is-zero, other-is-not}
 use Rattle.leaves.proofs.Rounding.{near, near-most, held-small}
 use Rattle.leaves.proofs.Units.{oneBits, topBits, U, Top, sign, mag, Val, mag-val, zero-val, val-unique, rounded, rounded-val, pow-under-Top}
 use Rattle.leaves.proofs.Arithmetic.{div-rounded}
-use Rattle.leaves.proofs.Signs.{sign-add, sign-mul, sign-sqrt}
+use Rattle.leaves.proofs.Signs.{sign-add, sign-mul, sign-sqrt, sign-not-below}
 use Rattle.leaves.proofs.Keys.{number}
 use Rattle.law.proofs.Sizes.{not-lt}
 
@@ -66,13 +65,6 @@ zero-double = zero-by (λ x. two ⊗ x) go
     go true = unfold mul round in (true, refl)
     go false = unfold mul round in (false, refl)
 
-pub zero-average : (x : Float) → Zero x → Zero (x ⊘ two)
-zero-average = zero-by (λ x. x ⊘ two) go
-  where
-    go : (s : Bool) → Zero (fin s zero (pos 0) ⊘ two)
-    go true = unfold div round in (true, refl)
-    go false = unfold div round in (false, refl)
-
 pub is-zero : (x : Float) → Zero x → eq x zero⁺ ≡ true
 is-zero x p = ap (λ (x : Float). eq x zero⁺) (p .1) ∙ zero-is-zero (p .0) (pos 0)
 
@@ -98,6 +90,9 @@ zero-over x y p t f h = (u, ap (λ (z : Float). z ⊘ y) (p .1) ∙ val-unique (
       where
         Top-pos : 0 < Top
         Top-pos = lt-of-le-of-lt zero-le (pow-under-Top 0 (lit≤ tt))
+
+pub zero-average : (x : Float) → Zero x → Zero (x ⊘ two)
+zero-average x p = zero-over x two p (unfold fits in tt) (unfold isFinite in tt) (unfold mag U in lit< tt)
 
 -- ---- numbers that are not below zero, infinity among them
 abbrev pub Plus : Float → Type 0
@@ -206,12 +201,12 @@ plus-tolerance x p = (number-epsilon (sqrt x) (number-sqrt x (p .0) (p .1)), sig
 -- nothing of them is below a zero
 never-below : (s : Bool) (y : Float) → sign y ≡ false → lt y (fin s zero (pos 0)) ≡ false
 unfolding lt sign
-never-below s nan q = refl
-never-below s (inf true) q = no refl q
-never-below s (inf false) q = refl
-never-below s (fin true m e) q = no refl q
+never-below false y q = sign-not-below y q
+never-below true nan q = refl
+never-below true (inf true) q = no refl q
+never-below true (inf false) q = refl
+never-below true (fin true m e) q = no refl q
 never-below true (fin false m e) q = refl
-never-below false (fin false m e) q = le-ltb _ _ (le-trans (le-of-eq (ap (λ (z : ℕ). z * down e) (zero-mul 1) ∙ zero-mul (down e))) zero-le)
 
 pub zero-below : (s : Bool) (y : Float) → Plus y → le (fin s zero (pos 0)) y ≡ true
 unfolding isNan

@@ -11,7 +11,7 @@ use lib.ListN.{length, take}
 use lib.Ieee.{Float, nan, inf, fin, binary64, lt, le, eq, fits, up, down}
 use Rattle.leaves.specs.Numbers.{_⊗_, count, zero⁺, abs, signum}
 use Rattle.leaves.specs.Scaling.{pow2}
-use Rattle.estimators.specs.Refusals.{number, place, Place, nowhere, only, entry, value}
+use Rattle.estimators.specs.Refusals.{number, detail, Detail, nothing, only, entry, value}
 use Rattle.estimators.specs.Adjusted.{isSample, isGiven}
 use Rattle.estimators.specs.Calls.{Answered, answered, adjustedCovariance, ledoitWolfIntensity, exponentiallyWeightedMean, jamesSteinMean, bayesSteinMean}
 use Rattle.estimators.specs.declared.Estimate.{Estimate}
@@ -85,21 +85,21 @@ ask r n T (bayesStein limit) slice = bayesSteinMean r n T limit slice
 -- ---- the numbers of an answer
 
 -- "only refusal 12's eigenvalue is not compared"
-abbrev pub compared : Place → Place
-compared nowhere = nowhere
+abbrev pub compared : Detail → Detail
+compared nothing = nothing
 compared (only i) = only i
 compared (entry i j) = entry i j
-compared (value x) = nowhere
+compared (value x) = nothing
 
 pub record AnswerParts : Type 0 where
-  pub refusal : Option (ℕ × Place)
+  pub refusal : Option (ℕ × Detail)
   pub entries : List Float
   pub meansAndTarget : List Float
   pub intensity : List Float
   pub sweepsAndRotations : List ℕ
 
 abbrev pub answerParts : ℕ → Answer → List Float → AnswerParts
-answerParts n (Refused c) x = record { refusal = some (number c, compared (place c)); entries = []; meansAndTarget = []; intensity = []; sweepsAndRotations = [] }
+answerParts n (Refused c) x = record { refusal = some (number c, compared (detail c)); entries = []; meansAndTarget = []; intensity = []; sweepsAndRotations = [] }
 answerParts n (Covariance δ s r) x = record { refusal = none; entries = take (n * n) x; meansAndTarget = []; intensity = δ ∷ []; sweepsAndRotations = s ∷ r ∷ [] }
 answerParts n (Intensity δ) x = record { refusal = none; entries = []; meansAndTarget = []; intensity = δ ∷ []; sweepsAndRotations = [] }
 answerParts n Mean x = record { refusal = none; entries = []; meansAndTarget = take n x; intensity = []; sweepsAndRotations = [] }

@@ -1,4 +1,4 @@
--- Which values and which patterns of bits are NaN, by the tests that the code makes: NaN alone differs from itself, and is not above zero; its patterns are those above an infinity's. Assumes nothing.
+-- Which values and which patterns of bits are NaN, by the tests that the code makes: NaN alone differs from itself, and what is above zero is no NaN; its patterns are those above an infinity's. Assumes nothing.
 use mathlib.Core.Path.{_≡_, refl, sym, ap, subst}
 use mathlib.Core.Bool.{true, false, not}
 use Prim.Native.Nat.{ℕ, _%_, _≤_}

@@ -60,7 +60,7 @@ lt-key (fin s m e) (fin t n d) tx ty p q =
     lt-val (fin s m e) (fin t n d) s t (mag (fin s m e)) (mag (fin t n d)) (fin-val s m e tx) (fin-val t n d ty)
     ∙ below-key s t (mag (fin s m e)) (mag (fin t n d)) (fin-under-Top s m e tx) (fin-under-Top t n d ty)
 
--- a value that is not NaN
+-- a value of the format that is not NaN
 abbrev pub Fine : Float → Type 0
 Fine x = T (fits binary64 x) × T (number x)
 

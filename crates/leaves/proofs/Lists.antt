@@ -10,11 +10,11 @@ use lib.Seq.{getD-set-same, getD-set-other}
 use lib.Ieee.{Float, nan}
 use borrow.Author.Tests.{eqb-true, eqb-false}
 use Rattle.leaves.specs.Loops.{tab, nth}
-use Rattle.leaves.proofs.Loops.{length-tab, nth-tab, tab-ext, tab-is}
+use Rattle.leaves.proofs.Loops.{length-tab, getD-tab, tab-ext, tab-is}
 
 -- number k of a list that holds f's numbers
 pub getD-stored : {A : Type 0} (n : ℕ) (f : ℕ → A) {l : List A} (d : A) → l ≡ tab n f → (k : ℕ) → k < n → getD l k d ≡ f k
-getD-stored {A} n f d e k h = ap (λ (l : List A). getD l k d) e ∙ nth-tab n f k d h
+getD-stored {A} n f d e k h = ap (λ (l : List A). getD l k d) e ∙ getD-tab n f k d h
 
 pub nth-stored : (n : ℕ) (f : ℕ → Float) {l : List Float} → l ≡ tab n f → (k : ℕ) → k < n → nth l k ≡ f k
 nth-stored n f e k h = getD-stored n f nan e k h
@@ -33,4 +33,4 @@ set-tab f n i v h = tab-is nan (set (tab n f) i v) n (λ j. cond (eqb i j) v (f 
   where
     go : (k : ℕ) → k < n → (b : Bool) → eqb i k ≡ b → nth (set (tab n f) i v) k ≡ cond b v (f k)
     go k b true e = let same : i ≡ k = eqb-true i k e in ap (λ (j : ℕ). nth (set (tab n f) i v) j) (sym same) ∙ getD-set-same (tab n f) i v nan (omega (arith, length-tab f n))
-    go k b false e = getD-set-other (tab n f) i k v nan (λ same. eqb-false i k e (sym same)) ∙ nth-tab n f k nan b
+    go k b false e = getD-set-other (tab n f) i k v nan (λ same. eqb-false i k e (sym same)) ∙ getD-tab n f k nan b

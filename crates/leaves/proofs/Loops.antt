@@ -2,7 +2,7 @@
 use mathlib.Core.Path.{_≡_, refl, sym, ap, _∙_}
 use mathlib.Core.List.{[], List, _∷_, _++_, append-nil}
 use Prim.Native.Nat.{ℕ, zero, suc, _+_, _≤_, _<_, zero-le, suc-le-suc}
-use native.Mathlib.Nat.{lt-suc-self, lt-trans, le-antisymm, not-suc-le-zero, le-of-suc-le-suc}
+use native.Mathlib.Nat.{lt-suc-self, lt-trans, not-suc-le-zero, le-of-suc-le-suc}
 use native.Mathlib.Numerals.{add-one}
 use native.Mathlib.Omega.{arith}
 use lib.ListN.{length, getD, drop, length-append, length-drop, drop-of-length-le}
@@ -47,12 +47,12 @@ module _ {A : Type 0} where
   tab-at f (suc n) l zero d h = refl
   tab-at f (suc n) l (suc k) d h = tab-at (λ k. f (suc k)) n l k d (le-of-suc-le-suc h)
 
-  pub nth-tab : (n : ℕ) (f : ℕ → A) (k : ℕ) (d : A) → k < n → getD (tab n f) k d ≡ f k
-  nth-tab n f k d h = rw append-nil at (tab-at f n [] k d h)
+  pub getD-tab : (n : ℕ) (f : ℕ → A) (k : ℕ) (d : A) → k < n → getD (tab n f) k d ≡ f k
+  getD-tab n f k d h = rw append-nil at (tab-at f n [] k d h)
 
   -- a list is f's where its numbers are
   pub tab-is : (d : A) (l : List A) (n : ℕ) (f : ℕ → A) → length l ≡ n → ((k : ℕ) → k < n → getD l k d ≡ f k) → l ≡ tab n f
-  tab-is d l n f e h = ext-getD d l (tab n f) (e ∙ sym (length-tab f n)) (λ k b. let b′ : k < n = omega arith in h k b′ ∙ sym (nth-tab n f k d b′))
+  tab-is d l n f e h = ext-getD d l (tab n f) (e ∙ sym (length-tab f n)) (λ k b. let b′ : k < n = omega arith in h k b′ ∙ sym (getD-tab n f k d b′))
 
   -- a list no longer than n is replaced whole
   pub fill-whole : (f : ℕ → A) (n : ℕ) (old : List A) → length old ≤ n → fill n f old ≡ tab n f
@@ -77,7 +77,3 @@ sum-ext n f g h = loop-ext n (λ k s. s ⊕ f k) (λ k s. s ⊕ g k) zero⁺ (λ
 pub amax-ext : (n : ℕ) (f g : ℕ → Float) → ((k : ℕ) → k < n → f k ≡ g k) → amaxTo n f ≡ amaxTo n g
 unfolding amaxTo
 amax-ext n f g h = loop-ext n (λ k m. larger m (abs (f k))) (λ k m. larger m (abs (g k))) zero⁺ (λ k l s. ap (λ (z : Float). larger s (abs z)) (h k l))
-
--- a number made for i, at the end
-pub at-end : {A : Type 0} (g : ℕ → A) (i n : ℕ) (s : A) → s ≡ g i → i ≤ n → n ≤ i → s ≡ g n
-at-end g i n s e h k = e ∙ ap g (le-antisymm h k)

@@ -1,5 +1,5 @@
 -- `Range g L B x`: x is a finite value of binary64, a multiple of 2 ^ g units, zero or of L units at least, and of B units at most. A unit is 2 ^ -1074, so 2 ^ n units are
--- 2 ^ (n - 1074). The grain g and the least size L stand apart: a difference keeps its operands' grain and loses their size. Here is how a range is known: from a wider one, from the
+-- 2 ^ (n - 1074). The grain g and the least size L stand apart: a difference keeps its operands' grain and loses their size. Here is how a range is known: from a wider one, with the other sign, of a zero, from the
 -- value's size, from a test that computes, of a count, and of a fraction that is rounded. Assumes nothing.
 use mathlib.Core.Path.{_≡_, sym, ap, _∙_}
 use mathlib.Core.Logic.{_⊎_, inl, inr}

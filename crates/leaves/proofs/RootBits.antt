@@ -21,17 +21,17 @@ use Rattle.leaves.proofs.Eighths.{Rounded, eights-value}
 use Rattle.leaves.proofs.Sqrts.{halved, g, M, radicand-is, digits-of, places, root-room, sqrt-is}
 
 -- ---- the values above 0 that are finite
-pub data Place : Float → Type 0 where
-  at : (m : ℕ) (e : ℤ) → Room (suc m) e → Place (fin false (suc m) e)
+pub data Positive : Float → Type 0 where
+  positive : (m : ℕ) (e : ℤ) → Room (suc m) e → Positive (fin false (suc m) e)
 
-pub place-of : (x : Float) → fits binary64 x ≡ true → lt zero⁺ x ≡ true → lt x (inf false) ≡ true → Place x
+pub positive-of : (x : Float) → fits binary64 x ≡ true → lt zero⁺ x ≡ true → lt x (inf false) ≡ true → Positive x
 unfolding lt
-place-of nan t h k = no h refl
-place-of (inf true) t h k = no h refl
-place-of (inf false) t h k = no k refl
-place-of (fin true m e) t h k = no h refl
-place-of (fin false zero e) t h k = no h (zero-not-above e)
-place-of (fin false (suc m) e) t h k = at m e (fits→room false m e (subst T (sym t) tt))
+positive-of nan t h k = no h refl
+positive-of (inf true) t h k = no h refl
+positive-of (inf false) t h k = no k refl
+positive-of (fin true m e) t h k = no h refl
+positive-of (fin false zero e) t h k = no h (zero-not-above e)
+positive-of (fin false (suc m) e) t h k = positive m e (fits→room false m e (subst T (sym t) tt))
 
 -- ---- the bits of a value above 0
 module _ (m : ℕ) (e : ℤ) (r : Room (suc m) e) where

@@ -1,4 +1,4 @@
--- `shift k x` is 2 ^ k times x, with no rounding. Shifts add up and undo one another; no sign, test of finiteness or comparison sees them, so they go
+-- `shift k x` is 2 ^ k times x, with no rounding. Shifts add up and undo one another; no test of finiteness and no comparison sees them, so they go
 -- through neg, abs, min and max, for every value and every k. Assumes nothing.
 use mathlib.Core.Path.{_≡_, refl, sym, ap, ap₂, _∙_}
 use Prim.Native.Nat.{ℕ, zero, suc, _+_, _*_, _<_}

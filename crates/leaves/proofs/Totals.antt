@@ -1,9 +1,9 @@
 -- Sums from +0 in rising index and the largest size, under a shift. `Part` is a sum under way: m terms of 2 ^ h units at most make m * 2 ^ h units at most, since that number has few
 -- digits and rounding does not pass it. So a sum of at most 2 ^ c terms stays exact under a shift as long as 2 ^ (c + h) units, shifted, do not overflow (`moved-sum`); a sum of products
--- is this with `moved-mul` for each term. Assumes nothing.
+-- is this with `moved-mul` for each term. The largest size is one of the sizes, or zero, and of finite values none exceeds it. Assumes nothing.
 use mathlib.Core.Path.{_≡_, sym, ap₂, _∙_}
 use Prim.Native.Nat.{ℕ, zero, suc, _+_, _*_, _^_, _≤_, _<_}
-use native.Mathlib.Nat.{le-refl, le-trans, le-of-eq, le-of-lt, lt-of-le-of-lt, lt-trans, lt-suc-self, suc-mul, mul-le-mul-right, le-mul-of-pos-right}
+use native.Mathlib.Nat.{le-refl, le-trans, le-of-eq, lt-of-le-of-lt, lt-trans, lt-suc-self, suc-mul, mul-le-mul-right, le-mul-of-pos-right}
 use native.Mathlib.Omega.{arith}
 use mathlib.Core.Bool.{Bool, true, false, cond}
 use lib.IntN.{ℤ, pos}
@@ -69,13 +69,9 @@ module _ (k : ℕ) (b : Bounds) (M c : ℕ) (S : M ≤ 2 ^ c) (C : c ≤ fractio
   pub part-moved : {m : ℕ} {s s' : Float} → m ≤ M → Part k b m s s' → Moved k (sumOf c b) s s'
   part-moved {m} e p = record { range = range-weaken (2 ^ b .grain) (2 ^ (c + h)) (le-refl (2 ^ b .grain)) (most m e) (p .range); copy = p .copy }
 
-  part-sum : (n : ℕ) (u u' : ℕ → Float) → n ≤ M → ((t : ℕ) → t < n → Moved k b (u t) (u' t)) → Part k b n (sumTo n u) (sumTo n u')
-  unfolding sumTo loop
-  part-sum zero u u' e each = part-zero
-  part-sum (suc n) u u' e each = part-add e (part-sum n u u' (le-trans (le-of-lt (lt-suc-self n)) e) (λ t i. each t (lt-trans i (lt-suc-self n)))) (each n (lt-suc-self n))
-
   pub moved-sum : (u u' : ℕ → Float) → ((t : ℕ) → t < M → Moved k b (u t) (u' t)) → Moved k (sumOf c b) (sumTo M u) (sumTo M u')
-  moved-sum u u' each = part-moved (le-refl M) (part-sum M u u' (le-refl M) each)
+  unfolding sumTo
+  moved-sum u u' each = part-moved (omega arith) (part-loop M 1 (λ t s. s ⊕ u t) (λ t s. s ⊕ u' t) (λ t m s s' l e p. part-more (omega arith) (part-add (omega arith) p (each t l))) 0 zero⁺ zero⁺ (omega arith) part-zero)
 
 -- ---- the largest size
 amax-shift : (k : ℤ) (n : ℕ) (f : ℕ → Float) → amaxTo n (λ t. shift k (f t)) ≡ shift k (amaxTo n f)

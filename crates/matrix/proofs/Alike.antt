@@ -1,4 +1,4 @@
--- Two matrices with the same entries, within m rows and n columns, are alike in all that is looked for, summed or decomposed. Assumes nothing.
+-- Two matrices with the same entries, within m rows and n columns, are alike in all that is looked for, summed or decomposed. And the entries of a matrix that is finite. Assumes nothing.
 use mathlib.Core.Path.{_≡_, refl, sym, ap, _∙_}
 use mathlib.Core.Bool.{Bool, true, false, not, true≢false}
 use mathlib.Core.List.{List}

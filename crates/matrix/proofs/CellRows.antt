@@ -1,20 +1,14 @@
 -- What stands in each row and column of a stored matrix of which rows p and q are turned: two numbers of every column. Assumes nothing.
 use mathlib.Core.Path.{_≡_}
-use mathlib.Core.Bool.{cond}
 use mathlib.Core.List.{List}
 use Prim.Native.Nat.{ℕ, _+_, _*_, _<_}
 use lib.Arith.{digits-lt}
-use lib.Dec.{eqb}
 use lib.ListN.{length}
 use lib.Ieee.{Float}
-use Rattle.leaves.specs.Numbers.{_⊕_, _⊖_, _⊗_}
 use Rattle.leaves.proofs.Cells.{same-row, same-column}
 use Rattle.matrix.specs.Matrix.{at}
 use Rattle.matrix.specs.Rotation.{turnRows}
 use Rattle.matrix.proofs.Cells.{turnedRow, Lines, lines-turned}
-
-pub turned-same : (c s : Float) (p q j : ℕ) (f g : ℕ → Float) → f p ≡ g p → f q ≡ g q → f j ≡ g j → turnedRow c s p q f j ≡ turnedRow c s p q g j
-turned-same c s p q j f g ep eq ej = λ i. cond (eqb j p) (c ⊗ ep i ⊖ s ⊗ eq i) (cond (eqb j q) (s ⊗ ep i ⊕ c ⊗ eq i) (ej i))
 
 abbrev inColumns : ℕ → ℕ → ℕ → ℕ
 inColumns n k j = j * n + k

@@ -31,6 +31,9 @@ turned-q c s p q pq row j e = rw (ne-eqb j p (λ d. ne-of-lt pq (sym d ∙ e)), 
 pub turned-other : (c s : Float) (p q : ℕ) (row : ℕ → Float) (j : ℕ) → (j ≢ p) × (j ≢ q) → turnedRow c s p q row j ≡ row j
 turned-other c s p q row j d = rw (ne-eqb j p (d .0), ne-eqb j q (d .1))
 
+pub turned-same : (c s : Float) (p q j : ℕ) (f g : ℕ → Float) → f p ≡ g p → f q ≡ g q → f j ≡ g j → turnedRow c s p q f j ≡ turnedRow c s p q g j
+turned-same c s p q j f g ep eq ej = λ i. cond (eqb j p) (c ⊗ ep i ⊖ s ⊗ eq i) (cond (eqb j q) (s ⊗ ep i ⊕ c ⊗ eq i) (ej i))
+
 -- ---- a list with two numbers replaced
 pub two-set : (l : List Float) (a b k : ℕ) (x y : Float) → a < length l → b < length l → a ≢ b → getD (set (set l a x) b y) k nan ≡ cond (eqb k a) x (cond (eqb k b) y (getD l k nan))
 two-set l a b k x y ha hb d = go (eqb k a) (eqb k b) (eqb-true k a) (eqb-false k a) (eqb-true k b) (eqb-false k b)

@@ -8,7 +8,7 @@ use lib.ListN.{length}
 use lib.Ieee.{Float, nan}
 use Rattle.leaves.specs.Numbers.{_⊗_, abs}
 use Rattle.leaves.specs.Loops.{nth}
-use Rattle.leaves.proofs.Loops.{length-tab, nth-tab, tab-is, tab-ext, sum-ext}
+use Rattle.leaves.proofs.Loops.{length-tab, getD-tab, tab-is, tab-ext, sum-ext}
 use Rattle.leaves.proofs.Cells.{at-cell, row-below, col-below}
 use Rattle.leaves.proofs.Units.{Finite, Top, mag}
 use Rattle.leaves.proofs.Range.{Range, range-abs, range-zero, range-fits}
@@ -25,7 +25,7 @@ length-rows f m n = length-tab (λ k. f (k / n) (k % n)) (m * n)
 
 pub rows-nth : (f : Matrix) (m n k : ℕ) → k < m * n → nth (rows m n f) k ≡ f (k / n) (k % n)
 unfolding rows
-rows-nth f m n k h = nth-tab (m * n) (λ k. f (k / n) (k % n)) k nan h
+rows-nth f m n k h = getD-tab (m * n) (λ k. f (k / n) (k % n)) k nan h
 
 pub rows-at : (f : Matrix) (m n i j : ℕ) → i < m → j < n → at (rows m n f) n i j ≡ f i j
 rows-at f m n i j hi hj = rows-nth f m n (i * n + j) (digits-lt hi hj) ∙ at-cell f i n j hj

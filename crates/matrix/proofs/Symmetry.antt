@@ -24,8 +24,8 @@ use Rattle.matrix.specs.Inner.{state, turnedBlock, mirrored}
 use Rattle.matrix.proofs.Stored.{rows-at, rows-is}
 use Rattle.matrix.proofs.Rotated.{rotate-cases}
 use Rattle.matrix.proofs.Counts.{row-keeps, rows-keep, sweeps-keep}
-use Rattle.matrix.proofs.Cells.{turnedRow, turned-p, turned-q, turned-other, two-set, inRows, row-lines, Replaced, lines-all, length-columns, columns-at}
-use Rattle.matrix.proofs.CellRows.{turned-same, length-turned-rows, turned-rows-at}
+use Rattle.matrix.proofs.Cells.{turnedRow, turned-p, turned-q, turned-other, two-set, inRows, row-lines, Replaced, lines-all, length-columns, columns-at, turned-same}
+use Rattle.matrix.proofs.CellRows.{length-turned-rows, turned-rows-at}
 
 -- ---- two cells of a stored matrix replaced
 module _ (n : ℕ) (l : List Float) (len : length l ≡ n * n) (i₁ j₁ i₂ j₂ : ℕ) (h₁ : i₁ < n) (k₁ : j₁ < n) (h₂ : i₂ < n) (k₂ : j₂ < n) (d : i₁ ≢ i₂) (x y : Float) where

@@ -79,6 +79,7 @@ unfolding Sound
 identity-sound n = (length-rows identity n n, λ k h. good-same n 0 (identity k) (at (rows n n identity) n k) (λ j l. sym (rows-at identity n n k j h l)) (identity-good n k h))
 
 -- ---- the theorem
+-- NaN, or at most 2 ^ 300 in size
 abbrev pub Small : Float → Type 0
 Small x = (x ≡ nan) ⊎ Range 0 1 TurnMost x
 

@@ -14,7 +14,7 @@ use Rattle.matrix.specs.Matrix.{at}
 abbrev pub cotangent : Float → Float → Float → Float
 cotangent x y z = (z ⊖ x) ⊘ (two ⊗ y)
 
--- tan θ, the smaller root of t² + 2τt - 1, which keeps θ below 45 degrees; near 1 / 2τ where τ² would overflow
+-- tan θ, the smaller root of t² + 2τt - 1, which keeps θ to 45 degrees at most; near 1 / 2τ where τ² would overflow
 unfoldable pub tangent : Float → Float
 tangent τ = cond (lt 1e150 (abs τ)) (half ⊘ τ) (signum τ ⊘ (abs τ ⊕ sqrt (τ ⊗ τ ⊕ one)))
 

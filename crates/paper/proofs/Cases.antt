@@ -135,7 +135,7 @@ refused-files = record { no-assets = refl; one-period = refl; zero-variance = re
 
 pub record Screens : Type 0 where
   -- 2 ^ -20 and 1.99999
-  pub truncates : (screenText (fin false 1 (negsuc 19)) ≡ 48 ∷ 46 ∷ 48 ∷ 48 ∷ 48 ∷ 48 ∷ []) × (screenText (ofBits binary64 0x3FFF_FFF5_8368_2B2F) ≡ 49 ∷ 46 ∷ 57 ∷ 57 ∷ 57 ∷ 57 ∷ [])
+  pub truncates : (screenText (fin false 1 (negsuc 19)) ≡ 48 ∷ 46 ∷ 48 ∷ 48 ∷ 48 ∷ 48 ∷ []) × (screenText (ofBits binary64 0x3FFF_FFF5_83A5_3B8E) ≡ 49 ∷ 46 ∷ 57 ∷ 57 ∷ 57 ∷ 57 ∷ [])
   -- -2 ^ -20 and -0.5
   pub minus : (screenText (fin true 1 (negsuc 19)) ≡ 48 ∷ 46 ∷ 48 ∷ 48 ∷ 48 ∷ 48 ∷ []) × (screenText (fin true 1 (negsuc 0)) ≡ 45 ∷ 48 ∷ 46 ∷ 53 ∷ 48 ∷ 48 ∷ 48 ∷ [])
   -- -2 ^ 31, the largest below it in size, NaN and an infinity

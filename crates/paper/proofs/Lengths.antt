@@ -34,7 +34,7 @@ use Rattle.paper.proofs.Marks.{asked-0, asked-1, asked-2, asked-3, answ
 
 -- ---- a file
 
--- a kind's records take at most m bodies' bytes
+-- a kind's records take at most m records' bytes, each its byte and its body
 taken-bytes : (k : Kind) (m : ℕ) (bs : List ℕ) → length bs ≤ m * (k .body + 1) + length (taken k m bs .rest)
 unfolding taken
 taken-bytes k zero bs = omega arith

@@ -1,4 +1,4 @@
--- Laws of `split`: where the numbers of a kind stand. Assumes nothing.
+-- Laws of `split`: where the numbers of a kind stand, and the floats made of them. Assumes nothing.
 use mathlib.Core.Path.{_≡_, refl, sym, ap, _∙_}
 use mathlib.Core.List.{List, [], _∷_, _++_, map}
 use Prim.Native.Nat.{ℕ, zero, suc, _+_, _-_, _≤_, _<_}

@@ -1,4 +1,4 @@
--- Laws of `sheet`: the kinds of a file, one after another, and the lists that its numbers are cut into again. Assumes nothing.
+-- Laws of `sheet`: the kinds of a file, one after another, how many numbers a file can have, and the lists that they are cut into again. Assumes nothing.
 use mathlib.Core.Path.{_≡_, refl, sym, ap, _∙_}
 use mathlib.Core.Bool.{Bool, true, false, cond}
 use mathlib.Core.List.{List, [], _∷_, _++_, map, flatten, append-assoc, append-nil}

@@ -1,4 +1,5 @@
--- Laws of `specs/Text.antt`: a text written after a text, what a loop that writes has left. Assumes nothing.
+-- Laws of `specs/Text.antt`: a text written after a text, what a loop that writes has left, a single byte, a text in a buffer with room, and that the place stays within
+-- the buffer. Assumes nothing.
 use mathlib.Core.Path.{_≡_, refl, sym, ap, _∙_, subst}
 use mathlib.Core.Bool.{Bool, true, false, cond}
 use mathlib.Core.List.{List, [], _∷_, _++_}

@@ -1,7 +1,7 @@
 -- `estimators::adjusted::mix_correlation` meets its contract: what its calls ensure, put together.
 use Rattle.matrix.specs.Matrix.{at}
 use Rattle.estimators.specs.LedoitWolf.{constantCorrelation}
-use Rattle.estimators.specs.Adjusted.{pull, mixed}
+use Rattle.estimators.specs.Adjusted.{weightedTarget, mixed}
 use borrow.Author.Needs.{needs}
 use Rattle.estimators.proofs.adjusted.mix_correlation.Statement.{statement}
 use Rattle.estimators.proofs.adjusted.mix_correlation.Tie as tie
@@ -25,7 +25,7 @@ same-length-2 : tie.Need-same-length-2
 same-length-2 c = search needs
 
 returns : tie.Need-returns
-unfolding mixed pull
+unfolding mixed weightedTarget
 returns c = let a = c .before .before .before .before .before .before .before .before .before .before .before .before .before .before .before .before .before .before .args in c .before .before .mix .ensures (constantCorrelation (a .n) (at (a .b .now) (a .n))) (c .before .before .before .before .before .before .put-constant-correlation .ensures)
 
 pub mix-correlation-spec : {M : Type 1} → statement M

@@ -3,7 +3,7 @@ use mathlib.Core.Path.{ap, _∙_}
 use lib.Ieee.{Float}
 use Rattle.leaves.specs.Numbers.{_⊕_, _⊖_, _⊗_, one}
 use Rattle.matrix.specs.Matrix.{at, rows, identity}
-use Rattle.estimators.specs.Adjusted.{pull, mixed}
+use Rattle.estimators.specs.Adjusted.{weightedTarget, mixed}
 use borrow.Author.Needs.{needs}
 use Rattle.estimators.proofs.adjusted.mix_variance.Statement.{statement}
 use Rattle.estimators.proofs.adjusted.mix_variance.Tie as tie
@@ -21,7 +21,7 @@ same-length : tie.Need-same-length
 same-length c = search needs
 
 returns : tie.Need-returns
-unfolding mixed pull
+unfolding mixed weightedTarget
 returns c = let a = c .before .before .before .before .before .before .before .before .before .before .before .args in c .before .before .mix .ensures identity (c .before .before .before .before .before .before .before .put-identity .ensures) ∙ ap (λ (m : Float). rows (a .n) (a .n) (λ i j. a .intensity ⊗ m ⊗ identity i j ⊕ (one ⊖ a .intensity) ⊗ at (a .b .now) (a .n) i j)) (c .before .before .before .before .average-variance .ensures)
 
 pub mix-variance-spec : {M : Type 1} → statement M

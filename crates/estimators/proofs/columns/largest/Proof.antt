@@ -8,7 +8,7 @@ use lib.ListN.{length}
 use lib.Ieee.{Float, ofBits}
 use Rattle.leaves.specs.Numbers.{abs, larger}
 use Rattle.leaves.specs.Loops.{amaxTo}
-use Rattle.leaves.proofs.Loops.{at-end}
+use Rattle.leaves.proofs.Invariants.{at-end}
 use Rattle.matrix.specs.Matrix.{at}
 use Rattle.estimators.specs.Rows.{rowsOf}
 use Rattle.estimators.specs.declared.rows.Row.{Row}

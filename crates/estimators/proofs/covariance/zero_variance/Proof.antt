@@ -9,7 +9,7 @@ use lib.Ieee.{Float, eq, ofBits}
 use borrow.Author.Needs.{needs}
 use Rattle.leaves.specs.Numbers.{zero⁺}
 use Rattle.leaves.specs.Loops.{firstTo}
-use Rattle.leaves.proofs.Loops.{at-end}
+use Rattle.leaves.proofs.Invariants.{at-end}
 use Rattle.leaves.proofs.Cells.{row}
 use Rattle.leaves.proofs.Search.{first-none, first-more, first-at}
 use Rattle.matrix.specs.Matrix.{at}

@@ -6,8 +6,7 @@ use lib.Ieee.{ofBits}
 use borrow.Author.Needs.{needs}
 use Rattle.leaves.specs.Numbers.{_⊗_, _⊘_}
 use Rattle.leaves.specs.Loops.{sumTo, nth}
-use Rattle.leaves.proofs.Invariants.{sum-none, sum-turn}
-use Rattle.leaves.proofs.Loops.{at-end}
+use Rattle.leaves.proofs.Invariants.{sum-none, sum-turn, at-end}
 use Rattle.estimators.specs.BayesStein.{form}
 use Rattle.estimators.proofs.forms.form.Statement.{statement}
 use Rattle.estimators.proofs.forms.form.Tie as tie

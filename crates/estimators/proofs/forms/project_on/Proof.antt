@@ -7,8 +7,7 @@ use lib.Ieee.{ofBits}
 use borrow.Author.Needs.{needs}
 use Rattle.leaves.specs.Numbers.{_⊗_}
 use Rattle.leaves.specs.Loops.{sumTo, nth}
-use Rattle.leaves.proofs.Invariants.{sum-none, sum-turn}
-use Rattle.leaves.proofs.Loops.{at-end}
+use Rattle.leaves.proofs.Invariants.{sum-none, sum-turn, at-end}
 use Rattle.matrix.specs.Matrix.{at}
 use Rattle.estimators.proofs.forms.project_on.Statement.{statement}
 use Rattle.estimators.proofs.forms.project_on.Tie as tie

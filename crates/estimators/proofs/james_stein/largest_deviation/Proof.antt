@@ -6,8 +6,7 @@ use lib.ListN.{length}
 use lib.Ieee.{ofBits}
 use borrow.Author.Needs.{needs}
 use Rattle.leaves.specs.Loops.{nth}
-use Rattle.leaves.proofs.Invariants.{amax-none, amax-turn}
-use Rattle.leaves.proofs.Loops.{at-end}
+use Rattle.leaves.proofs.Invariants.{amax-none, amax-turn, at-end}
 use Rattle.estimators.specs.JamesStein.{largestDeviation}
 use Rattle.estimators.proofs.james_stein.largest_deviation.Statement.{statement}
 use Rattle.estimators.proofs.james_stein.largest_deviation.Tie as tie

@@ -11,9 +11,8 @@ use mir.Val.{toZ, ofZ}
 use borrow.Author.Needs.{needs}
 use Rattle.leaves.specs.Numbers.{_⊕_, _⊖_, _⊗_}
 use Rattle.leaves.specs.Loops.{sumTo, nth}
-use Rattle.leaves.proofs.Invariants.{sum-none, sum-turn}
 use Rattle.leaves.specs.Scaling.{pow2Scaled}
-use Rattle.leaves.proofs.Loops.{at-end}
+use Rattle.leaves.proofs.Invariants.{sum-none, sum-turn, at-end}
 use Rattle.estimators.specs.JamesStein.{spread}
 use Rattle.estimators.proofs.Exponents.{neg-fits, neg-read}
 use Rattle.estimators.proofs.james_stein.spread.Statement.{statement}

@@ -22,8 +22,8 @@ distance-requires c κs = search needs
 total-requires : tie.Need-total-requires
 total-requires c κs = search needs
 
-target-variation-requires : tie.Need-target-variation-requires
-target-variation-requires c κs = search needs
+target-covariation-requires : tie.Need-target-covariation-requires
+target-covariation-requires c κs = search needs
 
 intensity-requires : tie.Need-intensity-requires
 intensity-requires c κs = search needs
@@ -45,8 +45,8 @@ returns c =
     let s = at (a .s .now) (a .n) in
     λ z eπ eθ. intensity-is ConstantCorrelation (a .periods) (a .n) z s
     (γ .distance .ensures (target ConstantCorrelation (a .n) s) (F .put-constant-correlation .ensures))
-    (correlation-error (a .periods) (a .n) z s eπ (c .before .before .before .total .ensures) (v .put-volatilities .ensures) (r .average-correlation .ensures) eθ (c .before .target-variation .ensures))
+    (correlation-error (a .periods) (a .n) z s eπ (c .before .before .before .total .ensures) (v .put-volatilities .ensures) (r .average-correlation .ensures) eθ (c .before .target-covariation .ensures))
     (c .intensity .ensures)
 
 pub to-correlation-spec : {M : Type 1} → statement M
-to-correlation-spec = tie.close (tie.spec put-volatilities-requires average-correlation-requires put-constant-correlation-requires distance-requires total-requires target-variation-requires intensity-requires same-length same-length-2 returns)
+to-correlation-spec = tie.close (tie.spec put-volatilities-requires average-correlation-requires put-constant-correlation-requires distance-requires total-requires target-covariation-requires intensity-requires same-length same-length-2 returns)

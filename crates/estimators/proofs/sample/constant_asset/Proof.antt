@@ -9,7 +9,7 @@ use lib.Ieee.{Float, le}
 use borrow.Author.Needs.{needs}
 use Rattle.leaves.specs.Numbers.{_⊗_, 1e-10}
 use Rattle.leaves.specs.Loops.{firstTo, tab, nth}
-use Rattle.leaves.proofs.Loops.{at-end}
+use Rattle.leaves.proofs.Invariants.{at-end}
 use Rattle.leaves.proofs.Search.{first-none, first-more, first-at}
 use Rattle.leaves.proofs.Lists.{nth-stored}
 use Rattle.matrix.specs.Matrix.{Matrix}

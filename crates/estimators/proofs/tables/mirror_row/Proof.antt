@@ -4,7 +4,7 @@ use Prim.Native.Nat.{ℕ, _+_, _*_, _-_, _≤_}
 use native.Mathlib.Omega.{arith}
 use borrow.Author.Needs.{needs}
 use lib.ListN.{length, length-set}
-use Rattle.leaves.proofs.Loops.{at-end}
+use Rattle.leaves.proofs.Invariants.{at-end}
 use Rattle.leaves.proofs.Cells.{row}
 use Rattle.matrix.specs.Matrix.{rows}
 use Rattle.estimators.specs.Rows.{mirroredTo}

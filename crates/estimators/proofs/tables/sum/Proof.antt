@@ -6,7 +6,7 @@ use native.Mathlib.Omega.{arith}
 use borrow.Author.Needs.{needs}
 use lib.ListN.{length}
 use lib.Ieee.{Float, ofBits}
-use Rattle.leaves.proofs.Loops.{at-end}
+use Rattle.leaves.proofs.Invariants.{at-end}
 use Rattle.matrix.specs.Matrix.{at}
 use Rattle.estimators.specs.Rows.{rowsOf, plus, summed}
 use Rattle.estimators.specs.declared.rows.Row.{Row}

@@ -3,8 +3,7 @@ use mathlib.Core.Path.{_≡_}
 use Prim.Native.Nat.{_+_, _-_, _*_, _≤_}
 use native.Mathlib.Omega.{arith}
 use Rattle.leaves.specs.Loops.{nth}
-use Rattle.leaves.proofs.Invariants.{loop-turn, loop-start}
-use Rattle.leaves.proofs.Loops.{at-end}
+use Rattle.leaves.proofs.Invariants.{loop-turn, loop-start, at-end}
 use Rattle.leaves.proofs.Cells.{row}
 use Rattle.matrix.specs.Matrix.{at, sumRow}
 use Rattle.estimators.specs.Sample.{correlationBy}

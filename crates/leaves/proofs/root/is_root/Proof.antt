@@ -14,7 +14,7 @@ use Rattle.leaves.specs.Root.{sticky, sqrt}
 use Rattle.leaves.proofs.Zero.{no}
 use Rattle.leaves.proofs.IsNan.{above-number}
 use Rattle.leaves.proofs.Sqrts.{M-lt}
-use Rattle.leaves.proofs.RootBits.{Place, at, place-of, radicand-bits, root-is}
+use Rattle.leaves.proofs.RootBits.{Positive, positive, positive-of, radicand-bits, root-is}
 use Rattle.leaves.proofs.root.is_root.Statement.{statement}
 use Rattle.leaves.proofs.root.is_root.Tie as tie
 
@@ -31,18 +31,18 @@ number x = digits x * (2 - field x % 2)
 few : (a t : ℕ) → a < 2 ^ 52 → (a + 2 ^ 52) * (2 - t) ≤ 2 ^ 54 - 2
 few a t h = let m = mul-le-mul-left (a + 2 ^ 52) (sub-le 2 t) in omega arith
 
-n-in : {x : Float} → Place x → 0 < field x → (2 ^ 52 ≤ number x) × (number x < 2 ^ 54)
-n-in (at m e r) h =
+n-in : {x : Float} → Positive x → 0 < field x → (2 ^ 52 ≤ number x) × (number x < 2 ^ 54)
+n-in (positive m e r) h =
     let b = toBits binary64 (fin false (suc m) e) in
     let i = radicand-bits m e r b refl h in
     (omega arith, omega (arith, M-lt m e r))
 
-is-root : {x : Float} → Place x → (y : Float) → fits binary64 y ≡ true → 0 < field x → field y ≡ (field x + 1023) / 2
+is-root : {x : Float} → Positive x → (y : Float) → fits binary64 y ≡ true → 0 < field x → field y ≡ (field x + 1023) / 2
     → (2 ^ 52 ≤ digits y) × (digits y < 2 ^ 53) × (ofInt binary64 (pos (8 * digits y)) ≡ ofInt binary64 (pos (sticky (number x * 2 ^ 56)))) → y ≡ sqrt x
-is-root (at m e r) y t h f s = root-is m e r (toBits binary64 (fin false (suc m) e)) refl h (digits y) (s .0, s .1) (s .2) y (subst T (sym t) tt) (toBits binary64 y) refl f refl
+is-root (positive m e r) y t h f s = root-is m e r (toBits binary64 (fin false (suc m) e)) refl h (digits y) (s .0, s .1) (s .2) y (subst T (sym t) tt) (toBits binary64 y) refl f refl
 
-here : (c : tie.Start) → Place (c .args .x)
-here c = place-of (c .args .x) (c .good .0 .1) (c .pre .0) (c .pre .1)
+here : (c : tie.Start) → Positive (c .args .x)
+here c = positive-of (c .args .x) (c .good .0 .1) (c .pre .0) (c .pre .1)
 
 float-to-bits-b : tie.Need-float-to-bits-b
 float-to-bits-b c = above-number _ (c .before .pre .0)

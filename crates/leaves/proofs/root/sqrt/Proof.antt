@@ -20,7 +20,7 @@ use Rattle.leaves.proofs.Laws.{Room}
 use Rattle.leaves.proofs.Zero.{no, zero-not-below, not-below, is-below, is-above}
 use Rattle.leaves.proofs.Sqrts.{halved, M, M-lt, radicand-is}
 use Rattle.leaves.proofs.SqrtSteps.{scaled, truncated, above, below64, last}
-use Rattle.leaves.proofs.RootBits.{Place, at, place-of}
+use Rattle.leaves.proofs.RootBits.{Positive, positive, positive-of}
 use Rattle.leaves.proofs.root.sqrt.Statement.{statement}
 use Rattle.leaves.proofs.root.sqrt.Tie as tie
 
@@ -40,7 +40,7 @@ unfolding lt sqrt
 negative nan h = no h refl
 negative (inf true) h = refl
 negative (inf false) h = no h refl
-negative (fin true zero e) h = no h (zero-not-below true e)
+negative (fin true zero e) h = no h (zero-not-below e)
 negative (fin true (suc m) e) h = refl
 negative (fin false m e) h = no h (not-below m e)
 
@@ -122,31 +122,31 @@ module _ (m : ℕ) (e : ℤ) (p : Room (suc m) e) (b : ℤ) (fb : mag b < 2 ^ 31
         found = rw (is-r, H-is, toZ-ofZ fits-3, w-is) (last m e p)
 
 -- ---- the steps at any value that the tests let through
-step-1 : {x : Float} → Place x → (b : ℤ) → mag b < 2 ^ 31 → b ≡ binaryExponent x → SFits w32 (pos 52 -ℤ halfOf b)
-step-1 (at m e p) b fb ib = sub-1 m e p b fb ib
+step-1 : {x : Float} → Positive x → (b : ℤ) → mag b < 2 ^ 31 → b ≡ binaryExponent x → SFits w32 (pos 52 -ℤ halfOf b)
+step-1 (positive m e p) b fb ib = sub-1 m e p b fb ib
 
-step-2 : {x : Float} → Place x → (b : ℤ) → mag b < 2 ^ 31 → b ≡ binaryExponent x → SFits w32 (rd (pos 52 -ℤ halfOf b) -ℤ halfOf b)
-step-2 (at m e p) b fb ib = sub-2 m e p b fb ib
+step-2 : {x : Float} → Positive x → (b : ℤ) → mag b < 2 ^ 31 → b ≡ binaryExponent x → SFits w32 (rd (pos 52 -ℤ halfOf b) -ℤ halfOf b)
+step-2 (positive m e p) b fb ib = sub-2 m e p b fb ib
 
-step-3 : {x : Float} → Place x → (b : ℤ) → mag b < 2 ^ 31 → b ≡ binaryExponent x → SFits w32 (halfOf b -ℤ pos 55)
-step-3 (at m e p) b fb ib = sub-3 m e p b fb ib
+step-3 : {x : Float} → Positive x → (b : ℤ) → mag b < 2 ^ 31 → b ≡ binaryExponent x → SFits w32 (halfOf b -ℤ pos 55)
+step-3 (positive m e p) b fb ib = sub-3 m e p b fb ib
 
-step-y : {x : Float} → Place x → (b : ℤ) → mag b < 2 ^ 31 → b ≡ binaryExponent x → (y : Float) → y ≡ pow2Scaled x (firstOf b)
+step-y : {x : Float} → Positive x → (b : ℤ) → mag b < 2 ^ 31 → b ≡ binaryExponent x → (y : Float) → y ≡ pow2Scaled x (firstOf b)
     → T (lt (fin true 1 (pos 0)) y) × T (lt y (fin false 1 (pos 64)))
-step-y (at m e p) b fb ib y iy = y-in m e p b fb ib y iy
+step-y (positive m e p) b fb ib y iy = y-in m e p b fb ib y iy
 
-step-n : {x : Float} → Place x → (b : ℤ) → mag b < 2 ^ 31 → b ≡ binaryExponent x → (y : Float) → y ≡ pow2Scaled x (firstOf b)
+step-n : {x : Float} → Positive x → (b : ℤ) → mag b < 2 ^ 31 → b ≡ binaryExponent x → (y : Float) → y ≡ pow2Scaled x (firstOf b)
     → (n : ℕ) → n ≡ toUnsigned 64 y → n < 2 ^ 54
-step-n (at m e p) b fb ib y iy n i = n-lt m e p b fb ib y iy n i
+step-n (positive m e p) b fb ib y iy n i = n-lt m e p b fb ib y iy n i
 
-step-r : {x : Float} → Place x → (b : ℤ) → mag b < 2 ^ 31 → b ≡ binaryExponent x → (y : Float) → y ≡ pow2Scaled x (firstOf b)
+step-r : {x : Float} → Positive x → (b : ℤ) → mag b < 2 ^ 31 → b ≡ binaryExponent x → (y : Float) → y ≡ pow2Scaled x (firstOf b)
     → (n : ℕ) → n ≡ toUnsigned 64 y → (w : Float) → w ≡ ofInt binary64 (pos (sticky (n * 2 ^ 56)))
     → (r : Float) → r ≡ pow2Scaled w (rd (halfOf b -ℤ pos 55)) → r ≡ sqrt x
-step-r (at m e p) b fb ib y iy n i w iw r ir = found m e p b fb ib y iy n i w iw r ir
+step-r (positive m e p) b fb ib y iy n i w iw r ir = found m e p b fb ib y iy n i w iw r ir
 
-here : (c : tie.Then3) → Place (c .before .before .before .args .x)
+here : (c : tie.Then3) → Positive (c .before .before .before .args .x)
 unfolding ofBits div
-here c = place-of (c .before .before .before .args .x) (c .before .before .before .good .0 .1) (c .before .if2 .taken) (c .if3 .taken)
+here c = positive-of (c .before .before .before .args .x) (c .before .before .before .good .0 .1) (c .before .if2 .taken) (c .if3 .taken)
 
 returns : tie.Need-returns
 unfolding ofBits div

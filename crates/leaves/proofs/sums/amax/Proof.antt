@@ -6,8 +6,7 @@ use borrow.Author.Needs.{needs}
 use lib.ListN.{length}
 use lib.Ieee.{ofBits}
 use Rattle.leaves.specs.Loops.{amaxTo, nth}
-use Rattle.leaves.proofs.Invariants.{amax-none, amax-turn}
-use Rattle.leaves.proofs.Loops.{at-end}
+use Rattle.leaves.proofs.Invariants.{amax-none, amax-turn, at-end}
 use Rattle.leaves.proofs.sums.amax.Statement.{statement}
 use Rattle.leaves.proofs.sums.amax.Tie as tie
 

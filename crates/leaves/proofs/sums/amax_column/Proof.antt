@@ -5,8 +5,7 @@ use native.Mathlib.Omega.{arith}
 use borrow.Author.Needs.{needs}
 use lib.Ieee.{Float, ofBits}
 use Rattle.leaves.specs.Loops.{amaxTo, nth}
-use Rattle.leaves.proofs.Invariants.{amax-none, amax-turn}
-use Rattle.leaves.proofs.Loops.{at-end}
+use Rattle.leaves.proofs.Invariants.{amax-none, amax-turn, at-end}
 use Rattle.leaves.proofs.Cells.{column-in}
 use Rattle.leaves.proofs.sums.amax_column.Statement.{statement}
 use Rattle.leaves.proofs.sums.amax_column.Tie as tie

@@ -5,8 +5,7 @@ use native.Mathlib.Omega.{arith}
 use borrow.Author.Needs.{needs}
 use lib.Ieee.{Float, ofBits}
 use Rattle.leaves.specs.Loops.{sumTo, nth}
-use Rattle.leaves.proofs.Invariants.{sum-none, sum-turn}
-use Rattle.leaves.proofs.Loops.{at-end}
+use Rattle.leaves.proofs.Invariants.{sum-none, sum-turn, at-end}
 use Rattle.leaves.proofs.Cells.{column-in}
 use Rattle.leaves.proofs.sums.sum_column.Statement.{statement}
 use Rattle.leaves.proofs.sums.sum_column.Tie as tie

@@ -6,8 +6,7 @@ use borrow.Author.Needs.{needs}
 use lib.ListN.{length}
 use Rattle.leaves.specs.Numbers.{larger}
 use Rattle.leaves.specs.Loops.{maxTo, nth}
-use Rattle.leaves.proofs.Invariants.{loop-turn, loop-start}
-use Rattle.leaves.proofs.Loops.{at-end}
+use Rattle.leaves.proofs.Invariants.{loop-turn, loop-start, at-end}
 use Rattle.matrix.proofs.entries.largest.Statement.{statement}
 use Rattle.matrix.proofs.entries.largest.Tie as tie
 

@@ -6,8 +6,7 @@ use borrow.Author.Needs.{needs}
 use lib.ListN.{length}
 use Rattle.leaves.specs.Numbers.{smaller}
 use Rattle.leaves.specs.Loops.{minTo, nth}
-use Rattle.leaves.proofs.Invariants.{loop-turn, loop-start}
-use Rattle.leaves.proofs.Loops.{at-end}
+use Rattle.leaves.proofs.Invariants.{loop-turn, loop-start, at-end}
 use Rattle.matrix.proofs.entries.smallest.Statement.{statement}
 use Rattle.matrix.proofs.entries.smallest.Tie as tie
 

@@ -8,8 +8,7 @@ use lib.Dec.{ltb}
 use lib.Ieee.{Float}
 use Rattle.leaves.specs.Numbers.{_⊕_, _⊗_}
 use Rattle.leaves.specs.Loops.{loop}
-use Rattle.leaves.proofs.Invariants.{loop-turn}
-use Rattle.leaves.proofs.Loops.{at-end}
+use Rattle.leaves.proofs.Invariants.{loop-turn, at-end}
 use Rattle.matrix.specs.Matrix.{at, squared, addKept, sumRow}
 use Rattle.matrix.proofs.SumOver.{above-none, above-more}
 use Rattle.matrix.proofs.sums.off_row.Statement.{statement}

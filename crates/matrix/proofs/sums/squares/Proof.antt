@@ -7,8 +7,7 @@ use lib.ListN.{length}
 use lib.Ieee.{ofBits}
 use Rattle.leaves.specs.Numbers.{_⊗_}
 use Rattle.leaves.specs.Loops.{sumTo, nth}
-use Rattle.leaves.proofs.Invariants.{sum-none, sum-turn}
-use Rattle.leaves.proofs.Loops.{at-end}
+use Rattle.leaves.proofs.Invariants.{sum-none, sum-turn, at-end}
 use Rattle.matrix.specs.Matrix.{squares}
 use Rattle.matrix.proofs.SumOver.{sum-stored}
 use Rattle.matrix.proofs.sums.squares.Statement.{statement}

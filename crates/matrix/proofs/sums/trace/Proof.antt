@@ -6,8 +6,7 @@ use borrow.Author.Needs.{needs}
 use lib.Ieee.{Float, ofBits}
 use Rattle.leaves.specs.Numbers.{_⊕_}
 use Rattle.leaves.specs.Loops.{sumTo}
-use Rattle.leaves.proofs.Invariants.{sum-none, sum-turn}
-use Rattle.leaves.proofs.Loops.{at-end}
+use Rattle.leaves.proofs.Invariants.{sum-none, sum-turn, at-end}
 use Rattle.matrix.specs.Matrix.{at, trace}
 use Rattle.matrix.proofs.sums.trace.Statement.{statement}
 use Rattle.matrix.proofs.sums.trace.Tie as tie

@@ -3,7 +3,7 @@ use mathlib.Core.Path.{_≡_, refl}
 use Prim.Native.Nat.{_+_, _≤_, _-_}
 use native.Mathlib.Omega.{arith}
 use lib.ListN.{take}
-use Rattle.leaves.proofs.Loops.{at-end}
+use Rattle.leaves.proofs.Invariants.{at-end}
 use Rattle.paper.specs.Inner.{total}
 use Rattle.paper.proofs.Pieces.{total-more, total-take}
 use Rattle.paper.proofs.floats.start.Statement.{statement}

@@ -1,17 +1,17 @@
--- `estimators::ledoit_wolf::target_variation` meets its contract. The invariant: the sum of the rows passed.
+-- `estimators::ledoit_wolf::target_covariation` meets its contract. The invariant: the sum of the rows passed.
 use mathlib.Core.Path.{_≡_, _∙_}
 use Prim.Native.Nat.{_≤_, _-_}
 use native.Mathlib.Omega.{arith}
 use Rattle.leaves.specs.Loops.{loop, nth}
 use Rattle.leaves.proofs.Invariants.{loop-turn, loop-end, loop-start}
 use Rattle.matrix.specs.Matrix.{at, trace, sumOver, sumRow}
-use Rattle.estimators.specs.LedoitWolf.{apart, crossVariation}
+use Rattle.estimators.specs.LedoitWolf.{apart, crossCovariation}
 use borrow.Author.Needs.{needs}
-use Rattle.estimators.proofs.ledoit_wolf.target_variation.Statement.{statement}
-use Rattle.estimators.proofs.ledoit_wolf.target_variation.Tie as tie
+use Rattle.estimators.proofs.ledoit_wolf.target_covariation.Statement.{statement}
+use Rattle.estimators.proofs.ledoit_wolf.target_covariation.Tie as tie
 
 abbrev Inv-loop : tie.InvT-loop
-Inv-loop r sd pi theta n t₀ i₀ t i = (i ≤ n) × (t ≡ loop i (sumRow n apart (crossVariation r (nth sd) (at theta n))) (trace n (at pi n)))
+Inv-loop r sd pi theta n t₀ i₀ t i = (i ≤ n) × (t ≡ loop i (sumRow n apart (crossCovariation r (nth sd) (at theta n))) (trace n (at pi n)))
 
 abbrev μ-loop : tie.MeasureT-loop
 μ-loop r sd pi theta n t₀ i₀ t i = n - i
@@ -22,8 +22,8 @@ trace-requires c κs = search needs
 loop-holds : tie.Need-loop-holds Inv-loop μ-loop
 loop-holds c = (omega arith, c .trace .ensures ∙ loop-start _ _)
 
-add-variations-requires : tie.Need-add-variations-requires Inv-loop μ-loop
-add-variations-requires c κs = search needs
+add-covariations-requires : tie.Need-add-covariations-requires Inv-loop μ-loop
+add-covariations-requires c κs = search needs
 
 add-i : tie.Need-add-i Inv-loop μ-loop
 add-i c = search needs
@@ -32,11 +32,11 @@ loop-less : tie.Need-loop-less Inv-loop μ-loop
 loop-less c = search needs
 
 loop-again : tie.Need-loop-again Inv-loop μ-loop
-loop-again c = (omega arith, loop-turn _ _ _ _ _ (c .before .before .loop .inv .1) (c .add-variations .ensures))
+loop-again c = (omega arith, loop-turn _ _ _ _ _ (c .before .before .loop .inv .1) (c .add-covariations .ensures))
 
 returns : tie.Need-returns Inv-loop μ-loop
 unfolding sumOver
 returns c = loop-end _ _ _ _ _ (c .before .loop .inv .1) (omega arith)
 
-pub target-variation-spec : {M : Type 1} → statement M
-target-variation-spec = tie.close (tie.spec Inv-loop μ-loop trace-requires loop-holds add-variations-requires add-i loop-less loop-again returns)
+pub target-covariation-spec : {M : Type 1} → statement M
+target-covariation-spec = tie.close (tie.spec Inv-loop μ-loop trace-requires loop-holds add-covariations-requires add-i loop-less loop-again returns)

@@ -1,19 +1,18 @@
--- `estimators::ledoit_wolf::add_variations` meets its contract. The invariant: the row's sum up to column j.
+-- `estimators::ledoit_wolf::add_covariations` meets its contract. The invariant: the row's sum up to column j.
 use mathlib.Core.Path.{_≡_}
 use Prim.Native.Nat.{_+_, _-_, _*_, _≤_}
 use native.Mathlib.Omega.{arith}
 use Rattle.leaves.specs.Loops.{nth}
-use Rattle.leaves.proofs.Invariants.{loop-turn, loop-start}
-use Rattle.leaves.proofs.Loops.{at-end}
+use Rattle.leaves.proofs.Invariants.{loop-turn, loop-start, at-end}
 use Rattle.leaves.proofs.Cells.{row}
 use Rattle.matrix.specs.Matrix.{at, sumRow}
-use Rattle.estimators.specs.LedoitWolf.{apart, crossVariation}
+use Rattle.estimators.specs.LedoitWolf.{apart, crossCovariation}
 use borrow.Author.Needs.{needs}
-use Rattle.estimators.proofs.ledoit_wolf.add_variations.Statement.{statement}
-use Rattle.estimators.proofs.ledoit_wolf.add_variations.Tie as tie
+use Rattle.estimators.proofs.ledoit_wolf.add_covariations.Statement.{statement}
+use Rattle.estimators.proofs.ledoit_wolf.add_covariations.Tie as tie
 
 abbrev Inv-loop : tie.InvT-loop
-Inv-loop r sd theta n i sum base t₀ j₀ t j = (j ≤ n) × (t ≡ sumRow j apart (crossVariation r (nth sd) (at theta n)) i sum)
+Inv-loop r sd theta n i sum base t₀ j₀ t j = (j ≤ n) × (t ≡ sumRow j apart (crossCovariation r (nth sd) (at theta n)) i sum)
 
 abbrev μ-loop : tie.MeasureT-loop
 μ-loop r sd theta n i sum base t₀ j₀ t j = n - j
@@ -62,7 +61,7 @@ loop-again : tie.Need-loop-again Inv-loop μ-loop
 loop-again c = (omega arith, loop-turn _ _ _ _ _ (c .before .before .before .before .before .loop .inv .1) (c .add-apart .ensures))
 
 returns : tie.Need-returns Inv-loop μ-loop
-returns c = let a = c .before .before .before .before .args in let f = crossVariation (a .r) (nth (a .sd .now)) (at (a .theta .now) (a .n)) in at-end (λ k. sumRow k apart f (a .i) (a .sum)) _ _ _ (c .before .loop .inv .1) (c .before .loop .inv .0) (c .loop-test .left)
+returns c = let a = c .before .before .before .before .args in let f = crossCovariation (a .r) (nth (a .sd .now)) (at (a .theta .now) (a .n)) in at-end (λ k. sumRow k apart f (a .i) (a .sum)) _ _ _ (c .before .loop .inv .1) (c .before .loop .inv .0) (c .loop-test .left)
 
-pub add-variations-spec : {M : Type 1} → statement M
-add-variations-spec = tie.close (tie.spec Inv-loop μ-loop mul-base loop-holds mul-add-apart shared-slice-read-add-apart mul-add-apart-2 shared-slice-read-add-apart-2 add-add-apart mul-add-apart-3 shared-slice-read-add-apart-3 add-apart-requires add-j loop-less loop-again returns)
+pub add-covariations-spec : {M : Type 1} → statement M
+add-covariations-spec = tie.close (tie.spec Inv-loop μ-loop mul-base loop-holds mul-add-apart shared-slice-read-add-apart mul-add-apart-2 shared-slice-read-add-apart-2 add-add-apart mul-add-apart-3 shared-slice-read-add-apart-3 add-apart-requires add-j loop-less loop-again returns)
