@@ -190,6 +190,13 @@ ratio-small limit (suc n) a p few short test x y hy F =
     projected : (x : List Float) (e : ℕ) → e < suc n → T (fits binary64 (nth (project (suc n) (decompose limit (suc n) a) (nth x)) e))
     projected x e l = unfold project in rw (getD-tab (suc n) (λ e. sumTo (suc n) (λ i. at (decompose limit (suc n) a .vectors) (suc n) i e ⊗ nth x i)) e nan l) (sum-fits (suc n) (λ i. at (decompose limit (suc n) a .vectors) (suc n) i e ⊗ nth x i))
 
+-- what is not finite stays as it is
+unmoved : (k : ℕ) (z : Float) → (T (isFinite z) → ⊥) → shift (pos k) z ≡ z
+unfolding shift isFinite
+unmoved k nan g = refl
+unmoved k (inf s) g = refl
+unmoved k (fin s c w) g = absurd (g tt)
+
 module _ {k n P : ℕ} {x y : Matrix} (small : k ≤ maxPower) (r : Returns k n P returnBounds x y) (tops : (i : ℕ) → i < n → over (exponentsOf P n y i) ≤ exponentAbove returnBounds) (limit : ℕ) (p : Passed limit n (unitMoments P n x) (sizeOf P n x)) where
   abbrev m' : Moments
   m' = unitMoments P n x
@@ -273,13 +280,10 @@ module _ {k n P : ℕ} {x y : Matrix} (small : k ≤ maxPower) (r : Returns k n 
   target'-is : bayesStein n limit (unitMoments P n x) (exponentsOf P n y) .target ≡ pow2Scaled R (S +ℤ pos k)
   target'-is = pull-is limit n m' f .1 ∙ ap₂ (λ (o : List Float) (j : ℤ). pow2Scaled (ratioOf n d o (means n m')) j) ones-same S-moves
 
-  endless : (s : Bool) → shift (pos k) (inf s) ≡ inf s
-  endless s = unfold shift in refl
-
   scaled-moved : (z : Float) → R ≡ z → AtLeast meanRange (pow2Scaled R S) → AtLeast meanRange (pow2Scaled R (S +ℤ pos k)) → pow2Scaled R (S +ℤ pos k) ≡ shift (pos k) (pow2Scaled R S)
   scaled-moved nan q a b = rw (q, nan-scaled (S +ℤ pos k), nan-scaled S, shift-nan (pos k))
   scaled-moved (inf s) q a b =
-      ap (λ (z : Float). pow2Scaled z (S +ℤ pos k)) q ∙ inf-scaled s (S +ℤ pos k) ∙ sym (endless s)
+      ap (λ (z : Float). pow2Scaled z (S +ℤ pos k)) q ∙ inf-scaled s (S +ℤ pos k) ∙ sym (unmoved k (inf s) (λ f. unfold isFinite in f))
       ∙ ap (shift (pos k)) (sym (ap (λ (z : Float). pow2Scaled z S) q ∙ inf-scaled s S))
   scaled-moved (fin s c w) q a b =
       let F : T (isFinite R) = subst (λ (z : Float). T (isFinite z)) (sym q) (unfold isFinite in tt) in
@@ -355,13 +359,8 @@ module _ {k n P : ℕ} {x y : Matrix} (small : k ≤ maxPower) (r : Returns k n 
         let v = pow2Scaled ((one ⊖ α) ⊗ nth (m' .mean) i) (exponentsOf P n y i) in
         let fu = part .range .finite in
         let fv : T (isFinite v) = rw (part .copy, isFinite-shift (pos k) u) fu in
-        ap (λ (s : Float). v ⊕ α ⊗ s) (e ∙ unmoved t F) ∙ absorbs v z fv G ∙ sym (unmoved z G) ∙ ap (shift (pos k)) (sym (absorbs u z fu G))
+        ap (λ (s : Float). v ⊕ α ⊗ s) (e ∙ unmoved k t F) ∙ absorbs v z fv G ∙ sym (unmoved k z G) ∙ ap (shift (pos k)) (sym (absorbs u z fu G))
       where
-        unmoved : (z : Float) → (T (isFinite z) → ⊥) → shift (pos k) z ≡ z
-        unmoved nan g = unfold shift in refl
-        unmoved (inf s) g = unfold shift in refl
-        unmoved (fin s c w) g = absurd (g (unfold isFinite in tt))
-
         absorbs : (x z : Float) → T (isFinite x) → (T (isFinite z) → ⊥) → x ⊕ z ≡ z
         absorbs x nan f g = nan-add x nan (inr refl)
         absorbs nan (inf s) f g = unfold isFinite in absurd f

@@ -2,7 +2,7 @@
 use mathlib.Core.Path.{_≡_, refl, sym, ap, _∙_}
 use mathlib.Core.List.{List, [], _∷_}
 use Prim.Native.Nat.{ℕ, zero, suc, _+_, _*_, _/_, _%_, _≤_, _<_, zero-le}
-use native.Mathlib.Nat.{le-antisymm, not-suc-le-zero, le-of-suc-le-suc, zero-mul, suc-mul}
+use native.Mathlib.Nat.{le-antisymm, le-of-eq, not-suc-le-zero, le-of-suc-le-suc, zero-mul, suc-mul}
 use native.Mathlib.Numerals.{add-one}
 use native.Mathlib.Omega.{arith}
 use lib.ListN.{length, getD, set, length-set}
@@ -12,16 +12,16 @@ use Rattle.leaves.specs.Loops.{loop, sumTo, amaxTo, tab, fill}
 use Rattle.leaves.proofs.Loops.{loop-more, loop-ext, fill-whole}
 use Rattle.leaves.proofs.Cells.{at-cell}
 
+-- what is kept of i, at the end
+pub at-end : {A : Type 0} (g : ℕ → A) (i n : ℕ) (s : A) → s ≡ g i → i ≤ n → n ≤ i → s ≡ g n
+at-end g i n s e h k = e ∙ ap g (le-antisymm h k)
+
 -- a loop's invariant s ≡ loop step i s₀, after a turn and at the end
 pub loop-turn : {S : Type 0} (step : ℕ → S → S) (i : ℕ) (s₀ s s′ : S) → s ≡ loop i step s₀ → s′ ≡ step i s → s′ ≡ loop (i + 1) step s₀
 loop-turn step i s₀ s s′ e e′ = e′ ∙ ap (step i) e ∙ sym (loop-more step i s₀)
 
 pub loop-end : {S : Type 0} (step : ℕ → S → S) (i n : ℕ) (s₀ s : S) → s ≡ loop i step s₀ → i ≡ n → s ≡ loop n step s₀
-loop-end step i n s₀ s e h = e ∙ ap (λ (k : ℕ). loop k step s₀) h
-
--- what is kept of i, at the end
-pub at-end : {A : Type 0} (g : ℕ → A) (i n : ℕ) (s : A) → s ≡ g i → i ≤ n → n ≤ i → s ≡ g n
-at-end g i n s e h k = e ∙ ap g (le-antisymm h k)
+loop-end step i n s₀ s e h = at-end (λ k. loop k step s₀) i n s e (le-of-eq h) (le-of-eq (sym h))
 
 pub loop-start : {S : Type 0} (step : ℕ → S → S) (s : S) → s ≡ loop 0 step s
 unfolding loop
