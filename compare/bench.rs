@@ -49,7 +49,7 @@ fn main() {
     peers::print();
 }
 
-/// Every call, the covariance with each estimate and shrinkage.
+/// Every call, the covariance with each estimate and with each target of Ledoit and Wolf.
 fn calls(given: &[f64], side: usize) -> Vec<(&'static str, Call)> {
     let covariance = |settings: Settings| Call::AdjustedCovariance {
         settings,

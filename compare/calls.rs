@@ -57,18 +57,18 @@ fn main() {
 
 fn compare(input: &Input, tally: &mut Tally) {
     let (report, slice) = input.answered();
-    let (ours, theirs) = ((Flat::of(&report), slice), answered(input));
-    let number = ours.0.number as usize;
+    let (copied, computed) = ((Flat::of(&report), slice), answered(input));
+    let number = copied.0.number as usize;
     tally.add(&input.call, number);
     let filled = input.filled(number);
-    let same = ours.0 == theirs.0
-        && all_bits(&ours.1[..filled]) == all_bits(&theirs.1[..filled])
-        && input.kept(number, &ours.1)
-        && input.kept(number, &theirs.1);
+    let same = copied.0 == computed.0
+        && all_bits(&copied.1[..filled]) == all_bits(&computed.1[..filled])
+        && input.kept(number, &copied.1)
+        && input.kept(number, &computed.1);
     if !same {
         tally.add(&input.call, DIFFERENT);
         if tally.total(DIFFERENT) <= 3 {
-            let words = format!("{input:?}: copy {ours:?}, engine {theirs:?}");
+            let words = format!("{input:?}: copy {copied:?}, engine {computed:?}");
             println!("    {}", words.chars().take(2000).collect::<String>());
         }
     }

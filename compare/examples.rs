@@ -1,5 +1,5 @@
-// The inputs of the vectors: 1 to 3 assets and 2 to 5 periods, every setting, every refusal and
-// all five calls, each said in a line. Document 01's twelve cases are not repeated.
+// The inputs of the vectors: 1 to 3 assets and 2 to 5 periods (refusals by shape aside), every
+// setting, every refusal and all five calls, each said in a line. Document 01's twelve cases are not repeated.
 
 mod covariances;
 mod means;

@@ -57,19 +57,19 @@ type Told = (Vec<u64>, Vec<u64>, usize, usize);
 
 impl Row {
     fn compare(&mut self, a: &[f64], side: usize, limit: usize) {
-        let ours = SymmetricEigen::new(&Matrix::from_row_slice(side, side, a), limit).map(|e| {
+        let copied = SymmetricEigen::new(&Matrix::from_row_slice(side, side, a), limit).map(|e| {
             let (values, vectors) = (all_bits(&e.values), all_bits(e.vectors.entries()));
             (values, vectors, e.sweeps, e.rotations)
         });
-        match ours {
+        match copied {
             Some(_) => self.found += 1,
             None => self.missed += 1,
         }
-        let theirs = told(a, side, limit);
-        if ours != theirs {
+        let computed = told(a, side, limit);
+        if copied != computed {
             self.differences += 1;
             if self.differences <= 3 {
-                println!("    {a:?}, limit {limit}: copy {ours:X?}, engine {theirs:X?}");
+                println!("    {a:?}, limit {limit}: copy {copied:X?}, engine {computed:X?}");
             }
         }
     }

@@ -1,8 +1,8 @@
 // Runs the power-of-two law on drawn pairs, the second input 2^k times the first: the same refusal
 // at the same place, or the same intensity and counts, with covariances exactly 2^2k times the
-// other's, means and target exactly 2^k times. Pairs that document 01's 'Scaling ranges' does not
-// grant are left out and counted. Prints a table for the copy and one for the engine, and ends with
-// 1 if a pair breaks the law. Argument: how many pairs.
+// other's, means and target exactly 2^k times. Pairs outside the ranges that the law asks for
+// (crates/law/specs/Law.antt) are left out and counted. Prints a table for the copy and one for the
+// engine, and ends with 1 if a pair breaks the law. Argument: how many pairs.
 
 mod argument;
 mod tally;
@@ -117,7 +117,7 @@ fn parts(x: f64) -> Option<(i64, i32)> {
     Some((signed, power + zeros as i32))
 }
 
-// ---- what document 01 grants
+// ---- the law's ranges
 
 fn granted(input: &Input, (flat, slice): &Answer) -> bool {
     let Input { returns, n, t, .. } = input;
@@ -129,22 +129,24 @@ fn granted(input: &Input, (flat, slice): &Answer) -> bool {
                 let estimate = match settings.estimate {
                     Estimate::Weighted(half_life) => long_enough(*t, half_life),
                     Estimate::SemiBelow(threshold) => within(threshold, RETURN_RANGE),
-                    Estimate::Sample | Estimate::Given | Estimate::Semi => true,
+                    Estimate::Given => given.iter().all(|&x| within(x, COVARIANCE_RANGE)),
+                    Estimate::Sample | Estimate::Semi => true,
                 };
+                let sample = matches!(settings.estimate, Estimate::Sample);
                 let intensity = match settings.shrinkage {
-                    Shrinkage::Unshrunk => 0.0,
                     Shrinkage::Fixed(intensity) => intensity,
                     // Also where the covariance is refused later.
-                    Shrinkage::LedoitWolf(target) => {
+                    Shrinkage::LedoitWolf(target) if sample => {
                         ledoit_wolf(returns, *n, *t, target).unwrap_or(0.0)
                     }
+                    Shrinkage::Unshrunk | Shrinkage::LedoitWolf(_) => 0.0,
                 };
                 estimate
                     && at_least(intensity, INTENSITY_RANGE)
-                    && given.iter().all(|&x| within(x, COVARIANCE_RANGE))
                     && within(settings.regularization.unwrap_or(0.0), COVARIANCE_RANGE)
             }
-            Call::LedoitWolf(_) => at_least(flat.numbers[0], INTENSITY_RANGE),
+            // The bound is on an intensity that shrinks a covariance.
+            Call::LedoitWolf(_) => true,
             mean => {
                 let half_life = match mean {
                     Call::ExponentiallyWeightedMean { half_life } => *half_life,

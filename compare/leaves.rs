@@ -39,8 +39,8 @@ fn of_one(random: &Random, floats: &[f64], table: &mut Table) {
     table.leaf("binary_exponent", floats, |&x| {
         (copy::binary_exponent(x), engine::binary_exponent(x))
     });
-    let mut unary = |name: &str, inputs: &[f64], ours: fn(f64) -> f64, theirs: Leaf| {
-        table.leaf(name, inputs, |&x| (bits(ours(x)), bits(theirs(x))));
+    let mut unary = |name: &str, inputs: &[f64], copied: fn(f64) -> f64, computed: Leaf| {
+        table.leaf(name, inputs, |&x| (bits(copied(x)), bits(computed(x))));
     };
     unary("abs", floats, copy::abs, engine::abs);
     unary("signum", floats, copy::signum, engine::signum);
@@ -60,8 +60,8 @@ fn of_two(pairs: &[(f64, f64)], scalings: &[(f64, i32)], table: &mut Table) {
         (bits(copy::smaller(x, y)), bits(engine::smaller(x, y)))
     });
     table.leaf("pow2_scaled", scalings, |&(x, k)| {
-        let theirs = engine::pow2_scaled(x, k);
-        (bits(copy::pow2_scaled(x, k)), bits(theirs))
+        let computed = engine::pow2_scaled(x, k);
+        (bits(copy::pow2_scaled(x, k)), bits(computed))
     });
 }
 
@@ -73,12 +73,12 @@ fn of_slices(slices: &[Vec<f64>], columns: &[(&[f64], usize, usize)], table: &mu
         (bits(copy::amax(xs)), bits(engine::amax(xs)))
     });
     table.leaf("sum_column", columns, |&(xs, n, j)| {
-        let theirs = engine::sum_column(xs, n, j);
-        (bits(copy::sum_column(xs, n, j)), bits(theirs))
+        let computed = engine::sum_column(xs, n, j);
+        (bits(copy::sum_column(xs, n, j)), bits(computed))
     });
     table.leaf("amax_column", columns, |&(xs, n, j)| {
-        let theirs = engine::amax_column(xs, n, j);
-        (bits(copy::amax_column(xs, n, j)), bits(theirs))
+        let computed = engine::amax_column(xs, n, j);
+        (bits(copy::amax_column(xs, n, j)), bits(computed))
     });
 }
 
@@ -100,14 +100,14 @@ impl Table {
         both: impl Fn(&I) -> (O, O),
     ) {
         let differs = |input: &&I| {
-            let (ours, theirs) = both(input);
-            ours != theirs
+            let (copied, computed) = both(input);
+            copied != computed
         };
         let different: Vec<&I> = inputs.iter().filter(differs).collect();
         println!("{name:15} {:>8} {:>11}", inputs.len(), different.len());
         for input in different.iter().take(3) {
-            let (ours, theirs) = both(input);
-            println!("    {input:?}: copy {ours:X?}, engine {theirs:X?}");
+            let (copied, computed) = both(input);
+            println!("    {input:?}: copy {copied:X?}, engine {computed:X?}");
         }
         self.different += usize::from(!different.is_empty());
     }

@@ -39,7 +39,8 @@ extern "C" {
    10  given_len is not side * side, or side not assets  wholes[0]: the side
    11  the given matrix is not symmetric               wholes: the first row and column
    12  the given matrix has a negative eigenvalue      numbers[0]: that value
-   13  the given matrix is not decomposed within the sweep limit
+   13  the given matrix is not decomposed: too few sweeps, or its average with its transpose is
+       not finite
    14  trace 0; a mean's decomposition fails, or its correlation is not finite or singular
   100  a number that stands for no kind: this interface only, before all other causes
 

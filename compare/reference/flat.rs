@@ -3,7 +3,7 @@
 use crate::covariance::{Estimate, Settings, Shrinkage, Target};
 use crate::input::Report;
 use crate::leaves::bits;
-use crate::refusal::{Place, Refusal};
+use crate::refusal::{Detail, Refusal};
 
 /// A kind each, with its value. A value that the kind does not have is NaN.
 #[derive(Debug, Clone, Copy)]
@@ -67,11 +67,11 @@ impl Flat {
             Ok(Report::Shrunk(s)) => flat(0, [s.intensity, s.target], [s.sweeps, s.rotations]),
             Err(refusal) => {
                 let number = refusal.number() as u32;
-                match refusal.place() {
-                    Place::Nothing => flat(number, [0.0, 0.0], [0, 0]),
-                    Place::Whole(whole) => flat(number, [0.0, 0.0], [whole, 0]),
-                    Place::Entry(row, column) => flat(number, [0.0, 0.0], [row, column]),
-                    Place::Value(value) => flat(number, [value, 0.0], [0, 0]),
+                match refusal.detail() {
+                    Detail::Nothing => flat(number, [0.0, 0.0], [0, 0]),
+                    Detail::Whole(whole) => flat(number, [0.0, 0.0], [whole, 0]),
+                    Detail::Entry(row, column) => flat(number, [0.0, 0.0], [row, column]),
+                    Detail::Value(value) => flat(number, [value, 0.0], [0, 0]),
                 }
             }
         }

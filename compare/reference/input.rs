@@ -7,7 +7,7 @@ use crate::calls::{
 };
 use crate::covariance::{Settings, Target};
 use crate::expected_returns::Shrunk;
-use crate::refusal::{Place, Refusal};
+use crate::refusal::{Detail, Refusal};
 
 /// What a lent slice holds before a call, where nothing else is asked for. The program `replay`
 /// begins with the same number.
@@ -163,11 +163,11 @@ impl Input {
                 s.sweeps,
                 s.rotations
             ),
-            Err(refusal) => match refusal.place() {
-                Place::Nothing => format!("refused {}", refusal.number()),
-                Place::Whole(place) => format!("refused {} at {place}", refusal.number()),
-                Place::Entry(i, j) => format!("refused {} at {i} {j}", refusal.number()),
-                Place::Value(value) => format!("refused {} at {value}", refusal.number()),
+            Err(refusal) => match refusal.detail() {
+                Detail::Nothing => format!("refused {}", refusal.number()),
+                Detail::Whole(whole) => format!("refused {} at {whole}", refusal.number()),
+                Detail::Entry(i, j) => format!("refused {} at {i} {j}", refusal.number()),
+                Detail::Value(value) => format!("refused {} at {value}", refusal.number()),
             },
         }
     }

@@ -39,7 +39,7 @@ pub enum Field {
 
 /// All that is returned with a refusal.
 #[derive(Debug, Clone, Copy, PartialEq)]
-pub enum Place {
+pub enum Detail {
     Nothing,
     /// A count, a field, a column or a side.
     Whole(usize),
@@ -69,23 +69,23 @@ impl Refusal {
         }
     }
 
-    pub fn place(self) -> Place {
+    pub fn detail(self) -> Detail {
         match self {
-            Refusal::TooFewPeriods(periods) => Place::Whole(periods),
+            Refusal::TooFewPeriods(periods) => Detail::Whole(periods),
             Refusal::NotFinite(row, column) | Refusal::Asymmetric(row, column) => {
-                Place::Entry(row, column)
+                Detail::Entry(row, column)
             }
-            Refusal::BadSetting(field) => Place::Whole(field as usize),
-            Refusal::ZeroVariance(column) => Place::Whole(column),
-            Refusal::WrongSide(side) => Place::Whole(side),
-            Refusal::Indefinite(value) => Place::Value(value),
+            Refusal::BadSetting(field) => Detail::Whole(field as usize),
+            Refusal::ZeroVariance(column) => Detail::Whole(column),
+            Refusal::WrongSide(side) => Detail::Whole(side),
+            Refusal::Indefinite(value) => Detail::Value(value),
             Refusal::NoAssets
             | Refusal::TooLarge
             | Refusal::WrongLength
             | Refusal::CovarianceNotFinite
             | Refusal::NotTheSample
             | Refusal::NotDecomposed
-            | Refusal::Singular => Place::Nothing,
+            | Refusal::Singular => Detail::Nothing,
         }
     }
 }

@@ -13,17 +13,17 @@ use Rattle.estimators.specs.declared.Settings.{Settings}
 use Rattle.paper.specs.Marking.{targetOf}
 
 -- how many numbers, from 0 on, stand for a kind of an estimate, of a shrinkage and of a regularization
-abbrev pub estimates : ℕ
-estimates = 5
+abbrev pub estimateKinds : ℕ
+estimateKinds = 5
 
-abbrev pub shrinkages : ℕ
-shrinkages = 4
+abbrev pub shrinkageKinds : ℕ
+shrinkageKinds = 4
 
-abbrev pub regularizations : ℕ
-regularizations = 2
+abbrev pub regularizationKinds : ℕ
+regularizationKinds = 2
 
 unfoldable pub known : ℕ → ℕ → ℕ → Bool
-known estimate shrinkage regularization = ltb estimate estimates && ltb shrinkage shrinkages && ltb regularization regularizations
+known estimate shrinkage regularization = ltb estimate estimateKinds && ltb shrinkage shrinkageKinds && ltb regularization regularizationKinds
 
 unfoldable pub estimateOf : ℕ → Float → Estimate
 estimateOf kind x = cond (eqb kind 0) Sample (cond (eqb kind 1) Given (cond (eqb kind 2) (Weighted x) (cond (eqb kind 3) Semi (SemiBelow x))))

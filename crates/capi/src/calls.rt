@@ -1,7 +1,7 @@
 // The five calls with C linkage (include/engine.h): settings in numbers, the answer as a report and the slice.
 ghost use mathlib.Core.Path.{_≡_};
 ghost use Rattle.estimators.specs.Calls as Estimators;
-ghost use Rattle.capi.specs.Report as Flat;
+ghost use Rattle.capi.specs.Report as Reports;
 ghost use Rattle.capi.specs.Calls as Calls;
 use crate::report::hand_out;
 use crate::report::report_of;
@@ -32,7 +32,7 @@ pub extern "C" fn engine_adjusted_covariance(
     numbers: &mut [f64; 2],
     wholes: &mut [usize; 2],
 ) -> u32
-    ensures { λ r. ⌜ Calls.left (Flat.handed r (now (numbers .exit)) (now (wholes .exit))) (now (answer .exit)) ≡ Calls.engineAdjustedCovariance (now (returns .entry)) assets periods estimate «estimate_value» shrinkage «shrinkage_value» regularization «regularization_value» limit (now (given .entry)) side (now (answer .entry)) ⌝ }
+    ensures { λ r. ⌜ Calls.left (Reports.handed r (now (numbers .exit)) (now (wholes .exit))) (now (answer .exit)) ≡ Calls.engineAdjustedCovariance (now (returns .entry)) assets periods estimate «estimate_value» shrinkage «shrinkage_value» regularization «regularization_value» limit (now (given .entry)) side (now (answer .entry)) ⌝ }
 {
     if !known(estimate, shrinkage, regularization) {
         return hand_out(reported(UNKNOWN_KIND, 0.0, 0.0, 0, 0), numbers, wholes);
@@ -59,7 +59,7 @@ pub extern "C" fn engine_ledoit_wolf(
     numbers: &mut [f64; 2],
     wholes: &mut [usize; 2],
 ) -> u32
-    ensures { λ r. ⌜ Flat.handed r (now (numbers .exit)) (now (wholes .exit)) ≡ Calls.engineLedoitWolf (now (returns .entry)) assets periods target ⌝ }
+    ensures { λ r. ⌜ Reports.handed r (now (numbers .exit)) (now (wholes .exit)) ≡ Calls.engineLedoitWolf (now (returns .entry)) assets periods target ⌝ }
 {
     if target > 1 {
         return hand_out(reported(UNKNOWN_KIND, 0.0, 0.0, 0, 0), numbers, wholes);
@@ -83,7 +83,7 @@ pub extern "C" fn engine_weighted_mean(
     numbers: &mut [f64; 2],
     wholes: &mut [usize; 2],
 ) -> u32
-    ensures { λ r. ⌜ Calls.left (Flat.handed r (now (numbers .exit)) (now (wholes .exit))) (now (answer .exit)) ≡ Calls.told (Estimators.exponentiallyWeightedMean (now (returns .entry)) assets periods «half_life» (now (answer .entry))) ⌝ }
+    ensures { λ r. ⌜ Calls.left (Reports.handed r (now (numbers .exit)) (now (wholes .exit))) (now (answer .exit)) ≡ Calls.told (Estimators.exponentiallyWeightedMean (now (returns .entry)) assets periods «half_life» (now (answer .entry))) ⌝ }
 {
     let told = calls::exponentially_weighted_mean(returns, assets, periods, half_life, answer);
     hand_out(report_of(told), numbers, wholes)
@@ -99,7 +99,7 @@ pub extern "C" fn engine_james_stein_mean(
     numbers: &mut [f64; 2],
     wholes: &mut [usize; 2],
 ) -> u32
-    ensures { λ r. ⌜ Calls.left (Flat.handed r (now (numbers .exit)) (now (wholes .exit))) (now (answer .exit)) ≡ Calls.told (Estimators.jamesSteinMean (now (returns .entry)) assets periods limit (now (answer .entry))) ⌝ }
+    ensures { λ r. ⌜ Calls.left (Reports.handed r (now (numbers .exit)) (now (wholes .exit))) (now (answer .exit)) ≡ Calls.told (Estimators.jamesSteinMean (now (returns .entry)) assets periods limit (now (answer .entry))) ⌝ }
 {
     let told = calls::james_stein_mean(returns, assets, periods, limit, answer);
     hand_out(report_of(told), numbers, wholes)
@@ -115,7 +115,7 @@ pub extern "C" fn engine_bayes_stein_mean(
     numbers: &mut [f64; 2],
     wholes: &mut [usize; 2],
 ) -> u32
-    ensures { λ r. ⌜ Calls.left (Flat.handed r (now (numbers .exit)) (now (wholes .exit))) (now (answer .exit)) ≡ Calls.told (Estimators.bayesSteinMean (now (returns .entry)) assets periods limit (now (answer .entry))) ⌝ }
+    ensures { λ r. ⌜ Calls.left (Reports.handed r (now (numbers .exit)) (now (wholes .exit))) (now (answer .exit)) ≡ Calls.told (Estimators.bayesSteinMean (now (returns .entry)) assets periods limit (now (answer .entry))) ⌝ }
 {
     let told = calls::bayes_stein_mean(returns, assets, periods, limit, answer);
     hand_out(report_of(told), numbers, wholes)

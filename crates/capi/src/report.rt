@@ -1,7 +1,7 @@
 // An answer in numbers (include/engine.h).
 ghost use mathlib.Core.Path.{_≡_};
 ghost use Rattle.estimators.specs.Refusals as Refusals;
-ghost use Rattle.capi.specs.Report as Flat;
+ghost use Rattle.capi.specs.Report as Reports;
 use estimators::Answer;
 use estimators::Field;
 use estimators::Refusal;
@@ -26,7 +26,7 @@ fn field_number(field: Field) -> usize
 }
 
 fn first_of(refusal: Refusal) -> usize
-    ensures { λ r. ⌜ r ≡ Flat.firstOf (Refusals.detail refusal) ⌝ }
+    ensures { λ r. ⌜ r ≡ Reports.firstOf (Refusals.detail refusal) ⌝ }
 {
     match refusal {
         Refusal::NoAssets => 0,
@@ -47,7 +47,7 @@ fn first_of(refusal: Refusal) -> usize
 }
 
 fn second_of(refusal: Refusal) -> usize
-    ensures { λ r. ⌜ r ≡ Flat.secondOf (Refusals.detail refusal) ⌝ }
+    ensures { λ r. ⌜ r ≡ Reports.secondOf (Refusals.detail refusal) ⌝ }
 {
     match refusal {
         Refusal::NoAssets => 0,
@@ -68,7 +68,7 @@ fn second_of(refusal: Refusal) -> usize
 }
 
 fn value_or(otherwise: f64, refusal: Refusal) -> f64
-    ensures { λ r. ⌜ r ≡ Flat.valueOr otherwise (Refusals.detail refusal) ⌝ }
+    ensures { λ r. ⌜ r ≡ Reports.valueOr otherwise (Refusals.detail refusal) ⌝ }
 {
     match refusal {
         Refusal::NoAssets => otherwise,
@@ -89,7 +89,7 @@ fn value_or(otherwise: f64, refusal: Refusal) -> f64
 }
 
 fn refused(refusal: Refusal) -> Report
-    ensures { λ r. ⌜ r ≡ Flat.refused refusal ⌝ }
+    ensures { λ r. ⌜ r ≡ Reports.refused refusal ⌝ }
 {
     Report {
         number: number(refusal),
@@ -99,7 +99,7 @@ fn refused(refusal: Refusal) -> Report
 }
 
 pub(crate) fn reported(number: u32, x: f64, y: f64, i: usize, j: usize) -> Report
-    ensures { λ r. ⌜ r ≡ Flat.reported number x y i j ⌝ }
+    ensures { λ r. ⌜ r ≡ Reports.reported number x y i j ⌝ }
 {
     Report {
         number,
@@ -109,7 +109,7 @@ pub(crate) fn reported(number: u32, x: f64, y: f64, i: usize, j: usize) -> Repor
 }
 
 pub(crate) fn report_of(answer: Answer) -> Report
-    ensures { λ r. ⌜ r ≡ Flat.reportOf answer ⌝ }
+    ensures { λ r. ⌜ r ≡ Reports.reportOf answer ⌝ }
 {
     match answer {
         Answer::Refused(refusal) => refused(refusal),
@@ -126,7 +126,7 @@ pub(crate) fn report_of(answer: Answer) -> Report
 
 // Hands a report out: what is returned is its number.
 pub(crate) fn hand_out(report: Report, numbers: &mut [f64; 2], wholes: &mut [usize; 2]) -> u32
-    ensures { λ r. ⌜ Flat.handed r (now (numbers .exit)) (now (wholes .exit)) ≡ report ⌝ }
+    ensures { λ r. ⌜ Reports.handed r (now (numbers .exit)) (now (wholes .exit)) ≡ report ⌝ }
 {
     let x = report.numbers;
     *numbers = x;

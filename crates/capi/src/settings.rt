@@ -1,32 +1,32 @@
 // Settings from numbers: a kind each, with the value that some kinds have (include/engine.h).
 ghost use mathlib.Core.Path.{_≡_};
-ghost use Rattle.capi.specs.Settings as Flat;
+ghost use Rattle.capi.specs.Settings as Kinds;
 use estimators::Estimate;
 use estimators::Regularization;
 use estimators::Settings;
 use estimators::Shrinkage;
 
-// How many kinds there are: the definitions' `estimates`, `shrinkages` and `regularizations`.
-const ESTIMATES: u32 = 5;
+// How many kinds there are: the definitions' `estimateKinds`, `shrinkageKinds` and `regularizationKinds`.
+const ESTIMATE_KINDS: u32 = 5;
 
-const SHRINKAGES: u32 = 4;
+const SHRINKAGE_KINDS: u32 = 4;
 
-const REGULARIZATIONS: u32 = 2;
+const REGULARIZATION_KINDS: u32 = 2;
 
 pub(crate) fn known(estimate: u32, shrinkage: u32, regularization: u32) -> bool
-    ensures { λ r. ⌜ r ≡ Flat.known estimate shrinkage regularization ⌝ }
+    ensures { λ r. ⌜ r ≡ Kinds.known estimate shrinkage regularization ⌝ }
 {
-    if estimate >= ESTIMATES {
+    if estimate >= ESTIMATE_KINDS {
         return false;
     }
-    if shrinkage >= SHRINKAGES {
+    if shrinkage >= SHRINKAGE_KINDS {
         return false;
     }
-    regularization < REGULARIZATIONS
+    regularization < REGULARIZATION_KINDS
 }
 
 fn estimate_of(kind: u32, value: f64) -> Estimate
-    ensures { λ r. ⌜ r ≡ Flat.estimateOf kind value ⌝ }
+    ensures { λ r. ⌜ r ≡ Kinds.estimateOf kind value ⌝ }
 {
     if kind == 0 {
         return Estimate::Sample;
@@ -44,7 +44,7 @@ fn estimate_of(kind: u32, value: f64) -> Estimate
 }
 
 fn shrinkage_of(kind: u32, value: f64) -> Shrinkage
-    ensures { λ r. ⌜ r ≡ Flat.shrinkageOf kind value ⌝ }
+    ensures { λ r. ⌜ r ≡ Kinds.shrinkageOf kind value ⌝ }
 {
     if kind == 0 {
         return Shrinkage::Unshrunk;
@@ -56,7 +56,7 @@ fn shrinkage_of(kind: u32, value: f64) -> Shrinkage
 }
 
 fn regularization_of(kind: u32, value: f64) -> Regularization
-    ensures { λ r. ⌜ r ≡ Flat.regularizationOf kind value ⌝ }
+    ensures { λ r. ⌜ r ≡ Kinds.regularizationOf kind value ⌝ }
 {
     if kind == 0 {
         return Regularization::Unregularized;
@@ -73,7 +73,7 @@ pub(crate) fn settings_of(
     regularization_value: f64,
     limit: usize,
 ) -> Settings
-    ensures { λ r. ⌜ r ≡ Flat.settingsOf estimate «estimate_value» shrinkage «shrinkage_value» regularization «regularization_value» limit ⌝ }
+    ensures { λ r. ⌜ r ≡ Kinds.settingsOf estimate «estimate_value» shrinkage «shrinkage_value» regularization «regularization_value» limit ⌝ }
 {
     Settings {
         estimate: estimate_of(estimate, estimate_value),

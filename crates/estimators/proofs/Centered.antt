@@ -12,27 +12,28 @@ use Rattle.leaves.specs.Loops.{amaxTo, tab, nth}
 use Rattle.leaves.specs.Scaling.{binaryExponent, pow2Scaled}
 use Rattle.leaves.proofs.Loops.{sum-ext, amax-ext}
 use Rattle.leaves.proofs.Lists.{nth-stored, tab-long}
-use Rattle.matrix.specs.Matrix.{Matrix, at, rows, amax, trace, total, sumOver, every, Symmetric}
+use Rattle.matrix.specs.Matrix.{Matrix, at, rows, amax, trace, total, sumOver, every}
+use Rattle.matrix.specs.Inner.{Symmetric}
 use Rattle.matrix.proofs.Stored.{rows-at, rows-ext}
 use Rattle.matrix.proofs.OfStored.{at-stored}
 use Rattle.matrix.proofs.SumOver.{sum-over-ext}
 use Rattle.matrix.proofs.Largest.{amax-columns}
-use Rattle.estimators.specs.Sample.{mean, deviation, gram, scaled, volatility}
-use Rattle.estimators.specs.LedoitWolf.{apart, averageCorrelation, variation, covariation, targetCovariation, error, distance, intensityBy, intensityOf, ledoitWolf, secondMoments, intensityFrom, crossCovariation, distance²}
+use Rattle.estimators.specs.Sample.{mean, deviation, scaled, volatility, secondMoment}
+use Rattle.estimators.specs.LedoitWolf.{apart, averageCorrelation, variation, covariation, targetCovariation, error, squaredDistance, intensityBy, intensityOf, ledoitWolf, secondMoments, intensityFrom, crossCovariation, distance²}
 use Rattle.estimators.specs.Rows.{inUnit, formed, rowsOf}
 use Rattle.estimators.specs.Powers.{Factored}
 use Rattle.estimators.specs.declared.Target.{Target}
 use Rattle.estimators.specs.declared.Target.the-variants.{ConstantVariance, ConstantCorrelation}
 use Rattle.estimators.specs.declared.rows.Row.the-variants.{Deviation, Scaled}
 use Rattle.estimators.proofs.GramSymmetric.{gram-symmetric}
-use Rattle.estimators.proofs.Samples.{row-bare}
+use Rattle.estimators.proofs.Formed.{row-bare}
 use Rattle.estimators.proofs.SameReturns.{gram-ext}
 
 -- ---- of numbers that are alike in T periods of n assets
 
 module _ (T n : ℕ) (z z′ : Matrix) (alike : (t i : ℕ) → t < T → i < n → z t i ≡ z′ t i) where
-  moments-ext : secondMoments T n z ≡ secondMoments T n z′
-  moments-ext = rows-ext n n _ _ (λ i j hi hj. ap (λ (g : Float). g ⊘ count T) (gram-ext T n z z′ alike i j hi hj))
+  second-moments-ext : secondMoments T n z ≡ secondMoments T n z′
+  second-moments-ext = rows-ext n n _ _ (λ i j hi hj. ap (λ (g : Float). g ⊘ count T) (gram-ext T n z z′ alike i j hi hj))
 
   module _ (s : Matrix) where
     variation-ext : (i j : ℕ) → i < n → j < n → variation T z s i j ≡ variation T z′ s i j
@@ -62,7 +63,7 @@ module _ (T n : ℕ) (z z′ : Matrix) (alike : (t i : ℕ) → t < T → i < n 
 
     intensity-ext : (F : Target) → intensityOf F T n z s ≡ intensityOf F T n z′ s
     unfolding intensityOf
-    intensity-ext F = ap (λ (e : Float). intensityBy e T (distance F n s)) (error-ext F)
+    intensity-ext F = ap (λ (e : Float). intensityBy e T (squaredDistance F n s)) (error-ext F)
 
 -- ---- δ, from any such numbers
 pub from-centered : (F : Target) (T n : ℕ) (x z : Matrix) (e : ℤ) {d : Float} → e ≡ binaryExponent (amax T n (deviation T x)) → ((t i : ℕ) → t < T → i < n → z t i ≡ pow2Scaled (deviation T x t i) (negℤ e))
@@ -71,13 +72,13 @@ unfolding ledoitWolf
 from-centered F T n x z e ee ez ed =
     let y : ℤ → Matrix = λ e. at (rows T n (scaled (λ i. e) (deviation T x))) n in
     let alike : (t i : ℕ) → t < T → i < n → z t i ≡ y e t i = λ t i ht hi. ez t i ht hi ∙ unfold scaled in sym (rows-at (scaled (λ i. e) (deviation T x)) T n t i ht hi) in
-    ed ∙ intensity-ext T n z (y e) alike (at (secondMoments T n z) n) F ∙ ap (λ (s : List Float). intensityOf F T n (y e) (at s n)) (moments-ext T n z (y e) alike)
+    ed ∙ intensity-ext T n z (y e) alike (at (secondMoments T n z) n) F ∙ ap (λ (s : List Float). intensityOf F T n (y e) (at s n)) (second-moments-ext T n z (y e) alike)
     ∙ ap (λ (e : ℤ). intensityFrom F T n (y e)) ee
 
-pub moments-symmetric : (T n : ℕ) (z : Matrix) {s : List Float} → s ≡ secondMoments T n z → Symmetric n s
-moments-symmetric T n z e i j hi hj =
-    at-stored n (λ i j. gram T z i j ⊘ count T) e i j hi hj ∙ ap (λ (g : Float). g ⊘ count T) (gram-symmetric T z i j)
-    ∙ sym (at-stored n (λ i j. gram T z i j ⊘ count T) e j i hj hi)
+pub second-moments-symmetric : (T n : ℕ) (z : Matrix) {s : List Float} → s ≡ secondMoments T n z → Symmetric n s
+second-moments-symmetric T n z e i j hi hj =
+    at-stored n (secondMoment T T z) e i j hi hj ∙ ap (λ (g : Float). g ⊘ count T) (gram-symmetric T z i j)
+    ∙ sym (at-stored n (secondMoment T T z) e j i hj hi)
 
 -- ---- the numbers that the code forms
 

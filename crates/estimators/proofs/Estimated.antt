@@ -14,12 +14,12 @@ use Rattle.matrix.specs.Matrix.{Matrix, at, rows}
 use Rattle.matrix.specs.Jacobi.{Decomposition}
 use Rattle.matrix.proofs.Stored.{length-rows}
 use Rattle.estimators.specs.Refusals.{Check, passes, refuses, first}
-use Rattle.estimators.specs.Given.{averagedOf}
-use Rattle.estimators.specs.Adjusted.{isGiven, base, intensity, isAdjusted, baseOf, adjustedOf}
-use Rattle.estimators.specs.Order.{opening, ofSettings, adjustedOrder, noVariance, byReturns, bySettings, byAnswer, byEstimate}
+use Rattle.estimators.specs.Given.{average}
+use Rattle.estimators.specs.Adjusted.{isGiven, decompositionOf, base, intensity, isAdjusted, baseOf, adjustedOf}
+use Rattle.estimators.specs.Order.{opening, ofGiven, ofSettings, adjustedOrder, noVariance, byReturns, bySettings, byAnswer, byEstimate}
 use Rattle.estimators.specs.Shapes.{Shaped}
 use Rattle.estimators.specs.Calls.{answered, settle, adjustedCovariance}
-use Rattle.estimators.specs.Estimated.{finished, estimated, decompositionBy, ofGivenBy}
+use Rattle.estimators.specs.Estimated.{finished, estimated}
 use Rattle.estimators.specs.declared.Estimate.{Estimate}
 use Rattle.estimators.specs.declared.Estimate.the-variants.{Sample, Given, Weighted, Semi, SemiBelow}
 use Rattle.estimators.specs.declared.Settings.{Settings}
@@ -27,7 +27,7 @@ use Rattle.estimators.specs.declared.Refusal.{Refusal}
 use Rattle.estimators.specs.declared.Answer.{Answer}
 use Rattle.estimators.specs.declared.Answer.the-variants.{Refused, Covariance}
 use Rattle.estimators.proofs.Firsts.{first-then, first-join}
-use Rattle.estimators.proofs.Passed.{first-rest, first-passes}
+use Rattle.estimators.proofs.Passed.{pass-cons, first-passes}
 use Rattle.estimators.proofs.Opened.{settle-refused, settle-accepted, shaped}
 
 -- ---- from the estimate b on
@@ -67,7 +67,7 @@ module _ (s : Settings) (T n side : ℕ) (x : Matrix) (sweeps rotations : ℕ) (
   -- where the settings pass, a given matrix has the returns' side
   side-is : first (bySettings s T n side x) ≡ passes → isGiven (s .estimate) ≡ true → side ≡ n
   side-is e given =
-      let wrong = first-rest _ _ (first-rest _ _ (first-rest _ _ (first-rest _ _ (first-rest _ _ e)))) in
+      let wrong = pass-cons _ _ (pass-cons _ _ (pass-cons _ _ (pass-cons _ _ (pass-cons _ _ e .1) .1) .1) .1) .1 in
       let test = first-passes (isGiven (s .estimate) && not (eqb side n)) _ _ wrong in
       eqb-true _ _ (not-false _ (ap (λ (g : Bool). g && not (eqb side n)) (sym given) ∙ test .0))
 
@@ -97,13 +97,13 @@ module _ (r : List Float) (n T : ℕ) (s : Settings) (given : List Float) (side 
   x = at r n
 
   abbrev d : Decomposition
-  d = decompositionBy s given side
+  d = decompositionOf s given side
 
   abbrev δ : Float
   δ = intensity (s .shrinkage) T n x
 
   abbrev b : List Float
-  b = baseOf s T n x (at (averagedOf given side) side)
+  b = baseOf s T n x (average given side)
 
   abbrev a : List Float
   a = adjustedOf s δ n b
@@ -112,29 +112,29 @@ module _ (r : List Float) (n T : ℕ) (s : Settings) (given : List Float) (side 
   later = ofSettings s δ T n side x (at b n) (at a n)
 
   -- the answer, by the first check that refuses
-  whole : {k : Check} → k ≡ first (byReturns T n x ++ ofGivenBy s given side ++ later) → settle k slice (answered (Covariance δ (d .sweeps) (d .rotations)) a) ≡ adjustedCovariance r n T s given side slice
+  whole : {k : Check} → k ≡ first (byReturns T n x ++ ofGiven s given side ++ later) → settle k slice (answered (Covariance δ (d .sweeps) (d .rotations)) a) ≡ adjustedCovariance r n T s given side slice
   unfolding adjustedCovariance adjustedOrder opening
   whole {k} e =
       ap (λ (l : List Float). settle k slice (answered (Covariance δ (d .sweeps) (d .rotations)) l)) (tab-is nan a (n * n) (nth a) (length-rows _ n n) (λ k h. refl))
-      ∙ shaped r n T (n * n) slice (ofGivenBy s given side ++ later) (Covariance δ (d .sweeps) (d .rotations)) (nth a) shape long e
+      ∙ shaped r n T (n * n) slice (ofGiven s given side ++ later) (Covariance δ (d .sweeps) (d .rotations)) (nth a) shape long e
 
   pub returns-refuse : {c : Refusal} → refuses c ≡ first (byReturns T n x) → answered (Refused c) slice ≡ adjustedCovariance r n T s given side slice
   unfolding first
-  returns-refuse e = settle-refused _ _ refl ∙ whole (first-then (byReturns T n x) (ofGivenBy s given side ++ later) e)
+  returns-refuse e = settle-refused _ _ refl ∙ whole (first-then (byReturns T n x) (ofGiven s given side ++ later) e)
 
   -- the given matrix is looked at after the returns
-  given-next : {k : Check} → passes ≡ first (byReturns T n x) → k ≡ first (ofGivenBy s given side) → first (k ∷ later) ≡ first (byReturns T n x ++ ofGivenBy s given side ++ later)
+  given-next : {k : Check} → passes ≡ first (byReturns T n x) → k ≡ first (ofGiven s given side) → first (k ∷ later) ≡ first (byReturns T n x ++ ofGiven s given side ++ later)
   unfolding first
-  given-next pass e = first-then (ofGivenBy s given side) later e ∙ first-then (byReturns T n x) (ofGivenBy s given side ++ later) pass
+  given-next pass e = first-then (ofGiven s given side) later e ∙ first-then (byReturns T n x) (ofGiven s given side ++ later) pass
 
-  pub given-refuses : {c : Refusal} → passes ≡ first (byReturns T n x) → refuses c ≡ first (ofGivenBy s given side) → answered (Refused c) slice ≡ adjustedCovariance r n T s given side slice
+  pub given-refuses : {c : Refusal} → passes ≡ first (byReturns T n x) → refuses c ≡ first (ofGiven s given side) → answered (Refused c) slice ≡ adjustedCovariance r n T s given side slice
   unfolding first
   given-refuses pass e = settle-refused _ _ refl ∙ whole (given-next pass e)
 
-  pub given-passes : {k : Answer} {out : List Float} {m j : ℕ} → passes ≡ first (byReturns T n x) → (passes ≡ first (ofGivenBy s given side)) × (m ≡ d .sweeps) × (j ≡ d .rotations)
-      → answered k out ≡ estimated s T n side x m j (at (averagedOf given side) side) slice → answered k out ≡ adjustedCovariance r n T s given side slice
+  pub given-passes : {k : Answer} {out : List Float} {m j : ℕ} → passes ≡ first (byReturns T n x) → (passes ≡ first (ofGiven s given side)) × (m ≡ d .sweeps) × (j ≡ d .rotations)
+      → answered k out ≡ estimated s T n side x m j (average given side) slice → answered k out ≡ adjustedCovariance r n T s given side slice
   unfolding first
   given-passes {j = j} pass (e, em, ej) h =
-      let g = at (averagedOf given side) side in
+      let g = average given side in
       h ∙ ap (λ (m : ℕ). estimated s T n side x m j g slice) em ∙ ap (λ (j : ℕ). estimated s T n side x (d .sweeps) j g slice) ej
       ∙ whole (given-next pass e)

@@ -14,11 +14,12 @@ use Rattle.leaves.specs.Numbers.{_⊗_, one}
 use Rattle.leaves.specs.Loops.{nth}
 use Rattle.leaves.specs.Shift.{shift}
 use Rattle.leaves.specs.Scaling.{pow2, pow2Scaled, cut}
-use Rattle.leaves.proofs.Whole.{over, under, one-side, minus, same, le-or-lt}
+use Rattle.leaves.proofs.Whole.{posPart, negPart, one-side, minus, same, le-or-lt}
 use Rattle.leaves.proofs.Scale.{pow2-fits, scaled-once, scaled-exact, times-one}
 use Rattle.leaves.proofs.ScaleSteps.{cut-range, scale-last, scale-step}
 use Rattle.estimators.specs.Powers.{Factored, UnitsTo}
-use Rattle.estimators.specs.Exponents.{exponentAt, maxExponent}
+use Rattle.estimators.specs.Exponents.{maxExponent}
+use Rattle.estimators.specs.BayesStein.{exponentAt}
 use Rattle.estimators.proofs.Exponents.{size-is}
 
 -- ---- 2 ^ k, made of 1
@@ -27,8 +28,8 @@ shift-one : (k : ℤ) → shift k one ≡ pow2 k
 unfolding shift
 shift-one k = ap (fin false 1) (+ℤ-idl k)
 
-power : (k : ℤ) → over k ≤ 1023 → under k ≤ 1022 → pow2Scaled one k ≡ pow2 k
-unfolding over under
+power : (k : ℤ) → posPart k ≤ 1023 → negPart k ≤ 1022 → pow2Scaled one k ≡ pow2 k
+unfolding posPart negPart
 power k h l = scaled-exact one k (pow2-fits (pos 0) (omega arith) (omega arith)) (rw (shift-one k) (pow2-fits k h (omega arith))) ∙ shift-one k
 
 -- ---- the factors
@@ -39,12 +40,12 @@ factored k size near far e e′ x =
     let j = cut k in
     let t = cut-range k .top in
     let b = cut-range k .bottom in
-    let hj : over j ≤ 1023 = omega arith in
-    let lj : under j ≤ 1022 = omega arith in
-    let hk : over (k -ℤ j) ≤ 1023 = omega (arith, minus k j, one-side (k -ℤ j), size-is k) in
-    let lk : under (k -ℤ j) ≤ 1022 = omega (arith, minus k j, one-side (k -ℤ j), size-is k) in
+    let hj : posPart j ≤ 1023 = omega arith in
+    let lj : negPart j ≤ 1022 = omega arith in
+    let hk : posPart (k -ℤ j) ≤ 1023 = omega (arith, minus k j, one-side (k -ℤ j), size-is k) in
+    let lk : negPart (k -ℤ j) ≤ 1022 = omega (arith, minus k j, one-side (k -ℤ j), size-is k) in
     (λ i. x ⊗ (e ∙ power j hj lj) i ⊗ (e′ ∙ power (k -ℤ j) hk lk) i)
-    ∙ ⊎-elim (λ l. whole (same j k (omega arith))) (λ l. sym (scaled-once (x ⊗ pow2 j) (k -ℤ j) hk lk) ∙ scale-step x k (λ h. absurd (omega (arith, ap over h, ap under h)))) (le-or-lt (over k + under k) (over j + under j))
+    ∙ ⊎-elim (λ l. whole (same j k (omega arith))) (λ l. sym (scaled-once (x ⊗ pow2 j) (k -ℤ j) hk lk) ∙ scale-step x k (λ h. absurd (omega (arith, ap posPart h, ap negPart h)))) (le-or-lt (posPart k + negPart k) (posPart j + negPart j))
   where
     whole : cut k ≡ k → x ⊗ pow2 (cut k) ⊗ pow2 (k -ℤ cut k) ≡ pow2Scaled x k
     whole h = ap (λ (j : ℤ). x ⊗ pow2 j ⊗ pow2 (k -ℤ j)) h ∙ ap (λ (z : ℤ). x ⊗ pow2 k ⊗ pow2 z) (+ℤ-invr k) ∙ times-one (x ⊗ pow2 k) (mul-fits binary64 x (pow2 k)) ∙ scale-last x k h

@@ -2,7 +2,6 @@
 use mathlib.Core.Path.{_≡_, refl, sym, ap, _∙_}
 use mathlib.Core.List.{List, [], _∷_, _++_}
 use Rattle.estimators.specs.Refusals.{Check, passes, refuses, first}
-use Rattle.estimators.proofs.Passed.{pass-cons}
 
 pub first-alone : (x : Check) → x ≡ first (x ∷ [])
 unfolding first
@@ -33,7 +32,3 @@ first-then xs ys e = ap (λ (k : Check). first (k ∷ ys)) e ∙ sym (first-fron
 -- earlier checks and one more, as the code joins them
 pub first-with : (xs ys : List Check) {x y a k : Check} → x ≡ first xs → a ≡ y → k ≡ first (x ∷ a ∷ []) → first (k ∷ ys) ≡ first (xs ++ y ∷ ys)
 first-with xs ys {y = y} ex ea e = first-then (first xs ∷ y ∷ []) ys (e ∙ (λ t. first (ex t ∷ ea t ∷ []))) ∙ sym (first-front xs (y ∷ ys))
-
--- earlier and later checks that all pass
-pub pass-append : (xs ys : List Check) → first (xs ++ ys) ≡ passes → (first xs ≡ passes) × (first ys ≡ passes)
-pass-append xs ys e = pass-cons (first xs) ys (sym (first-front xs ys) ∙ e)

@@ -1,8 +1,9 @@
 -- Laws of the rows that `specs/Rows.antt` forms. Assumes nothing.
 use mathlib.Core.Path.{_≡_, refl, ap, _∙_}
-use mathlib.Core.List.{List}
+use mathlib.Core.List.{List, []}
 use Prim.Native.Nat.{ℕ, _+_, _-_, _*_, _≤_, _<_}
 use native.Mathlib.Omega.{arith}
+use lib.IntN.{ℤ}
 use lib.ListN.{length, take, drop}
 use lib.Ieee.{Float}
 use borrow.Author.Tests.{le-leb, lt-leb}
@@ -10,9 +11,12 @@ use Rattle.leaves.specs.Numbers.{_⊗_}
 use Rattle.leaves.specs.Loops.{tab, nth}
 use Rattle.leaves.proofs.Loops.{tab-ext}
 use Rattle.leaves.proofs.Lists.{tab-then}
-use Rattle.matrix.specs.Matrix.{at}
+use Rattle.matrix.specs.Matrix.{Matrix, at}
 use Rattle.matrix.proofs.ByRows.{part-nth}
-use Rattle.estimators.specs.Rows.{inUnit, formed, rowsOf}
+use Rattle.estimators.specs.Sample.{scaled}
+use Rattle.estimators.specs.BayesStein.{exponentAt}
+use Rattle.estimators.specs.Rows.{inUnit, inUnits, formed, rowsOf}
+use Rattle.estimators.specs.Powers.{Units}
 use Rattle.estimators.specs.declared.rows.Row.{Row}
 
 module _ (row : Row) (n : ℕ) (xs units centers : List Float) (w : Float) where
@@ -38,3 +42,17 @@ row-formed row m n a t r units centers weights w em ea ew =
     ∙ tab-ext _ (λ k. formed row (inUnit n units k (at r n t k)) (nth centers k) (nth weights t)) n
     (λ k h. let e : nth (take (a + n - a) (drop a r)) k ≡ at r n t k = part-nth a (a + n - a) r k (omega arith) ∙ ap (λ (b : ℕ). nth r (b + k)) ea in
     λ i. formed row (inUnit n units k (e i)) (nth centers k) (ew i))
+
+-- ---- without units, and in units that are stored
+
+pub unit-none : (n : ℕ) (x : Matrix) (t i : ℕ) → i < n → inUnits n [] x t i ≡ x t i
+unfolding inUnit
+unit-none n x t i h = rw (lt-leb (n + n) 0 (omega arith))
+
+pub row-bare : (row : Row) (n : ℕ) (centers weights : List Float) (x : Matrix) (t i : ℕ) → i < n → rowsOf row n [] centers weights x t i ≡ formed row (x t i) (nth centers i) (nth weights t)
+unfolding rowsOf
+row-bare row n centers weights x t i h = ap (λ (v : Float). formed row v (nth centers i) (nth weights t)) (unit-none n x t i h)
+
+pub unit-scaled : (n : ℕ) (es : List ℤ) (units : List Float) (x : Matrix) → length units ≡ n + n → Units n es units → (t i : ℕ) → i < n → inUnits n units x t i ≡ scaled (exponentAt es) x t i
+unfolding inUnit scaled
+unit-scaled n es units x e u t i h = rw (le-leb (n + n) (length units) (omega arith)) (u i h (x t i))

@@ -6,12 +6,11 @@ use Prim.Native.Nat.{ℕ, _<_}
 use native.Mathlib.Omega.{arith}
 use lib.IntN.{ℤ, _-ℤ_}
 use lib.Ieee.{Float}
-use mir.Syntax.{w32}
-use mir.Val.{toZ, ofZ}
 use Rattle.leaves.specs.Scaling.{pow2Scaled}
+use Rattle.leaves.proofs.Ints.{readBack}
+use Rattle.leaves.proofs.Loops.{loop-ext, tab-ext}
 use Rattle.estimators.specs.BayesStein.{orZero, commonExponent, gathered, withExponent}
 use Rattle.estimators.specs.Gather.{Gathered}
-use Rattle.leaves.proofs.Loops.{loop-ext, tab-ext}
 use Rattle.estimators.proofs.Exponents.{read}
 
 pub gathered-as : {n : ℕ} {m m′ : ℕ → Float} {k k′ : ℕ → ℤ} {e : ℤ} {l : List Float} → ((i : ℕ) → i < n → m i ≡ m′ i) → ((i : ℕ) → i < n → k i ≡ k′ i) → Gathered n m k e l → Gathered n m′ k′ e l
@@ -23,5 +22,5 @@ gathered-as {n} {m} {m′} {k} {k′} {e} hm hk g = record {
 }
 
 -- the power, as the machine reads it back
-pub gathered-read : {n : ℕ} {m : ℕ → Float} {k : ℕ → ℤ} {e : ℤ} {l : List Float} → Gathered n m k e l → Gathered n m k (toZ w32 (ofZ w32 e)) l
+pub gathered-read : {n : ℕ} {m : ℕ → Float} {k : ℕ → ℤ} {e : ℤ} {l : List Float} → Gathered n m k e l → Gathered n m k (readBack e) l
 gathered-read {n} {m} {k} {e} {l} g = subst (λ (z : ℤ). Gathered n m k z l) (sym (read e (omega arith))) g

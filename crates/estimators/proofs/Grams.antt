@@ -1,8 +1,9 @@
 -- The second moments of the rows that the code forms below a floor and with weights: they are the definitions'. Assumes nothing.
 use mathlib.Core.Path.{_≡_, ap, _∙_}
 use mathlib.Core.List.{List, []}
-use Prim.Native.Nat.{ℕ, _*_, _<_}
+use Prim.Native.Nat.{ℕ, _<_}
 use native.Mathlib.Omega.{arith}
+use lib.ListN.{length}
 use lib.Ieee.{Float}
 use Rattle.leaves.specs.Numbers.{_⊖_, _⊗_, _⊘_, count, min0}
 use Rattle.leaves.specs.Loops.{tab, nth}
@@ -10,21 +11,21 @@ use Rattle.leaves.specs.Root.{sqrt}
 use Rattle.leaves.proofs.Lists.{nth-stored}
 use Rattle.matrix.specs.Matrix.{Matrix, rows}
 use Rattle.matrix.proofs.Stored.{rows-ext}
+use Rattle.matrix.proofs.OfStored.{entrywise}
 use Rattle.estimators.specs.Sample.{gram}
 use Rattle.estimators.specs.Semi.{shortfall, below}
 use Rattle.estimators.specs.Weighted.{weights, denominator, weightedMean, weightedCovariance}
 use Rattle.estimators.specs.Rows.{formed, rowsOf}
 use Rattle.estimators.specs.declared.rows.Row.the-variants as Row
-use Rattle.estimators.proofs.Halves.{rows-over}
-use Rattle.estimators.proofs.Samples.{row-bare}
+use Rattle.estimators.proofs.Formed.{row-bare}
 use Rattle.estimators.proofs.SameReturns.{gram-ext}
 
 -- below the floors f, over d
-pub below-over : (T n m d : ℕ) (x : Matrix) (f : ℕ → Float) {floors l : List Float} {y : Float} → m ≡ n * n → y ≡ count d → floors ≡ tab n f → l ≡ rows n n (gram T (rowsOf Row.Shortfall n [] floors [] x))
-    → tab m (λ k. nth l k ⊘ y) ≡ rows n n (below f d T x)
+pub below-over : (T n d : ℕ) (x : Matrix) (f : ℕ → Float) {floors l out : List Float} {y : Float} → y ≡ count d → floors ≡ tab n f → l ≡ rows n n (gram T (rowsOf Row.Shortfall n [] floors [] x)) → out ≡ tab (length l) (λ k. nth l k ⊘ y)
+    → out ≡ rows n n (below f d T x)
 unfolding formed shortfall
-below-over T n m d x f {floors} {l} {y} em ey ef e =
-    rows-over (gram T (shortfall f x)) n m y l em (e ∙ rows-ext n n _ _ (gram-ext T n _ (shortfall f x) alike)) ∙ ap (λ (c : Float). rows n n (λ i j. gram T (shortfall f x) i j ⊘ c)) ey
+below-over T n d x f {floors} {y = y} ey ef e eo =
+    entrywise n (gram T (shortfall f x)) (λ a z. z ⊘ y) [] (e ∙ rows-ext n n _ _ (gram-ext T n _ (shortfall f x) alike)) eo ∙ ap (λ (c : Float). rows n n (λ i j. gram T (shortfall f x) i j ⊘ c)) ey
   where
     alike : (t i : ℕ) → t < T → i < n → rowsOf Row.Shortfall n [] floors [] x t i ≡ shortfall f x t i
     alike t i ht hi = row-bare Row.Shortfall n floors [] x t i hi ∙ ap (λ (c : Float). min0 (x t i ⊖ c)) (nth-stored n f ef i hi)

@@ -10,12 +10,12 @@ use Rattle.matrix.specs.Matrix.{Matrix, at, rows, trace, total, sumOver}
 use Rattle.matrix.proofs.OfStored.{at-stored, total-stored, trace-stored}
 use Rattle.matrix.proofs.SumOver.{sum-over-ext}
 use Rattle.estimators.specs.Sample.{volatility}
-use Rattle.estimators.specs.LedoitWolf.{apart, averageCorrelation, variation, covariation, targetCovariation, error, distance, intensityBy, intensityOf, crossCovariation}
+use Rattle.estimators.specs.LedoitWolf.{apart, averageCorrelation, variation, covariation, targetCovariation, error, squaredDistance, intensityBy, intensityOf, crossCovariation}
 use Rattle.estimators.specs.declared.Target.{Target}
 use Rattle.estimators.specs.declared.Target.the-variants.{ConstantVariance, ConstantCorrelation}
 
 -- δ, from the error and γ
-pub intensity-is : (F : Target) (T n : ℕ) (z s : Matrix) {γ e r : Float} → γ ≡ distance F n s → e ≡ error F T n z s → r ≡ intensityBy e T γ → r ≡ intensityOf F T n z s
+pub intensity-is : (F : Target) (T n : ℕ) (z s : Matrix) {γ e r : Float} → γ ≡ squaredDistance F n s → e ≡ error F T n z s → r ≡ intensityBy e T γ → r ≡ intensityOf F T n z s
 unfolding intensityOf
 intensity-is F T n z s eγ ee er = er ∙ (λ t. intensityBy (ee t) T (eγ t))
 
@@ -24,13 +24,13 @@ module _ (T n : ℕ) (z s : Matrix) {π : List Float} (eπ : π ≡ rows n n (va
   unfolding error
   variance-error = ea ∙ total-stored n (variation T z s) eπ
 
-  pub correlation-error : {sd θ : List Float} {r ρ : Float} → sd ≡ tab n (volatility s) → r ≡ averageCorrelation n s → θ ≡ rows n n (covariation T z s)
-      → ρ ≡ sumOver n apart (crossCovariation r (nth sd) (at θ n)) (trace n (at π n)) → all ⊖ ρ ≡ error ConstantCorrelation T n z s
+  pub correlation-error : {volatilities θ : List Float} {r ρ : Float} → volatilities ≡ tab n (volatility s) → r ≡ averageCorrelation n s → θ ≡ rows n n (covariation T z s)
+      → ρ ≡ sumOver n apart (crossCovariation r (nth volatilities) (at θ n)) (trace n (at π n)) → all ⊖ ρ ≡ error ConstantCorrelation T n z s
   unfolding error targetCovariation
-  correlation-error {sd} {θ} {r} ed er eθ eρ = λ u. variance-error u ⊖ (eρ ∙ summed) u
+  correlation-error {volatilities} {θ} {r} ed er eθ eρ = λ u. variance-error u ⊖ (eρ ∙ summed) u
     where
-      summed : sumOver n apart (crossCovariation r (nth sd) (at θ n)) (trace n (at π n)) ≡ targetCovariation T n z s
+      summed : sumOver n apart (crossCovariation r (nth volatilities) (at θ n)) (trace n (at π n)) ≡ targetCovariation T n z s
       summed =
-          ap (sumOver n apart (crossCovariation r (nth sd) (at θ n))) (trace-stored n (variation T z s) eπ)
+          ap (sumOver n apart (crossCovariation r (nth volatilities) (at θ n))) (trace-stored n (variation T z s) eπ)
           ∙ sum-over-ext n apart _ _ _
           (λ i j hi hj t. er t ⊗ nth-stored n (volatility s) ed j hj t ⊘ nth-stored n (volatility s) ed i hi t ⊗ at-stored n (covariation T z s) eθ i j hi hj t)

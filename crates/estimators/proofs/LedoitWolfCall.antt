@@ -36,10 +36,10 @@ module _ (r : List Float) (n T : ℕ) (F : Target) where
   pub shape-refuses : {c : Refusal} → refuses c ≡ first (byShape (length r) n T 0 0) → Refused c ≡ ledoitWolfIntensity r n T F
   shape-refuses e = call (Opened.shape-refuses r n T 0 [] _ intensity numbers e)
 
-  module _ (shape : Shaped (length r) n T) {k opens apart : Check} (is-opens : opens ≡ first (byReturns T n (at r n))) (is-apart : apart ≡ noCorrelation (LedoitWolf F) T n (at r n)) (is-k : k ≡ first (opens ∷ apart ∷ [])) where
+  module _ (shape : Shaped (length r) n T) {k opens own : Check} (is-opens : opens ≡ first (byReturns T n (at r n))) (is-own : own ≡ noCorrelation (LedoitWolf F) T n (at r n)) (is-k : k ≡ first (opens ∷ own ∷ [])) where
     pub refused : {c : Refusal} → k ≡ refuses c → Refused c ≡ ledoitWolfIntensity r n T F
-    refused h = call (Opened.setting-refused r n T 0 [] shape refl is-opens is-apart is-k [] intensity numbers h)
+    refused h = call (Opened.setting-refused r n T 0 [] shape refl is-opens is-own is-k [] intensity numbers h)
 
     pub accepted : {d : Float} → k ≡ passes → d ≡ ledoitWolf F T n (at r n) → Intensity d ≡ ledoitWolfIntensity r n T F
     unfolding first settle
-    accepted h e = ap Intensity e ∙ call (Opened.setting-accepted r n T 0 [] shape refl is-opens is-apart is-k [] intensity numbers h)
+    accepted h e = ap Intensity e ∙ call (Opened.setting-accepted r n T 0 [] shape refl is-opens is-own is-k [] intensity numbers h)

@@ -1,7 +1,7 @@
 -- The laws that the proofs of the estimators share.
 pub mod Formed
 pub mod Sums
-pub mod Passes
+pub mod OverPeriods
 pub mod Mirror
 pub mod Halves
 pub mod Passed
@@ -21,6 +21,7 @@ pub mod Gathered
 pub mod Constant
 pub mod Grams
 pub mod GramSymmetric
-pub mod InUnits
+pub mod WeightedMeans
 pub mod Lent
 pub mod MeanCalls
+pub mod BayesSteinLists

@@ -13,11 +13,10 @@ use Rattle.matrix.specs.Limits.{maxSide, maxSweeps}
 use Rattle.matrix.specs.Matrix.{at}
 use Rattle.matrix.specs.Jacobi.{Decomposition, unturned}
 use Rattle.estimators.specs.Refusals.{Check, passes, refuses, first}
-use Rattle.estimators.specs.Given.{decomposeGiven, averagedOf}
+use Rattle.estimators.specs.Given.{averagedOf, average, decomposeGiven}
 use Rattle.estimators.specs.Adjusted.{isGiven, decompositionOf}
-use Rattle.estimators.specs.Order.{sweepLimit, ofGiven, bySizes, byNumbers}
+use Rattle.estimators.specs.Order.{badSweepLimit, ofGiven, bySizes, byNumbers}
 use Rattle.estimators.specs.Checks.{examined}
-use Rattle.estimators.specs.Estimated.{decompositionBy, ofGivenBy}
 use Rattle.estimators.specs.declared.Settings.{Settings}
 use Rattle.estimators.specs.declared.Refusal.{Refusal}
 use Rattle.estimators.specs.declared.given.Examined.{Examined}
@@ -25,12 +24,8 @@ use Rattle.estimators.specs.declared.given.Examined.the-variants as Foun
 use Rattle.estimators.proofs.Firsts.{first-then}
 use Rattle.estimators.proofs.Passed.{first-passes}
 
-of-given : (s : Settings) (g : List Float) (n : ℕ) (d : Decomposition) → isGiven (s .estimate) ≡ true → ofGiven s g n d ≡ bySizes (s .limit) (length g) n ++ byNumbers n (at g n) d
-unfolding ofGiven
-of-given s g n d e = rw (ofGiven, e)
-
 pub sizes-pass : (limit size n : ℕ) {k : Check} → k ≡ passes → k ≡ first (bySizes limit size n) → (limit ≤ maxSweeps) × (0 < n) × (n ≤ maxSide) × (size ≡ n * n)
-unfolding sweepLimit
+unfolding badSweepLimit
 sizes-pass limit size n pass e =
     let a = first-passes (ltb maxSweeps limit) _ _ (sym e ∙ pass) in
     let b = first-passes (eqb n 0) _ _ (a .1) in
@@ -57,7 +52,7 @@ same-side side n l g h e = ap (λ (m : ℕ). at (take (m * m) l) m) (sym e) ∙ 
 
 module _ (s : Settings) (given : List Float) (side : ℕ) where
   -- nothing is looked at for the other estimates
-  pub none-given : isGiven (s .estimate) ≡ false → Found.Accepted 0 0 ≡ examined (first (ofGivenBy s given side)) (decompositionBy s given side)
+  pub none-given : isGiven (s .estimate) ≡ false → Found.Accepted 0 0 ≡ examined (first (ofGiven s given side)) (decompositionOf s given side)
   unfolding first ofGiven decompositionOf unturned
   none-given e = rw (ofGiven, decompositionOf, e)
 
@@ -65,30 +60,31 @@ module _ (s : Settings) (given : List Float) (side : ℕ) where
   limit = s .limit
 
   abbrev parts : Decomposition
-  parts = decomposeGiven limit side (at (averagedOf given side) side)
+  parts = decomposeGiven limit side (average given side)
 
   -- the decomposition of a given matrix is its own
-  by-given : isGiven (s .estimate) ≡ true → decompositionBy s given side ≡ parts
+  by-given : isGiven (s .estimate) ≡ true → decompositionOf s given side ≡ parts
   unfolding decompositionOf
   by-given e = rw (decompositionOf, e)
 
-  checks-given : isGiven (s .estimate) ≡ true → first (ofGivenBy s given side) ≡ first (bySizes limit (length given) side ++ byNumbers side (at given side) parts)
-  checks-given e = ap first (of-given s given side (decompositionBy s given side) e ∙ ap (λ (d : Decomposition). bySizes limit (length given) side ++ byNumbers side (at given side) d) (by-given e))
+  checks-given : isGiven (s .estimate) ≡ true → first (ofGiven s given side) ≡ first (bySizes limit (length given) side ++ byNumbers side (at given side) parts)
+  unfolding ofGiven
+  checks-given e = rw (ofGiven, e, by-given e)
 
   pub sizes-refuse : {c : Refusal} → isGiven (s .estimate) ≡ true → refuses c ≡ first (bySizes limit (length given) side)
-      → (Found.Refused c ≡ examined (first (ofGivenBy s given side)) (decompositionBy s given side)) × (first (ofGivenBy s given side) ≡ refuses c)
+      → (Found.Refused c ≡ examined (first (ofGiven s given side)) (decompositionOf s given side)) × (first (ofGiven s given side) ≡ refuses c)
   unfolding first
   sizes-refuse {c} e h =
       let rest = byNumbers side (at given side) parts in
-      let refused : first (ofGivenBy s given side) ≡ refuses c = checks-given e ∙ sym (first-then (bySizes limit (length given) side) rest h) in
-      (ap (λ (k : Check). examined k (decompositionBy s given side)) (sym refused), refused)
+      let refused : first (ofGiven s given side) ≡ refuses c = checks-given e ∙ sym (first-then (bySizes limit (length given) side) rest h) in
+      (ap (λ (k : Check). examined k (decompositionOf s given side)) (sym refused), refused)
 
   pub sizes-fit : {k : Examined} {table : List Float} → isGiven (s .estimate) ≡ true → passes ≡ first (bySizes limit (length given) side) → table ≡ averagedOf given side
       → k ≡ examined (first (byNumbers side (at given side) (decomposeGiven limit side (at table side)))) (decomposeGiven limit side (at table side))
-      → k ≡ examined (first (ofGivenBy s given side)) (decompositionBy s given side)
+      → k ≡ examined (first (ofGiven s given side)) (decompositionOf s given side)
   unfolding first
   sizes-fit e h et ek =
       let rest = byNumbers side (at given side) parts in
-      let last : first (ofGivenBy s given side) ≡ first rest = checks-given e ∙ sym (first-then (bySizes limit (length given) side) rest h) in
+      let last : first (ofGiven s given side) ≡ first rest = checks-given e ∙ sym (first-then (bySizes limit (length given) side) rest h) in
       ek ∙ ap (λ (l : List Float). examined (first (byNumbers side (at given side) (decomposeGiven limit side (at l side)))) (decomposeGiven limit side (at l side))) et
-      ∙ ap (λ (k : Check). examined k parts) (sym last) ∙ ap (λ (d : Decomposition). examined (first (ofGivenBy s given side)) d) (sym (by-given e))
+      ∙ ap (λ (k : Check). examined k parts) (sym last) ∙ ap (λ (d : Decomposition). examined (first (ofGiven s given side)) d) (sym (by-given e))

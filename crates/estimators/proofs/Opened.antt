@@ -1,24 +1,39 @@
--- Laws of the calls' opening, 1 to 6: what a call answers, by the answers that the code has of its checks. A call looks only at as much of the answer
+-- Laws of the calls' opening, 1 to 6: the checks of the returns by the stored covariance, and what a call answers, by the answers that the code has of its checks. A call looks only at as much of the answer
 -- slice as its answer fills, and leaves it as long as it was. Assumes nothing.
 use mathlib.Core.Path.{_≡_, refl, sym, ap, _∙_}
+use mathlib.Core.Bool.{Bool, not}
 use mathlib.Core.List.{List, [], _∷_, _++_}
+use mathlib.Core.Option.{none}
 use Prim.Native.Nat.{ℕ, _≤_}
 use native.Mathlib.Omega.{arith}
 use lib.ListN.{length, take, drop, take-append-drop}
 use lib.Seq.{length-take-le}
 use lib.Ieee.{Float}
 use Rattle.leaves.specs.Loops.{tab, fill}
-use Rattle.leaves.proofs.Loops.{length-fill, fill-whole}
-use Rattle.matrix.specs.Matrix.{at}
-use Rattle.estimators.specs.Refusals.{Check, passes, refuses, first}
-use Rattle.estimators.specs.Order.{opening, byShape, byReturns}
+use Rattle.leaves.proofs.Fill.{length-fill, fill-whole}
+use Rattle.matrix.specs.Matrix.{Matrix, at, rows, firstNotFinite, allFinite}
+use Rattle.matrix.proofs.Alike.{finite-alike}
+use Rattle.matrix.proofs.OfStored.{at-stored}
+use Rattle.estimators.specs.Refusals.{Check, passes, refuses, when, whenSome, first}
+use Rattle.estimators.specs.Sample.{covariance}
+use Rattle.estimators.specs.Order.{notFinite, opening, byShape, byReturns}
 use Rattle.estimators.specs.Shapes.{Shaped}
 use Rattle.estimators.specs.Calls.{Answered, answered, settle}
 use Rattle.estimators.specs.declared.Refusal.{Refusal}
+use Rattle.estimators.specs.declared.Refusal.the-variants.{NotFinite, CovarianceNotFinite}
 use Rattle.estimators.specs.declared.Answer.{Answer}
 use Rattle.estimators.specs.declared.Answer.the-variants.{Refused}
 use Rattle.estimators.proofs.Shapes.{opened}
-use Rattle.estimators.proofs.Firsts.{first-then, first-with}
+use Rattle.estimators.proofs.Firsts.{first-alone, first-then, first-with}
+
+-- ---- the checks of the returns
+
+pub returns-pass : (T n : ℕ) (x : Matrix) (l : List Float) (ok : Bool) (k : Check) → firstNotFinite T n x ≡ none → l ≡ rows n n (covariance T x) → ok ≡ allFinite n n (at l n)
+    → k ≡ when (not ok) CovarianceNotFinite → k ≡ first (byReturns T n x)
+unfolding notFinite first
+returns-pass T n x l ok k none-bad e e′ e″ =
+    e″ ∙ ap (λ (b : Bool). when (not b) CovarianceNotFinite) (e′ ∙ finite-alike n n (at l n) (covariance T x) (at-stored n (covariance T x) e)) ∙ first-alone _
+    ∙ (λ k. first (whenSome (sym none-bad k) (λ p. NotFinite (p .0) (p .1)) ∷ when (not (allFinite n n (covariance T x))) CovarianceNotFinite ∷ []))
 
 -- ---- by the first check that refuses
 

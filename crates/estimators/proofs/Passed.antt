@@ -22,6 +22,3 @@ pass-cons (refuses c) ys e = absurd (passes-not (sym e))
 -- a test that passes, with the checks after it
 pub first-passes : (b : Bool) (c : Refusal) (ys : List Check) → first (when b c ∷ ys) ≡ passes → (b ≡ false) × (first ys ≡ passes)
 first-passes b c ys e = let p = pass-cons (when b c) ys e in (pass-test b c (p .0), p .1)
-
-pub first-rest : (x : Check) (ys : List Check) → first (x ∷ ys) ≡ passes → first ys ≡ passes
-first-rest x ys e = pass-cons x ys e .1

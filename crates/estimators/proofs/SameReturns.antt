@@ -1,4 +1,4 @@
--- The same returns, in T periods of n assets, have the same second moments, means, largest returns, covariance and moments. Assumes nothing.
+-- The same returns, in T periods of n assets, have the same Gram matrix, means, largest returns, covariance and moments. Assumes nothing.
 use mathlib.Core.Path.{_≡_, ap}
 use Prim.Native.Nat.{ℕ, _-_, _<_}
 use lib.Ieee.{Float}
@@ -6,7 +6,8 @@ use Rattle.leaves.specs.Numbers.{_⊖_, _⊘_, count}
 use Rattle.leaves.specs.Loops.{tab}
 use Rattle.leaves.proofs.Loops.{tab-ext, sum-ext, amax-ext}
 use Rattle.matrix.specs.Matrix.{Matrix, rows, transpose}
-use Rattle.matrix.proofs.Stored.{rows-ext, product-ext}
+use Rattle.matrix.proofs.Stored.{rows-ext}
+use Rattle.matrix.proofs.Alike.{product-ext}
 use Rattle.estimators.specs.Sample.{mean, deviation, gram, covariance, largest}
 use Rattle.estimators.specs.Moments.{momentsOf, moments}
 

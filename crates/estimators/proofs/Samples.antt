@@ -1,46 +1,22 @@
--- Laws of the sample moments: they are the code's sums over its counts, of the returns in their units. And the checks of the returns and the correlations, by the stored
--- covariance and volatilities. Assumes nothing.
-use mathlib.Core.Path.{_≡_, sym, ap, _∙_}
-use mathlib.Core.Bool.{Bool, not}
-use mathlib.Core.List.{List, [], _∷_, _++_}
-use mathlib.Core.Option.{none}
-use Prim.Native.Nat.{ℕ, _+_, _-_, _*_, _<_}
-use native.Mathlib.Omega.{arith}
-use borrow.Author.Tests.{le-leb, lt-leb}
-use lib.IntN.{ℤ}
+-- Laws of the sample moments: they are the code's sums over its counts, of the returns in their units; and of correlations, by stored volatilities. Assumes nothing.
+use mathlib.Core.Path.{_≡_, ap, _∙_}
+use mathlib.Core.List.{List, [], _++_}
+use Prim.Native.Nat.{ℕ, _-_, _*_, _<_}
 use lib.ListN.{length, take}
 use lib.Seq.{take-at}
 use lib.Ieee.{Float}
 use Rattle.leaves.specs.Numbers.{_⊖_, _⊘_, count}
 use Rattle.leaves.specs.Loops.{sumTo, amaxTo, tab, nth}
 use Rattle.leaves.proofs.Lists.{nth-stored, tab-long, tab-then}
-use Rattle.matrix.specs.Matrix.{Matrix, at, rows, firstNotFinite, allFinite}
+use Rattle.matrix.specs.Matrix.{Matrix, rows}
 use Rattle.matrix.proofs.Stored.{rows-ext}
-use Rattle.matrix.proofs.Alike.{finite-alike}
-use Rattle.matrix.proofs.OfStored.{at-stored, rows-long}
-use Rattle.estimators.specs.Exponents.{exponentAt}
-use Rattle.estimators.specs.Sample.{mean, deviation, gram, covariance, largest, volatility, correlationBy, correlation, scaled}
+use Rattle.matrix.proofs.OfStored.{rows-long, entrywise}
+use Rattle.estimators.specs.Sample.{mean, deviation, gram, covariance, largest, volatility, correlationBy, correlation}
 use Rattle.estimators.specs.Moments.{moments, momentsOf}
-use Rattle.estimators.specs.Rows.{inUnit, formed, rowsOf, inUnits}
-use Rattle.estimators.specs.Powers.{Units}
-use Rattle.estimators.specs.declared.rows.Row.{Row}
+use Rattle.estimators.specs.Rows.{formed, rowsOf, inUnits}
 use Rattle.estimators.specs.declared.rows.Row.the-variants.{Plain, Deviation}
-use Rattle.estimators.specs.Refusals.{Check, when, whenSome, first}
-use Rattle.estimators.specs.Order.{notFinite, byReturns}
-use Rattle.estimators.specs.declared.Refusal.the-variants.{NotFinite, CovarianceNotFinite}
 use Rattle.estimators.proofs.SameReturns.{gram-ext, largest-same}
-use Rattle.estimators.proofs.Firsts.{first-alone}
-use Rattle.estimators.proofs.Halves.{rows-over}
-
--- ---- rows without units
-
-pub unit-none : (n : ℕ) (x : Matrix) (t i : ℕ) → i < n → inUnits n [] x t i ≡ x t i
-unfolding inUnit
-unit-none n x t i h = rw (lt-leb (n + n) 0 (omega arith))
-
-pub row-bare : (row : Row) (n : ℕ) (centers weights : List Float) (x : Matrix) (t i : ℕ) → i < n → rowsOf row n [] centers weights x t i ≡ formed row (x t i) (nth centers i) (nth weights t)
-unfolding rowsOf
-row-bare row n centers weights x t i h = ap (λ (v : Float). formed row v (nth centers i) (nth weights t)) (unit-none n x t i h)
+use Rattle.estimators.proofs.Formed.{unit-none}
 
 -- ---- sums over a count
 
@@ -55,18 +31,13 @@ deviation-row : (n T : ℕ) (units means weights : List Float) (x : Matrix) → 
 unfolding rowsOf formed deviation
 deviation-row n T units means weights x e t i h = ap (λ (c : Float). inUnits n units x t i ⊖ c) (nth-stored n (mean T (inUnits n units x)) e i h)
 
-pub covariance-of : (m n T : ℕ) (units means weights : List Float) (x : Matrix) (l : List Float) (c : Float) → m ≡ n * n → c ≡ count (T - 1)
-    → l ≡ rows n n (gram T (rowsOf Deviation n units means weights x)) → means ≡ tab n (mean T (inUnits n units x)) → tab m (λ k. nth l k ⊘ c) ≡ rows n n (covariance T (inUnits n units x))
+pub covariance-of : (n T : ℕ) (units means weights : List Float) (x : Matrix) {l out : List Float} {c : Float} → c ≡ count (T - 1) → l ≡ rows n n (gram T (rowsOf Deviation n units means weights x))
+    → means ≡ tab n (mean T (inUnits n units x)) → out ≡ tab (length l) (λ k. nth l k ⊘ c) → out ≡ rows n n (covariance T (inUnits n units x))
 unfolding covariance
-covariance-of m n T units means weights x l c em ec e e′ =
-    rows-over (gram T (rowsOf Deviation n units means weights x)) n m c l em e
+covariance-of n T units means weights x {c = c} ec e e′ eo =
+    entrywise n (gram T (rowsOf Deviation n units means weights x)) (λ a y. y ⊘ c) [] e eo
     ∙ rows-ext n n _ (covariance T (inUnits n units x))
     (λ i j hi hj k. gram-ext T n _ _ (λ t i ht hi. deviation-row n T units means weights x e′ t i hi) i j hi hj k ⊘ ec k)
-
--- returns over powers of two that are stored
-pub unit-scaled : (n : ℕ) (es : List ℤ) (units : List Float) (x : Matrix) → length units ≡ n + n → Units n es units → (t i : ℕ) → i < n → inUnits n units x t i ≡ scaled (exponentAt es) x t i
-unfolding inUnit scaled
-unit-scaled n es units x e u t i h = rw (le-leb (n + n) (length units) (omega arith)) (u i h (x t i))
 
 -- the largest, of rows that are the returns
 pub largest-of : (n T : ℕ) (centers : List Float) (x : Matrix) → tab n (λ i. amaxTo T (λ t. rowsOf Plain n [] centers [] x t i)) ≡ tab n (largest T x)
@@ -82,15 +53,6 @@ moments-held n T y μ rest Σ others k e e′ e″ =
     let m = take-at μ rest n (tab-long n (mean T y) μ e) ∙ e in
     let s = take-at Σ others (n * n) (rows-long n (covariance T y) Σ e′) ∙ e′ in
     λ i. momentsOf (m i) (s i) (e″ i)
-
--- ---- the checks of the returns
-
-pub returns-pass : (T n : ℕ) (x : Matrix) (l : List Float) (ok : Bool) (k : Check) → firstNotFinite T n x ≡ none → l ≡ rows n n (covariance T x) → ok ≡ allFinite n n (at l n)
-    → k ≡ when (not ok) CovarianceNotFinite → k ≡ first (byReturns T n x)
-unfolding notFinite first
-returns-pass T n x l ok k none-bad e e′ e″ =
-    e″ ∙ ap (λ (b : Bool). when (not b) CovarianceNotFinite) (e′ ∙ finite-alike n n (at l n) (covariance T x) (at-stored n (covariance T x) e)) ∙ first-alone _
-    ∙ (λ k. first (whenSome (sym none-bad k) (λ p. NotFinite (p .0) (p .1)) ∷ when (not (allFinite n n (covariance T x))) CovarianceNotFinite ∷ []))
 
 -- ---- correlations by volatilities that are stored
 

@@ -17,7 +17,7 @@ use Rattle.matrix.specs.Matrix.{Matrix, at, rows}
 use Rattle.matrix.proofs.Stored.{rows-ext}
 use Rattle.matrix.proofs.ByRows.{part-nth, replaced, row-replaced}
 use Rattle.matrix.proofs.OfStored.{rows-then}
-use Rattle.estimators.specs.Rows.{factor, joined, summand, start, plus, summed, Sized}
+use Rattle.estimators.specs.Rows.{factor, joined, summand, firstColumn, plus, summed, Sized}
 use Rattle.estimators.specs.declared.tables.Term.{Term}
 use Rattle.estimators.specs.declared.tables.Term.the-variants.{Product, Variation, Covariation}
 
@@ -30,27 +30,27 @@ sized-less Covariation s k m z h = omega arith
 
 -- ---- one row
 
-pub start-low : (term : Term) (i : ℕ) → start term i ≤ i
-unfolding start
-start-low Product i = omega arith
-start-low Variation i = omega arith
-start-low Covariation i = omega arith
+pub first-column-low : (term : Term) (i : ℕ) → firstColumn term i ≤ i
+unfolding firstColumn
+first-column-low Product i = omega arith
+first-column-low Variation i = omega arith
+first-column-low Covariation i = omega arith
 
 -- row i and its first column lie within the table
-pub row-room : (term : Term) (i n from : ℕ) → i < n → from ≡ start term i → (i * n + n ≤ n * n) × (from ≤ i)
-row-room term i n from h e = (row i n n h, subst (λ (k : ℕ). k ≤ i) (sym e) (start-low term i))
+pub row-room : (term : Term) (i n from : ℕ) → i < n → from ≡ firstColumn term i → (i * n + n ≤ n * n) × (from ≤ i)
+row-room term i n from h e = (row i n n h, subst (λ (k : ℕ). k ≤ i) (sym e) (first-column-low term i))
 
 module _ (term : Term) (s : Matrix) (y : ℕ → Float) (i : ℕ) (v : Float) where
-  plus-kept : (j : ℕ) → start term i ≤ j → plus term s y i j v ≡ v ⊕ summand term s y i j
+  plus-kept : (j : ℕ) → firstColumn term i ≤ j → plus term s y i j v ≡ v ⊕ summand term s y i j
   unfolding plus
-  plus-kept j h = rw (le-leb (start term i) j h)
+  plus-kept j h = rw (le-leb (firstColumn term i) j h)
 
-  plus-left : (j : ℕ) → j < start term i → plus term s y i j v ≡ v
+  plus-left : (j : ℕ) → j < firstColumn term i → plus term s y i j v ≡ v
   unfolding plus
-  plus-left j h = rw (lt-leb (start term i) j h)
+  plus-left j h = rw (lt-leb (firstColumn term i) j h)
 
 -- row i of l, from its first column on, is the part of m numbers that begins at a
-module _ (term : Term) (n i a m from : ℕ) (l : List Float) (len : length l ≡ n * n) (hi : i < n) (ef : from ≡ start term i) (ea : a ≡ i * n + from) (em : m ≡ i * n + n - a) where
+module _ (term : Term) (n i a m from : ℕ) (l : List Float) (len : length l ≡ n * n) (hi : i < n) (ef : from ≡ firstColumn term i) (ea : a ≡ i * n + from) (em : m ≡ i * n + n - a) where
   low : from ≤ i
   low = row-room term i n from hi ef .1
 
@@ -119,18 +119,15 @@ module _ (term : Term) (n i a m from : ℕ) (l : List Float) (len : length l ≡
 -- ---- a row that is stored
 
 module _ (term : Term) (s : Matrix) (n : ℕ) (d : List Float) (y : ℕ → Float) (e : d ≡ tab n y) where
-  number : (i : ℕ) → i < n → nth d i ≡ y i
-  number = nth-stored n y e
-
   factor-stored : (t : Term) (i : ℕ) → i < n → factor t s (nth d) i ≡ factor t s y i
   unfolding factor
-  factor-stored Product i h = number i h
-  factor-stored Variation i h = number i h
-  factor-stored Covariation i h = ap (λ (x : Float). (x ⊗ x ⊖ s i i) ⊗ x) (number i h)
+  factor-stored Product i h = nth-stored n y e i h
+  factor-stored Variation i h = nth-stored n y e i h
+  factor-stored Covariation i h = ap (λ (x : Float). (x ⊗ x ⊖ s i i) ⊗ x) (nth-stored n y e i h)
 
   plus-stored : (i j : ℕ) (v : Float) → i < n → j < n → plus term s (nth d) i j v ≡ plus term s y i j v
   unfolding plus
-  plus-stored i j v hi hj t = cond (leb (start term i) j) (v ⊕ joined term (factor-stored term i hi t) (number j hj t) (s i j)) v
+  plus-stored i j v hi hj t = cond (leb (firstColumn term i) j) (v ⊕ joined term (factor-stored term i hi t) (nth-stored n y e j hj t) (s i j)) v
 
   pub period-added : (l : List Float) → rows n n (λ p q. plus term s (nth d) p q (at l n p q)) ≡ rows n n (λ p q. plus term s y p q (at l n p q))
   period-added l = rows-ext n n _ _ (λ p q hp hq. plus-stored p q (at l n p q) hp hq)
@@ -160,6 +157,6 @@ module _ (n : ℕ) (F : ℕ → ℕ → ℕ → Float → Float) where
       summed-more (t + 1) middle next (summed-more t out middle e refl) (e′ ∙ sym (rows-then middle n (λ p q. F t p q (at out n p q)) (F (t + 1)) refl)) ∙ ap (summed n F) k
 
 -- a column that is summed up has its whole sum
-pub whole-sum : (term : Term) (s : Matrix) (z : Matrix) (T i j : ℕ) → start term i ≤ j → loop T (λ t. plus term s (z t) i j) zero⁺ ≡ sumTo T (λ t. summand term s (z t) i j)
+pub whole-sum : (term : Term) (s : Matrix) (z : Matrix) (T i j : ℕ) → firstColumn term i ≤ j → loop T (λ t. plus term s (z t) i j) zero⁺ ≡ sumTo T (λ t. summand term s (z t) i j)
 unfolding sumTo
 whole-sum term s z T i j h = loop-ext T _ (λ t v. v ⊕ summand term s (z t) i j) zero⁺ (λ t l v. plus-kept term s (z t) i v j h)

@@ -9,7 +9,7 @@ use Rattle.matrix.specs.Jacobi.{Decomposition, unturned}
 use Rattle.estimators.specs.Sample.{covariance}
 use Rattle.estimators.specs.Weighted.{logDecay, weightedCovariance}
 use Rattle.estimators.specs.Semi.{semicovariance, semicovarianceBelow}
-use Rattle.estimators.specs.Given.{decomposeGiven}
+use Rattle.estimators.specs.Given.{average, decomposeGiven}
 use Rattle.estimators.specs.LedoitWolf.{averageVariance, constantCorrelation, ledoitWolf}
 use Rattle.estimators.specs.declared.Estimate.{Estimate}
 use Rattle.estimators.specs.declared.Estimate.the-variants.{Sample, Given, Weighted, Semi, SemiBelow}
@@ -35,9 +35,9 @@ isGiven (Weighted halfLife) = false
 isGiven Semi = false
 isGiven (SemiBelow threshold) = false
 
--- the decomposition of the given matrix g, which is averaged with its transpose already; nothing is done for the other estimates
-unfoldable pub decompositionOf : Settings → ℕ → Matrix → Decomposition
-decompositionOf s side g = elim (isGiven (s .estimate)) [ true ↦ decomposeGiven (s .limit) side g | false ↦ unturned 0 true ]
+-- the decomposition of the given matrix, averaged with its transpose; nothing is done for the other estimates
+unfoldable pub decompositionOf : Settings → List Float → ℕ → Decomposition
+decompositionOf s given side = elim (isGiven (s .estimate)) [ true ↦ decomposeGiven (s .limit) side (average given side) | false ↦ unturned 0 true ]
 
 -- what the adjustments apply to
 unfoldable pub base : Estimate → ℕ → Matrix → Matrix → Matrix

@@ -1,4 +1,4 @@
--- Document 01, the five calls: what each returns, with its answer slice, for all inputs. Definitions only.
+-- Document 01, its opening paragraph and "How tight", a: what each of the five calls returns, with its answer slice, for all inputs. Definitions only.
 use Prim.Native.Nat.{ℕ, _*_}
 use mathlib.Core.List.{List, []}
 use lib.Ieee.{Float}
@@ -8,7 +8,7 @@ use Rattle.matrix.specs.Matrix.{at, amax}
 use Rattle.estimators.specs.Refusals.{Check, passes, refuses, first}
 use Rattle.estimators.specs.Sample.{scaled}
 use Rattle.estimators.specs.Weighted.{logDecay, weights, weightedMean}
-use Rattle.estimators.specs.Given.{averagedOf}
+use Rattle.estimators.specs.Given.{average}
 use Rattle.estimators.specs.LedoitWolf.{ledoitWolf}
 use Rattle.estimators.specs.Adjusted.{decompositionOf, intensity, baseOf, adjustedOf}
 use Rattle.estimators.specs.Moments.{moments}
@@ -36,13 +36,12 @@ settle passes slice accepted = accepted
 
 unfoldable pub adjustedCovariance : List Float → ℕ → ℕ → Settings → List Float → ℕ → List Float → Answered
 adjustedCovariance r n T s given side slice =
-    let g = averagedOf given side in
-    let d = decompositionOf s side (at g side) in
+    let d = decompositionOf s given side in
     let δ = intensity (s .shrinkage) T n (at r n) in
-    let b = baseOf s T n (at r n) (at g side) in
+    let b = baseOf s T n (at r n) (average given side) in
     let a = adjustedOf s δ n b in
     let accepted = answered (Covariance δ (d .sweeps) (d .rotations)) (fill (n * n) (nth a) slice) in
-    settle (first (adjustedOrder r n T s given side slice d δ (at b n) (at a n))) slice accepted
+    settle (first (adjustedOrder r n T s given side slice δ (at b n) (at a n))) slice accepted
 
 -- it takes no answer slice
 unfoldable pub ledoitWolfIntensity : List Float → ℕ → ℕ → Target → Answer

@@ -1,27 +1,14 @@
--- What only the contracts of this crate's inner functions cite: the adjusted covariance as the code takes it in parts, its given matrix, and the
--- answer from the checks of the settings on. Definitions only.
+-- What only the contracts of this crate's inner functions cite: the adjusted covariance's last parts, on an answer slice of n × n numbers. Definitions only.
 use Prim.Native.Nat.{ℕ}
 use mathlib.Core.List.{List}
 use lib.Ieee.{Float}
 use Rattle.matrix.specs.Matrix.{Matrix, at}
-use Rattle.matrix.specs.Jacobi.{Decomposition}
-use Rattle.estimators.specs.Refusals.{Check, first}
-use Rattle.estimators.specs.Given.{averagedOf}
-use Rattle.estimators.specs.Adjusted.{decompositionOf, intensity, baseOf, adjustedOf}
-use Rattle.estimators.specs.Order.{ofGiven, byEstimate, ofSettings}
+use Rattle.estimators.specs.Refusals.{first}
+use Rattle.estimators.specs.Adjusted.{intensity, baseOf, adjustedOf}
+use Rattle.estimators.specs.Order.{byEstimate, ofSettings}
 use Rattle.estimators.specs.Calls.{Answered, answered, settle}
 use Rattle.estimators.specs.declared.Settings.{Settings}
 use Rattle.estimators.specs.declared.Answer.the-variants.{Covariance}
-
--- ---- of the given matrix: the decomposition of its average with its transpose, and the checks by both
-
-abbrev pub decompositionBy : Settings → List Float → ℕ → Decomposition
-decompositionBy s given side = decompositionOf s side (at (averagedOf given side) side)
-
-abbrev pub ofGivenBy : Settings → List Float → ℕ → List Check
-ofGivenBy s given side = ofGiven s given side (decompositionBy s given side)
-
--- ---- the call's last parts, on an answer slice of n × n numbers
 
 -- from the estimate b on
 abbrev pub finished : Settings → Float → ℕ → ℕ → Matrix → ℕ → ℕ → List Float → List Float → Answered

@@ -1,12 +1,9 @@
--- Exponents in a list, and, for the contracts of this crate's inner functions, their sizes, so that sums of a few are i32. Definitions only.
+-- What only the contracts of this crate's inner functions cite: the sizes of exponents, so that sums of a few are i32. Definitions only.
 use Prim.Native.Nat.{ℕ, _+_, _≤_, _<_}
 use mathlib.Core.List.{List}
-use lib.IntN.{ℤ, pos, natAbs}
-use lib.ListN.{length, getD}
-
--- the i-th; 0 past the end
-abbrev pub exponentAt : List ℤ → ℕ → ℤ
-exponentAt es i = getD es i (pos 0)
+use lib.IntN.{ℤ, natAbs}
+use lib.ListN.{length}
+use Rattle.estimators.specs.BayesStein.{exponentAt}
 
 -- b(x) of an f64 is at most this in size
 abbrev pub maxExponent : ℕ

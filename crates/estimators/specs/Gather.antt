@@ -15,8 +15,8 @@ largestOf Nothing = none
 largestOf (Exponent k) = some k
 
 -- it is at most a sum of two exponents in size
-abbrev pub Summed : Option ℤ → Type 0
-Summed found = natAbs (orZero found) ≤ twoExponents
+abbrev pub WithinTwoExponents : Option ℤ → Type 0
+WithinTwoExponents found = natAbs (orZero found) ≤ twoExponents
 
 -- the numbers m i * 2 ^ k i, gathered, are the list l and the power e
 pub record Gathered (n : ℕ) (m : ℕ → Float) (k : ℕ → ℤ) (e : ℤ) (l : List Float) : Type 0 where

@@ -63,15 +63,15 @@ error ConstantVariance T n z s = total n (variation T z s)
 error ConstantCorrelation T n z s = total n (variation T z s) ⊖ targetCovariation T n z s
 
 -- γ, the squared distance to the target
-unfoldable pub distance : Target → ℕ → Matrix → Float
-distance F n s = squares n (λ i j. s i j ⊖ target F n s i j)
+unfoldable pub squaredDistance : Target → ℕ → Matrix → Float
+squaredDistance F n s = squares n (λ i j. s i j ⊖ target F n s i j)
 
--- δ, by the error and γ: 0 where there is no distance to go
+-- δ, by the error and γ: 0 unless γ is above 0
 unfoldable pub intensityBy : Float → ℕ → Float → Float
 intensityBy error T γ = elim (lt zero⁺ γ) [ true ↦ clamp01 (error ⊘ count T ⊘ γ) | false ↦ zero⁺ ]
 
 unfoldable pub intensityOf : Target → ℕ → ℕ → Matrix → Matrix → Float
-intensityOf F T n z s = intensityBy (error F T n z s) T (distance F n s)
+intensityOf F T n z s = intensityBy (error F T n z s) T (squaredDistance F n s)
 
 -- s, stored by rows; and δ from z alone
 abbrev pub secondMoments : ℕ → ℕ → Matrix → List Float

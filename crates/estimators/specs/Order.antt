@@ -15,7 +15,7 @@ use Rattle.estimators.specs.Sample.{covariance, largest, constantAsset}
 use Rattle.estimators.specs.Weighted.{logDecay, accepted}
 use Rattle.estimators.specs.Given.{asymmetry, indefinite}
 use Rattle.estimators.specs.BayesStein.{singular}
-use Rattle.estimators.specs.Adjusted.{isSample, isGiven, isAdjusted}
+use Rattle.estimators.specs.Adjusted.{isSample, isGiven, decompositionOf, isAdjusted}
 use Rattle.estimators.specs.declared.Estimate.{Estimate}
 use Rattle.estimators.specs.declared.Estimate.the-variants.{Sample, Given, Weighted, Semi, SemiBelow}
 use Rattle.estimators.specs.declared.Target.{Target}
@@ -28,7 +28,7 @@ use Rattle.estimators.specs.declared.Settings.{Settings}
 use Rattle.estimators.specs.declared.Field.the-variants.{RegularizationField, ShrinkageField, HalfLifeField, ThresholdField, SweepLimitField}
 use Rattle.estimators.specs.declared.Refusal.the-variants.{NoAssets, TooLarge, TooFewPeriods, WrongLength, NotFinite, CovarianceNotFinite, BadSetting, NotTheSample, ZeroVariance, WrongSide, Asymmetric, Indefinite, NotDecomposed, Singular}
 
--- the assets' limit is the matrices' side's
+-- the fewest and the most periods; the most assets are the matrices' `maxSide`
 abbrev pub minPeriods : ℕ
 minPeriods = 2
 
@@ -57,12 +57,12 @@ unfoldable pub opening : List Float → ℕ → ℕ → ℕ → List Float → L
 opening r n T needed answer = byShape (length r) n T needed (length answer) ++ byReturns T n (at r n)
 
 -- sweep limit: for given, James-Stein and Bayes-Stein
-unfoldable pub sweepLimit : ℕ → Check
-sweepLimit limit = when (ltb maxSweeps limit) (BadSetting SweepLimitField)
+unfoldable pub badSweepLimit : ℕ → Check
+badSweepLimit limit = when (ltb maxSweeps limit) (BadSetting SweepLimitField)
 
 -- the sweep limit; given's 1, 2, 10 (slice)
 abbrev pub bySizes : ℕ → ℕ → ℕ → List Check
-bySizes limit size n = sweepLimit limit ∷ when (eqb n 0) NoAssets ∷ when (ltb maxSide n) TooLarge ∷ when (not (eqb size (n * n))) (WrongSide n) ∷ []
+bySizes limit size n = badSweepLimit limit ∷ when (eqb n 0) NoAssets ∷ when (ltb maxSide n) TooLarge ∷ when (not (eqb size (n * n))) (WrongSide n) ∷ []
 
 -- given's 5, 11
 abbrev pub byEntries : ℕ → Matrix → List Check
@@ -76,8 +76,8 @@ abbrev pub byNumbers : ℕ → Matrix → Decomposition → List Check
 byNumbers n g d = byEntries n g ++ byValues n (averaged g) d
 
 -- the sweep limit; given's 1, 2, 10 (slice), 5, 11, 13, 12
-unfoldable pub ofGiven : Settings → List Float → ℕ → Decomposition → List Check
-ofGiven s g side d = elim (isGiven (s .estimate)) [ true ↦ bySizes (s .limit) (length g) side ++ byNumbers side (at g side) d | false ↦ [] ]
+unfoldable pub ofGiven : Settings → List Float → ℕ → List Check
+ofGiven s g side = elim (isGiven (s .estimate)) [ true ↦ bySizes (s .limit) (length g) side ++ byNumbers side (at g side) (decompositionOf s g side) | false ↦ [] ]
 
 -- field 1: finite and at least 0, as -0 is
 unfoldable pub badRegularization : Regularization → Check
@@ -172,8 +172,8 @@ ofCorrelations n largest Σ C d = byCorrelations n largest Σ C ++ byDecompositi
 
 -- ---- the five calls
 
-unfoldable pub adjustedOrder : List Float → ℕ → ℕ → Settings → List Float → ℕ → List Float → Decomposition → Float → Matrix → Matrix → List Check
-adjustedOrder r n T s given side slice d δ b a = opening r n T (n * n) slice ++ ofGiven s given side d ++ ofSettings s δ T n side (at r n) b a
+unfoldable pub adjustedOrder : List Float → ℕ → ℕ → Settings → List Float → ℕ → List Float → Float → Matrix → Matrix → List Check
+adjustedOrder r n T s given side slice δ b a = opening r n T (n * n) slice ++ ofGiven s given side ++ ofSettings s δ T n side (at r n) b a
 
 unfoldable pub ledoitWolfOrder : List Float → ℕ → ℕ → Target → List Check
 ledoitWolfOrder r n T F = opening r n T 0 [] ++ noCorrelation (LedoitWolf F) T n (at r n) ∷ []
@@ -182,8 +182,8 @@ unfoldable pub weightedOrder : List Float → ℕ → ℕ → Float → List Flo
 weightedOrder r n T halfLife slice = opening r n T n slice ++ badHalfLife halfLife ∷ []
 
 unfoldable pub jamesSteinOrder : List Float → ℕ → ℕ → ℕ → List Float → Decomposition → List Check
-jamesSteinOrder r n T limit slice d = opening r n T n slice ++ sweepLimit limit ∷ notFound d ∷ []
+jamesSteinOrder r n T limit slice d = opening r n T n slice ++ badSweepLimit limit ∷ notFound d ∷ []
 
 -- in each asset's unit: the largest returns, the covariance Σ, and its correlations C with their decomposition
 unfoldable pub bayesSteinOrder : List Float → ℕ → ℕ → ℕ → List Float → (ℕ → Float) → Matrix → Matrix → Decomposition → List Check
-bayesSteinOrder r n T limit slice largest Σ C d = opening r n T n slice ++ sweepLimit limit ∷ ofCorrelations n largest Σ C d
+bayesSteinOrder r n T limit slice largest Σ C d = opening r n T n slice ++ badSweepLimit limit ∷ ofCorrelations n largest Σ C d

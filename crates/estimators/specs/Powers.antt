@@ -8,7 +8,7 @@ use lib.Ieee.{Float}
 use Rattle.leaves.specs.Numbers.{_⊗_}
 use Rattle.leaves.specs.Loops.{nth}
 use Rattle.leaves.specs.Scaling.{pow2Scaled}
-use Rattle.estimators.specs.Exponents.{exponentAt}
+use Rattle.estimators.specs.BayesStein.{exponentAt}
 
 -- times near, times far: every number is multiplied by 2 ^ k
 abbrev pub Factored : Float → Float → ℤ → Type 0

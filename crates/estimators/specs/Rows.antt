@@ -61,14 +61,14 @@ abbrev pub aligned : ℕ → ℕ
 aligned i = i - i % 4
 
 -- the first column of row i that is summed up: of a symmetric table the diagonal's, or up to three before it, so that rows are whole vectors
-unfoldable pub start : Term → ℕ → ℕ
-start Product i = aligned i
-start Variation i = aligned i
-start Covariation i = 0
+unfoldable pub firstColumn : Term → ℕ → ℕ
+firstColumn Product i = aligned i
+firstColumn Variation i = aligned i
+firstColumn Covariation i = 0
 
 -- entry i j with the row y's summand added
 unfoldable pub plus : Term → Matrix → (ℕ → Float) → ℕ → ℕ → Float → Float
-plus term s y i j v = cond (leb (start term i) j) (v ⊕ summand term s y i j) v
+plus term s y i j v = cond (leb (firstColumn term i) j) (v ⊕ summand term s y i j) v
 
 -- the table after T periods, of which F t changes each entry in period t
 abbrev pub summed : ℕ → (ℕ → ℕ → ℕ → Float → Float) → ℕ → List Float

@@ -1,4 +1,5 @@
--- Document 01, "Estimators": the sample mean and covariance of `Returns::new`, and the rule for a constant asset (returns.rs). Definitions only.
+-- Document 01, "Estimators": the sample mean and covariance of `Returns::new` and the rule for a constant asset (returns.rs), volatilities and correlations (methods/mod.rs, `correlation`), and returns over powers of
+-- two. Definitions only.
 -- x t i is the return of asset i in period t; there are T periods.
 use Prim.Native.Nat.{ℕ, _-_}
 use mathlib.Core.Bool.{Bool}

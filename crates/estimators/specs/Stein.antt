@@ -8,28 +8,27 @@ use lib.Ieee.{Float}
 use Rattle.leaves.specs.Loops.{tab, nth}
 use Rattle.matrix.specs.Matrix.{Matrix, at}
 use Rattle.matrix.specs.Jacobi.{Decomposition}
-use Rattle.estimators.specs.Exponents.{exponentAt}
 use Rattle.estimators.specs.Refusals.{first}
 use Rattle.estimators.specs.Sample.{scaled, volatility}
 use Rattle.estimators.specs.Moments.{Moments, moments}
 use Rattle.estimators.specs.Shrinking.{shrunkBy}
 use Rattle.estimators.specs.JamesStein.{largestDeviation, decomposeUnequal, jamesSteinIntensity, jamesStein}
-use Rattle.estimators.specs.BayesStein.{Pull, bayesSteinPull, exponentsOf, largestIn, correlations, bayesStein}
+use Rattle.estimators.specs.BayesStein.{MeanShrinkage, bayesSteinShrinkage, exponentsOf, largestIn, correlations, bayesStein, exponentAt}
 use Rattle.estimators.specs.Order.{notFound, ofCorrelations}
 use Rattle.estimators.specs.Calls.{Answered, answered, settle}
 
-abbrev pub pullOf : Float → Float → Pull
-pullOf α μ₀ = record { intensity = α; target = μ₀ }
+abbrev pub meanShrinkage : Float → Float → MeanShrinkage
+meanShrinkage α μ₀ = record { intensity = α; target = μ₀ }
 
--- α and μ₀ are `bayesSteinPull`'s, for every covariance with these volatilities and every decomposition with these values and vectors
-abbrev pub BayesSteinPulls : ℕ → List Float → List Float → List ℤ → Float → List Float → List Float → Float → Float → Type 0
-BayesSteinPulls n μ v e T values vectors α μ₀ =
+-- α and μ₀ are `bayesSteinShrinkage`'s, for every covariance with these volatilities and every decomposition with these values and vectors
+abbrev pub BayesSteinShrinks : ℕ → List Float → List Float → List ℤ → Float → List Float → List Float → Float → Float → Type 0
+BayesSteinShrinks n μ v e T values vectors α μ₀ =
     (Σ : Matrix) (d : Decomposition) → v ≡ tab n (volatility Σ) → d .values ≡ values → d .vectors ≡ vectors
-    → pullOf α μ₀ ≡ bayesSteinPull n T (nth μ) Σ (exponentAt e) d
+    → meanShrinkage α μ₀ ≡ bayesSteinShrinkage n T (nth μ) Σ (exponentAt e) d
 
 -- found, α and the counts are those of every d that is the means' decomposition, with the target μ₀
-abbrev pub JamesSteinPulls : ℕ → ℕ → Moments → Float → Bool → Float → ℕ → ℕ → Type 0
-JamesSteinPulls n limit m μ₀ found α sweeps rotations =
+abbrev pub JamesSteinShrinks : ℕ → ℕ → Moments → Float → Bool → Float → ℕ → ℕ → Type 0
+JamesSteinShrinks n limit m μ₀ found α sweeps rotations =
     (d : Decomposition) → d ≡ decomposeUnequal limit n (largestDeviation n (nth (m .mean)) μ₀) (at (m .covariance) n)
     → (found ≡ d .found) × (α ≡ jamesSteinIntensity n m μ₀ d) × (sweeps ≡ d .sweeps) × (rotations ≡ d .rotations)
 

@@ -38,27 +38,27 @@ fn mix_variance(intensity: f64, b: &[f64], n: usize, out: &mut [f64])
     );
 }
 
-// Towards constant correlation, with `sd` to reckon in.
-fn mix_correlation(intensity: f64, b: &[f64], n: usize, sd: &mut [f64], out: &mut [f64])
-    requires { ⌜ (0 < n) × (n ≤ maxSide) × (length (now b) ≡ n * n) × (length (now sd) ≡ n) × (length (now out) ≡ n * n) ⌝ }
+// Towards constant correlation, with `volatilities` to reckon in.
+fn mix_correlation(intensity: f64, b: &[f64], n: usize, volatilities: &mut [f64], out: &mut [f64])
+    requires { ⌜ (0 < n) × (n ≤ maxSide) × (length (now b) ≡ n * n) × (length (now volatilities) ≡ n) × (length (now out) ≡ n * n) ⌝ }
     ensures { λ _. ⌜ now (out .exit) ≡ rows n n (Adjusted.mixed Target.ConstantCorrelation intensity n (at (now (b .entry)) n)) ⌝ }
 {
-    sample::put_volatilities(b, n, sd);
-    let r = targets::average_correlation(b, sd, n);
-    targets::put_constant_correlation(b, r, sd, n, out);
+    sample::put_volatilities(b, n, volatilities);
+    let r = targets::average_correlation(b, volatilities, n);
+    targets::put_constant_correlation(b, r, volatilities, n, out);
     mix(intensity, intensity, b, n, out);
 }
 
-// Shrunk towards the target of the shrinkage, a fixed one towards constant variance. `sd` is to reckon in.
+// Shrunk towards the target of the shrinkage, a fixed one towards constant variance. `volatilities` is to reckon in.
 fn shrink(
     shrinkage: Shrinkage,
     intensity: f64,
     b: &[f64],
     n: usize,
-    sd: &mut [f64],
+    volatilities: &mut [f64],
     out: &mut [f64],
 )
-    requires { ⌜ (0 < n) × (n ≤ maxSide) × (length (now b) ≡ n * n) × (length (now sd) ≡ n) × (length (now out) ≡ n * n) ⌝ }
+    requires { ⌜ (0 < n) × (n ≤ maxSide) × (length (now b) ≡ n * n) × (length (now volatilities) ≡ n) × (length (now out) ≡ n * n) ⌝ }
     ensures { λ _. ⌜ now (out .exit) ≡ rows n n (Adjusted.shrunk shrinkage intensity n (at (now (b .entry)) n)) ⌝ }
 {
     match shrinkage {
@@ -73,7 +73,7 @@ fn shrink(
                 mix_variance(intensity, b, n, out);
             }
             Target::ConstantCorrelation => {
-                mix_correlation(intensity, b, n, sd, out);
+                mix_correlation(intensity, b, n, volatilities, out);
             }
         },
     }
@@ -96,14 +96,14 @@ fn regularize(regularization: Regularization, n: usize, unit: &mut [f64], out: &
 // Shrunk, then regularized.
 pub(crate) fn adjust(settings: Settings, intensity: f64, b: &[f64], n: usize, out: &mut [f64])
     requires { ⌜ (0 < n) × (n ≤ maxSide) × (length (now b) ≡ n * n) × (length (now out) ≡ n * n) ⌝ }
-    ensures { λ _. ⌜ now (out .exit) ≡ rows n n (Adjusted.adjusted settings intensity n (at (now (b .entry)) n)) ⌝ }
+    ensures { λ _. ⌜ now (out .exit) ≡ Adjusted.adjustedOf settings intensity n (now (b .entry)) ⌝ }
 {
-    let mut sd = [0.0; matrix::MAX_SIDE];
+    let mut volatilities = [0.0; matrix::MAX_SIDE];
     let mut unit = [0.0; matrix::MAX_SIDE * matrix::MAX_SIDE];
     let size = n * n;
     let shrinkage = settings.shrinkage;
     let regularization = settings.regularization;
-    shrink(shrinkage, intensity, b, n, &mut sd[..n], out);
+    shrink(shrinkage, intensity, b, n, &mut volatilities[..n], out);
     regularize(regularization, n, &mut unit[..size], out);
 }
 

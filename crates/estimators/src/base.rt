@@ -1,19 +1,13 @@
-// What the adjustments apply to (covariance.rs, `Estimate`), and the checks of the numbers that an estimate carries.
+// What the adjustments apply to (covariance.rs, `Estimate`).
 ghost use mathlib.Core.Path.{_≡_};
 ghost use Prim.Native.Nat.{_*_, _≤_};
 ghost use lib.ListN.{length};
 ghost use Rattle.matrix.specs.Limits.{maxSide};
 ghost use Rattle.matrix.specs.Matrix.{at, rows};
-ghost use Rattle.estimators.specs.Checks.{checked};
 ghost use Rattle.estimators.specs.Sample as Sample;
 ghost use Rattle.estimators.specs.Adjusted as Adjusted;
-ghost use Rattle.estimators.specs.Order as Order;
 ghost use Rattle.estimators.specs.Order.{maxPeriods};
 use crate::Estimate;
-use crate::Field;
-use crate::Refusal;
-use crate::checks::Check;
-use crate::checks::when;
 use crate::semi;
 use crate::weighted;
 
@@ -46,21 +40,5 @@ pub(crate) fn put_base(
         Estimate::SemiBelow(threshold) => {
             semi::semicovariance_below(threshold, r, n, periods, out);
         }
-    }
-}
-
-// Refusal 7 for fields 3 and 4: ln λ of the half-life in [-708, 0), the threshold finite.
-pub(crate) fn bad_estimate(estimate: Estimate) -> Check
-    ensures { λ r. ⌜ checked r ≡ Order.badEstimate estimate ⌝ }
-{
-    match estimate {
-        Estimate::Sample => Check::Passes,
-        Estimate::Given => Check::Passes,
-        Estimate::Weighted(h) => weighted::check_half_life(h),
-        Estimate::Semi => Check::Passes,
-        Estimate::SemiBelow(threshold) => when(
-            !leaves::numbers::is_finite(threshold),
-            Refusal::BadSetting(Field::ThresholdField),
-        ),
     }
 }

@@ -15,24 +15,24 @@ ghost use Rattle.estimators.specs.Refusals as Refusals;
 ghost use Rattle.estimators.specs.Sample as Sample;
 ghost use Rattle.estimators.specs.BayesStein as BayesStein;
 ghost use Rattle.estimators.specs.Checks.{checked};
-ghost use Rattle.estimators.specs.Exponents.{exponentAt, Exponents, twoExponents};
+ghost use Rattle.estimators.specs.Exponents.{Exponents, twoExponents};
 ghost use Rattle.estimators.specs.Held.{held};
 ghost use Rattle.estimators.specs.Moments.{momentsOf};
 ghost use Rattle.estimators.specs.Calls.{answered};
-ghost use Rattle.estimators.specs.Stein.{pullOf, BayesSteinPulls, bayesSteinOf};
+ghost use Rattle.estimators.specs.Stein.{meanShrinkage, BayesSteinShrinks, bayesSteinOf};
 ghost use Rattle.estimators.specs.Order.{byCorrelations, byDecomposition};
-ghost use Rattle.estimators.specs.BayesStein.{pulledBy};
+ghost use Rattle.estimators.specs.BayesStein.{shrinkageBy, exponentAt};
 use crate::Answer;
 use crate::Refusal;
 use crate::checks::Check;
 use crate::checks::first;
 use crate::checks::when;
-use crate::forms::distance;
 use crate::forms::ratio;
+use crate::forms::squared_distance;
 use crate::gather::gather_means;
 use crate::gather::gather_ones;
 use crate::moments::Moments;
-use crate::sample::constant_asset;
+use crate::sample::constant_returns;
 use crate::sample::put_volatilities;
 use leaves::scaling::pow2_scaled;
 use matrix::jacobi::Outcome;
@@ -61,27 +61,27 @@ fn is_singular(values: &[f64]) -> bool
         <= n * leaves::numbers::EPSILON * matrix::entries::largest(values)
 }
 
-struct Pulled {
+struct MeanShrinkage {
     intensity: f64,
     target: f64,
 }
 
 // From the ratio, μ₀ over 2^(b - a), and the squared distance over 4^b.
-fn pulled_by(n: usize, periods: f64, ratio: f64, squared: f64, a: i32, b: i32) -> Pulled
+fn shrinkage_by(n: usize, periods: f64, ratio: f64, squared: f64, a: i32, b: i32) -> MeanShrinkage
     requires { ⌜ (natAbs a ≤ twoExponents) × (natAbs b ≤ twoExponents) ⌝ }
-    ensures { λ r. ⌜ pullOf (r .intensity) (r .target) ≡ pulledBy n periods ratio squared a b ⌝ }
+    ensures { λ r. ⌜ meanShrinkage (r .intensity) (r .target) ≡ shrinkageBy n periods ratio squared a b ⌝ }
 {
-    let size = std::num::nearest_u64_to_f64(n as u64) + 2.0;
-    let distance = periods * pow2_scaled(leaves::numbers::max0(squared), b + b);
-    Pulled {
-        intensity: size / (size + distance),
+    let prior = std::num::nearest_u64_to_f64(n as u64) + 2.0;
+    let weighted = periods * pow2_scaled(leaves::numbers::max0(squared), b + b);
+    MeanShrinkage {
+        intensity: prior / (prior + weighted),
         target: pow2_scaled(ratio, b - a),
     }
 }
 
 // The intensity and the target, from the means and volatilities in the units 2^exponents and the decomposed correlations. `ones`, `scaled`, `p`
 // and `q` are to reckon in.
-fn pull_in(
+fn shrinkage_in(
     means: &[f64],
     volatilities: &[f64],
     exponents: &[i32],
@@ -93,18 +93,18 @@ fn pull_in(
     scaled: &mut [f64],
     p: &mut [f64],
     q: &mut [f64],
-) -> Pulled
+) -> MeanShrinkage
     requires { ⌜ (n ≤ maxSide) × (length (now means) ≡ n) × (length (now volatilities) ≡ n) × (length (now exponents) ≡ n) × Exponents (now exponents) × (length (now values) ≡ n) × (length (now vectors) ≡ n * n) × (length (now ones) ≡ n) × (length (now scaled) ≡ n) × (length (now p) ≡ n) × (length (now q) ≡ n) ⌝ }
-    ensures { λ r. ⌜ BayesSteinPulls n (now (means .entry)) (now (volatilities .entry)) (now (exponents .entry)) periods (now (values .entry)) (now (vectors .entry)) (r .intensity) (r .target) ⌝ }
+    ensures { λ r. ⌜ BayesSteinShrinks n (now (means .entry)) (now (volatilities .entry)) (now (exponents .entry)) periods (now (values .entry)) (now (vectors .entry)) (r .intensity) (r .target) ⌝ }
 {
     let a = gather_ones(volatilities, exponents, n, ones);
     let b = gather_means(means, volatilities, n, scaled);
     let ratio = ratio(values, vectors, n, ones, scaled, p, q);
-    let squared = distance(values, vectors, n, ones, scaled, ratio, p, q);
-    pulled_by(n, periods, ratio, squared, a, b)
+    let squared = squared_distance(values, vectors, n, ones, scaled, ratio, p, q);
+    shrinkage_by(n, periods, ratio, squared, a, b)
 }
 
-fn pull(
+fn shrinkage(
     means: &[f64],
     volatilities: &[f64],
     exponents: &[i32],
@@ -112,15 +112,15 @@ fn pull(
     periods: f64,
     values: &[f64],
     vectors: &[f64],
-) -> Pulled
+) -> MeanShrinkage
     requires { ⌜ (n ≤ maxSide) × (length (now means) ≡ n) × (length (now volatilities) ≡ n) × (length (now exponents) ≡ n) × Exponents (now exponents) × (length (now values) ≡ n) × (length (now vectors) ≡ n * n) ⌝ }
-    ensures { λ r. ⌜ BayesSteinPulls n (now (means .entry)) (now (volatilities .entry)) (now (exponents .entry)) periods (now (values .entry)) (now (vectors .entry)) (r .intensity) (r .target) ⌝ }
+    ensures { λ r. ⌜ BayesSteinShrinks n (now (means .entry)) (now (volatilities .entry)) (now (exponents .entry)) periods (now (values .entry)) (now (vectors .entry)) (r .intensity) (r .target) ⌝ }
 {
     let mut ones = [0.0; matrix::MAX_SIDE];
     let mut scaled = [0.0; matrix::MAX_SIDE];
     let mut p = [0.0; matrix::MAX_SIDE];
     let mut q = [0.0; matrix::MAX_SIDE];
-    pull_in(
+    shrinkage_in(
         means,
         volatilities,
         exponents,
@@ -148,7 +148,7 @@ fn correlate(
 {
     put_volatilities(covariance, n, volatilities);
     put_correlations(covariance, volatilities, n, out);
-    let constant = constant_asset(volatilities, n, sizes);
+    let constant = constant_returns(volatilities, n, sizes);
     let finite = matrix::places::all_finite(out, n, n);
     first(constant, when(!finite, Refusal::Singular))
 }
@@ -166,9 +166,9 @@ fn judge(d: Outcome, values: &[f64], n: usize) -> Check
 }
 
 // The means moved towards the target, each out of its unit.
-fn put_pulled(means: &[f64], exponents: &[i32], intensity: f64, target: f64, out: &mut [f64])
+fn put_shrunk(means: &[f64], exponents: &[i32], intensity: f64, target: f64, out: &mut [f64])
     requires { ⌜ (length (now means) ≡ length (now out)) × (length (now exponents) ≡ length (now out)) × Exponents (now exponents) ⌝ }
-    ensures { λ _. ⌜ now (out .exit) ≡ tab (length (now (out .entry))) (λ (i : ℕ). BayesStein.pulled (pullOf intensity target) (nth (now (means .entry)) i) (exponentAt (now (exponents .entry)) i)) ⌝ }
+    ensures { λ _. ⌜ now (out .exit) ≡ tab (length (now (out .entry))) (λ (i : ℕ). BayesStein.shrunkMean (meanShrinkage intensity target) (nth (now (means .entry)) i) (exponentAt (now (exponents .entry)) i)) ⌝ }
 {
     let mut i = 0;
     while i < out.len() {
@@ -195,8 +195,8 @@ fn shrink_in(
     requires { ⌜ (0 < n) × (n ≤ maxSide) × (limit ≤ maxSweeps) × (length (now means) ≡ n) × (length (now covariance) ≡ n * n) × (length (now exponents) ≡ n) × Exponents (now exponents) × (length (now sizes) ≡ n) × (length (now volatilities) ≡ n) × (length (now correlations) ≡ n * n) × (length (now values) ≡ n) × (length (now vectors) ≡ n * n) × (length (now out) ≡ n) ⌝ }
     ensures { λ r. ⌜ answered r (now (out .exit)) ≡ bayesSteinOf n limit (momentsOf (now (means .entry)) (now (covariance .entry)) periods) (exponentAt (now (exponents .entry))) (nth (now (sizes .entry))) (now (out .entry)) ⌝ }
 {
-    let constant = correlate(covariance, n, sizes, volatilities, correlations);
-    if let Check::Refuses(refusal) = constant {
+    let bad = correlate(covariance, n, sizes, volatilities, correlations);
+    if let Check::Refuses(refusal) = bad {
         return Answer::Refused(refusal);
     }
     let d = decompose(correlations, n, limit, values, vectors);
@@ -204,8 +204,8 @@ fn shrink_in(
     if let Check::Refuses(refusal) = singular {
         return Answer::Refused(refusal);
     }
-    let w = pull(means, volatilities, exponents, n, periods, values, vectors);
-    put_pulled(means, exponents, w.intensity, w.target, out);
+    let w = shrinkage(means, volatilities, exponents, n, periods, values, vectors);
+    put_shrunk(means, exponents, w.intensity, w.target, out);
     Answer::Shrunk(w.intensity, w.target, d.sweeps, d.rotations)
 }
 

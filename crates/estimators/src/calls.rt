@@ -9,7 +9,7 @@ use crate::Target;
 use crate::checks::Check;
 use crate::covariance;
 use crate::expected_returns;
-use crate::opening::Filled;
+use crate::opening::AnswerShape;
 use crate::opening::check_shape;
 
 // The covariance of n assets, estimated, shrunk and regularized as the settings say: n * n numbers, row by row. `given`, `side` rows of as many
@@ -25,7 +25,7 @@ pub fn adjusted_covariance(
 ) -> Answer
     ensures { λ r. ⌜ answered r (now (answer .exit)) ≡ Calls.adjustedCovariance (now (returns .entry)) n periods settings (now (given .entry)) side (now (answer .entry)) ⌝ }
 {
-    let shape = check_shape(returns.len(), n, periods, Filled::Table, answer.len());
+    let shape = check_shape(returns.len(), n, periods, AnswerShape::Table, answer.len());
     if let Check::Refuses(refusal) = shape {
         return Answer::Refused(refusal);
     }
@@ -45,7 +45,7 @@ pub fn adjusted_covariance(
 pub fn ledoit_wolf(returns: &[f64], n: usize, periods: usize, target: Target) -> Answer
     ensures { λ r. ⌜ r ≡ Calls.ledoitWolfIntensity (now (returns .entry)) n periods target ⌝ }
 {
-    let shape = check_shape(returns.len(), n, periods, Filled::Nothing, 0);
+    let shape = check_shape(returns.len(), n, periods, AnswerShape::Nothing, 0);
     if let Check::Refuses(refusal) = shape {
         return Answer::Refused(refusal);
     }
@@ -62,7 +62,7 @@ pub fn exponentially_weighted_mean(
 ) -> Answer
     ensures { λ r. ⌜ answered r (now (answer .exit)) ≡ Calls.exponentiallyWeightedMean (now (returns .entry)) n periods «half_life» (now (answer .entry)) ⌝ }
 {
-    let shape = check_shape(returns.len(), n, periods, Filled::Vector, answer.len());
+    let shape = check_shape(returns.len(), n, periods, AnswerShape::Vector, answer.len());
     if let Check::Refuses(refusal) = shape {
         return Answer::Refused(refusal);
     }
@@ -79,7 +79,7 @@ pub fn james_stein_mean(
 ) -> Answer
     ensures { λ r. ⌜ answered r (now (answer .exit)) ≡ Calls.jamesSteinMean (now (returns .entry)) n periods limit (now (answer .entry)) ⌝ }
 {
-    let shape = check_shape(returns.len(), n, periods, Filled::Vector, answer.len());
+    let shape = check_shape(returns.len(), n, periods, AnswerShape::Vector, answer.len());
     if let Check::Refuses(refusal) = shape {
         return Answer::Refused(refusal);
     }
@@ -96,7 +96,7 @@ pub fn bayes_stein_mean(
 ) -> Answer
     ensures { λ r. ⌜ answered r (now (answer .exit)) ≡ Calls.bayesSteinMean (now (returns .entry)) n periods limit (now (answer .entry)) ⌝ }
 {
-    let shape = check_shape(returns.len(), n, periods, Filled::Vector, answer.len());
+    let shape = check_shape(returns.len(), n, periods, AnswerShape::Vector, answer.len());
     if let Check::Refuses(refusal) = shape {
         return Answer::Refused(refusal);
     }

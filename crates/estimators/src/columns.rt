@@ -1,13 +1,12 @@
 // Sums and largest sizes of the columns of a matrix's rows, with the period outermost.
 ghost use mathlib.Core.Path.{_≡_};
-ghost use mathlib.Core.List.{[]};
 ghost use Prim.Native.Nat.{ℕ, _*_, _≤_, _<_};
 ghost use lib.ListN.{length};
 ghost use Rattle.leaves.specs.Numbers.{_⊕_, abs, larger};
 ghost use Rattle.leaves.specs.Loops.{sumTo, amaxTo, tab, nth};
 ghost use Rattle.matrix.specs.Limits.{maxSide};
 ghost use Rattle.matrix.specs.Matrix.{at};
-ghost use Rattle.estimators.specs.Rows.{rowsOf};
+ghost use Rattle.estimators.specs.Rows.{rowsOf, centered};
 use crate::rows::Row;
 use crate::rows::form;
 use crate::vectors;
@@ -44,7 +43,7 @@ fn raise_period(
     out: &mut [f64],
 )
     requires { ⌜ (length (now r) ≡ periods * n) × (n ≤ maxSide) × (t < periods) × (length (now centers) ≡ n) × (length (now out) ≡ n) ⌝ }
-    ensures { λ _. ⌜ now (out .exit) ≡ tab n (λ (i : ℕ). larger (nth (now (out .entry)) i) (abs (rowsOf row n [] (now (centers .entry)) [] (at (now (r .entry)) n) t i))) ⌝ }
+    ensures { λ _. ⌜ now (out .exit) ≡ tab n (λ (i : ℕ). larger (nth (now (out .entry)) i) (abs (centered row n (now (centers .entry)) (now (r .entry)) t i))) ⌝ }
 {
     let none = [0.0; 0];
     let mut buffer = [0.0; matrix::MAX_SIDE];
@@ -76,16 +75,9 @@ pub(crate) fn sum(
 }
 
 // Each column's largest number in size.
-pub(crate) fn largest(
-    row: Row,
-    r: &[f64],
-    n: usize,
-    periods: usize,
-    centers: &[f64],
-    out: &mut [f64],
-)
+pub(crate) fn amax(row: Row, r: &[f64], n: usize, periods: usize, centers: &[f64], out: &mut [f64])
     requires { ⌜ (length (now r) ≡ periods * n) × (n ≤ maxSide) × (length (now centers) ≡ n) × (length (now out) ≡ n) ⌝ }
-    ensures { λ _. ⌜ now (out .exit) ≡ tab n (λ (i : ℕ). amaxTo periods (λ (t : ℕ). rowsOf row n [] (now (centers .entry)) [] (at (now (r .entry)) n) t i)) ⌝ }
+    ensures { λ _. ⌜ now (out .exit) ≡ tab n (λ (i : ℕ). amaxTo periods (λ (t : ℕ). centered row n (now (centers .entry)) (now (r .entry)) t i)) ⌝ }
 {
     vectors::fill(0.0, out);
     let mut t = 0;

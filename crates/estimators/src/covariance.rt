@@ -4,17 +4,17 @@ ghost use mathlib.Core.Bool.{true};
 ghost use Prim.Native.Nat.{_*_, _≤_, _<_};
 ghost use lib.ListN.{length, take};
 ghost use Rattle.matrix.specs.Limits.{maxSide};
-ghost use Rattle.matrix.specs.Matrix.{Matrix, at, rows, averaged};
+ghost use Rattle.matrix.specs.Matrix.{Matrix, at, rows};
 ghost use Rattle.estimators.specs.Refusals as Refusals;
 ghost use Rattle.estimators.specs.Sample as Sample;
 ghost use Rattle.estimators.specs.Adjusted as Adjusted;
 ghost use Rattle.estimators.specs.Order as Order;
-ghost use Rattle.estimators.specs.Order.{bySettings, byAnswer};
+ghost use Rattle.estimators.specs.Order.{ofGiven, bySettings, byAnswer};
 ghost use Rattle.estimators.specs.Shapes.{Shaped};
 ghost use Rattle.estimators.specs.Checks.{checked, examined};
 ghost use Rattle.estimators.specs.Calls as Calls;
 ghost use Rattle.estimators.specs.Calls.{answered};
-ghost use Rattle.estimators.specs.Estimated.{finished, estimated, decompositionBy, ofGivenBy};
+ghost use Rattle.estimators.specs.Estimated.{finished, estimated};
 ghost use Rattle.estimators.specs.Given.{averagedOf};
 use crate::Answer;
 use crate::Estimate;
@@ -24,7 +24,6 @@ use crate::Shrinkage;
 use crate::Target;
 use crate::adjusted::adjust;
 use crate::adjusted::is_adjusted;
-use crate::base::bad_estimate;
 use crate::base::put_base;
 use crate::checks::Check;
 use crate::checks::first;
@@ -35,6 +34,7 @@ use crate::given::examine;
 use crate::ledoit_wolf;
 use crate::opening::check_returns;
 use crate::sample;
+use crate::validate::bad_estimate;
 use crate::validate::bad_regularization;
 use crate::validate::bad_shrinkage;
 use crate::validate::is_given;
@@ -50,8 +50,8 @@ fn check_constant(s: &[f64], r: &[f64], n: usize, periods: usize) -> Check
     let volatilities = &mut one[..n];
     let sizes = &mut other[..n];
     sample::put_volatilities(s, n, volatilities);
-    sample::largest(r, n, periods, sizes);
-    sample::constant_asset(volatilities, n, sizes)
+    sample::amax(r, n, periods, sizes);
+    sample::constant_returns(volatilities, n, sizes)
 }
 
 // Refusal 9 by constant correlation, from the sample covariance: that target divides by its volatilities.
@@ -238,7 +238,7 @@ fn estimate_in(
 // The averaged given matrix at the beginning of `out`, and the sweeps and rotations of its decomposition; none of it for the other estimates.
 fn examine_given(settings: Settings, given: &[f64], side: usize, out: &mut [f64]) -> Examined
     requires { ⌜ length (now out) ≡ maxSide * maxSide ⌝ }
-    ensures { λ k. ⌜ (k ≡ examined (Refusals.first (ofGivenBy settings (now (given .entry)) side)) (decompositionBy settings (now (given .entry)) side)) × (Adjusted.isGiven (settings .estimate) ≡ true → Refusals.first (ofGivenBy settings (now (given .entry)) side) ≡ Refusals.passes → take (side * side) (now (out .exit)) ≡ averagedOf (now (given .entry)) side) ⌝ }
+    ensures { λ k. ⌜ (k ≡ examined (Refusals.first (ofGiven settings (now (given .entry)) side)) (Adjusted.decompositionOf settings (now (given .entry)) side)) × (Adjusted.isGiven (settings .estimate) ≡ true → Refusals.first (ofGiven settings (now (given .entry)) side) ≡ Refusals.passes → take (side * side) (now (out .exit)) ≡ averagedOf (now (given .entry)) side) ⌝ }
 {
     let estimate = settings.estimate;
     let limit = settings.limit;

@@ -12,13 +12,13 @@ use crate::Answer;
 use crate::bayes_stein;
 use crate::checks::Check;
 use crate::checks::first;
-use crate::gather::scale;
+use crate::gather::scale_down;
 use crate::james_stein;
-use crate::moments::exponent;
 use crate::moments::moments_over;
 use crate::moments::of_returns;
 use crate::opening::check_opened;
-use crate::sample::largest;
+use crate::sample::amax;
+use crate::scales::exponent;
 use crate::scales::put_exponents;
 use crate::validate::bad_sweep_limit;
 use crate::weighted;
@@ -34,7 +34,7 @@ pub(crate) fn exponentially_weighted_mean(
     ensures { λ r. ⌜ answered r (now (out .exit)) ≡ Calls.exponentiallyWeightedMean (now (returns .entry)) n periods «half_life» (now (out .entry)) ⌝ }
 {
     let opened = check_opened(returns, n, periods);
-    let bad = first(opened, weighted::check_half_life(half_life));
+    let bad = first(opened, weighted::bad_half_life(half_life));
     if let Check::Refuses(refusal) = bad {
         return Answer::Refused(refusal);
     }
@@ -77,10 +77,10 @@ fn bayes_stein_in(
     requires { ⌜ Shaped (length (now returns)) n periods × (limit ≤ maxSweeps) × (length (now sizes) ≡ n) × (length (now exponents) ≡ n) × (length (now out) ≡ n) ⌝ }
     ensures { λ r. ⌜ answered r (now (out .exit)) ≡ bayesSteinFrom n periods limit (at (now (returns .entry)) n) (now (out .entry)) ⌝ }
 {
-    largest(returns, n, periods, sizes);
+    amax(returns, n, periods, sizes);
     put_exponents(sizes, exponents);
     let m = of_returns(returns, n, periods, exponents);
-    scale(exponents, 0, sizes);
+    scale_down(exponents, 0, sizes);
     bayes_stein::shrink(m, n, exponents, sizes, limit, out)
 }
 

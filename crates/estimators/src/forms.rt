@@ -7,7 +7,7 @@ ghost use Rattle.leaves.specs.Loops.{sumTo, tab, nth};
 ghost use Rattle.matrix.specs.Matrix.{at};
 ghost use Rattle.matrix.specs.Jacobi.{Decomposition};
 ghost use Rattle.estimators.specs.BayesStein as BayesStein;
-ghost use Rattle.estimators.specs.BayesStein.{ratioOf, distanceOf};
+ghost use Rattle.estimators.specs.BayesStein.{ratioOf, squaredDistanceOf};
 
 // x times column e of V.
 fn project_on(vectors: &[f64], n: usize, e: usize, x: &[f64]) -> f64
@@ -80,7 +80,7 @@ fn subtract(y: &[f64], a: f64, x: &[f64], out: &mut [f64])
 }
 
 // zᵀC⁻¹z for z = y - a x. `p` and `q` are to reckon in.
-pub(crate) fn distance(
+pub(crate) fn squared_distance(
     values: &[f64],
     vectors: &[f64],
     n: usize,
@@ -91,7 +91,7 @@ pub(crate) fn distance(
     q: &mut [f64],
 ) -> f64
     requires { ⌜ (length (now values) ≡ n) × (length (now vectors) ≡ n * n) × (length (now x) ≡ n) × (length (now y) ≡ n) × (length (now p) ≡ n) × (length (now q) ≡ n) ⌝ }
-    ensures { λ r. ⌜ ((d : Decomposition) → d .values ≡ now (values .entry) → d .vectors ≡ now (vectors .entry) → r ≡ distanceOf n d (now (x .entry)) (now (y .entry)) a) ⌝ }
+    ensures { λ r. ⌜ ((d : Decomposition) → d .values ≡ now (values .entry) → d .vectors ≡ now (vectors .entry) → r ≡ squaredDistanceOf n d (now (x .entry)) (now (y .entry)) a) ⌝ }
 {
     subtract(y, a, x, p);
     project(vectors, n, p, q);

@@ -6,11 +6,11 @@ ghost use lib.ListN.{length};
 ghost use Rattle.leaves.specs.Numbers.{_⊘_, one};
 ghost use Rattle.leaves.specs.Loops.{tab, nth};
 ghost use Rattle.matrix.specs.Limits.{maxSide};
-ghost use Rattle.estimators.specs.Exponents.{exponentAt, maxExponent, Exponents, twoExponents};
+ghost use Rattle.estimators.specs.Exponents.{maxExponent, Exponents, twoExponents};
 ghost use Rattle.estimators.specs.BayesStein as BayesStein;
-ghost use Rattle.estimators.specs.Gather.{largestOf, Summed, Gathered};
-ghost use Rattle.estimators.specs.BayesStein.{withExponent};
-use crate::moments::exponent;
+ghost use Rattle.estimators.specs.Gather.{largestOf, WithinTwoExponents, Gathered};
+ghost use Rattle.estimators.specs.BayesStein.{withExponent, exponentAt};
+use crate::scales::exponent;
 
 // The largest exponent so far, if there is one.
 enum Largest {
@@ -44,8 +44,8 @@ fn or_zero(largest: Largest) -> i32
 
 // With the exponent of x · 2^-e, unless x is 0.
 fn with_exponent(largest: Largest, x: f64, e: i32) -> Largest
-    requires { ⌜ (natAbs e ≤ maxExponent) × Summed (largestOf largest) ⌝ }
-    ensures { λ r. ⌜ (largestOf r ≡ withExponent (largestOf largest) x (negℤ e)) × Summed (largestOf r) ⌝ }
+    requires { ⌜ (natAbs e ≤ maxExponent) × WithinTwoExponents (largestOf largest) ⌝ }
+    ensures { λ r. ⌜ (largestOf r ≡ withExponent (largestOf largest) x (negℤ e)) × WithinTwoExponents (largestOf r) ⌝ }
 {
     if x == 0.0 {
         return largest;
@@ -79,8 +79,8 @@ fn divide(xs: &[f64], volatilities: &[f64], out: &mut [f64])
     }
 }
 
-// Each number xᵢ becomes xᵢ · 2^-eᵢ · 2^-e: into its unit and over the common power. `scales::scale` takes numbers out of their units.
-pub(crate) fn scale(exponents: &[i32], e: i32, out: &mut [f64])
+// Each number xᵢ becomes xᵢ · 2^-eᵢ · 2^-e: into its unit and over the common power.
+pub(crate) fn scale_down(exponents: &[i32], e: i32, out: &mut [f64])
     requires { ⌜ (length (now exponents) ≡ length (now out)) × Exponents (now exponents) × (natAbs e ≤ twoExponents) ⌝ }
     ensures { λ _. ⌜ now (out .exit) ≡ BayesStein.gathered (length (now (out .entry))) (nth (now (out .entry))) (λ (i : ℕ). negℤ (exponentAt (now (exponents .entry)) i)) e ⌝ }
 {
@@ -98,7 +98,7 @@ fn gather(xs: &[f64], volatilities: &[f64], exponents: &[i32], out: &mut [f64]) 
 {
     divide(xs, volatilities, out);
     let e = common_exponent(out, exponents);
-    scale(exponents, e, out);
+    scale_down(exponents, e, out);
     e
 }
 

@@ -5,7 +5,7 @@ ghost use Prim.Native.Nat.{_*_, _≤_, _<_};
 ghost use lib.ListN.{length};
 ghost use lib.Ieee.{Float};
 ghost use Rattle.matrix.specs.Limits.{maxSide, maxSweeps};
-ghost use Rattle.matrix.specs.Matrix.{at, rows, averaged};
+ghost use Rattle.matrix.specs.Matrix.{at};
 ghost use Rattle.matrix.specs.Inner.{decomposed};
 ghost use Rattle.matrix.specs.Places.{placed};
 ghost use Rattle.estimators.specs.Refusals as Refusals;
@@ -61,7 +61,7 @@ fn check_entries(g: &[f64], n: usize) -> Check
     Check::Passes
 }
 
-// The decomposition of a matrix over its largest entry, in `over`. A zero matrix is not taken apart.
+// The decomposition of a matrix over its largest entry, in `over`. A zero matrix is not decomposed.
 fn decompose(
     a: &[f64],
     n: usize,
@@ -104,8 +104,8 @@ fn judge(d: Outcome, values: &[f64], a: &[f64], n: usize) -> Examined
     Examined::Accepted(d.sweeps, d.rotations)
 }
 
-// `take_apart`, with three slices to reckon in.
-fn take_apart_in(
+// `check_values`, with three slices to reckon in.
+fn check_values_in(
     a: &[f64],
     n: usize,
     limit: usize,
@@ -121,7 +121,7 @@ fn take_apart_in(
 }
 
 // Refusals 13 and 12 of an averaged matrix.
-fn take_apart(a: &[f64], n: usize, limit: usize) -> Examined
+fn check_values(a: &[f64], n: usize, limit: usize) -> Examined
     requires { ⌜ (0 < n) × (n ≤ maxSide) × (limit ≤ maxSweeps) × (length (now a) ≡ n * n) ⌝ }
     ensures { λ r. ⌜ r ≡ judged n (at (now (a .entry)) n) (Given.decomposeGiven limit n (at (now (a .entry)) n)) ⌝ }
 {
@@ -129,7 +129,7 @@ fn take_apart(a: &[f64], n: usize, limit: usize) -> Examined
     let mut values = [0.0; matrix::MAX_SIDE];
     let mut vectors = [0.0; matrix::MAX_SIDE * matrix::MAX_SIDE];
     let size = n * n;
-    take_apart_in(
+    check_values_in(
         a,
         n,
         limit,
@@ -142,12 +142,12 @@ fn take_apart(a: &[f64], n: usize, limit: usize) -> Examined
 // The average of a given matrix with its transpose, and whether it is refused, by 5, 11, 13, 12 in this order.
 pub(crate) fn examine(g: &[f64], n: usize, limit: usize, out: &mut [f64]) -> Examined
     requires { ⌜ (0 < n) × (n ≤ maxSide) × (limit ≤ maxSweeps) × (length (now g) ≡ n * n) × (length (now out) ≡ n * n) ⌝ }
-    ensures { λ r. ⌜ (now (out .exit) ≡ rows n n (averaged (at (now (g .entry)) n))) × (r ≡ examined (Refusals.first (byNumbers n (at (now (g .entry)) n) (Given.decomposeGiven limit n (at (now (out .exit)) n)))) (Given.decomposeGiven limit n (at (now (out .exit)) n))) ⌝ }
+    ensures { λ r. ⌜ (now (out .exit) ≡ Given.averagedOf (now (g .entry)) n) × (r ≡ examined (Refusals.first (byNumbers n (at (now (g .entry)) n) (Given.decomposeGiven limit n (at (now (out .exit)) n)))) (Given.decomposeGiven limit n (at (now (out .exit)) n))) ⌝ }
 {
     matrix::tables::average(g, n, out);
     let bad = check_entries(g, n);
     if let Check::Refuses(refusal) = bad {
         return Examined::Refused(refusal);
     }
-    take_apart(out, n, limit)
+    check_values(out, n, limit)
 }

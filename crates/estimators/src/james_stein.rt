@@ -15,11 +15,11 @@ ghost use Rattle.estimators.specs.Exponents.{maxExponent};
 ghost use Rattle.estimators.specs.Moments.{momentsOf};
 ghost use Rattle.estimators.specs.JamesStein as JamesStein;
 ghost use Rattle.estimators.specs.Calls.{answered};
-ghost use Rattle.estimators.specs.Stein.{JamesSteinPulls, jamesSteinOf};
+ghost use Rattle.estimators.specs.Stein.{JamesSteinShrinks, jamesSteinOf};
 use crate::Answer;
 use crate::Refusal;
 use crate::moments::Moments;
-use crate::moments::exponent;
+use crate::scales::exponent;
 use leaves::scaling::pow2_scaled;
 use matrix::jacobi::decompose;
 
@@ -76,20 +76,20 @@ fn intensity(
 {
     let shift = exponent(largest);
     let excess = matrix::sums::trace(covariance, n) - 2.0 * matrix::entries::largest(values);
-    let noise = periods * spread(means, target, shift);
-    leaves::numbers::clamp01(pow2_scaled(excess / noise, -(shift + shift)))
+    let denominator = periods * spread(means, target, shift);
+    leaves::numbers::clamp01(pow2_scaled(excess / denominator, -(shift + shift)))
 }
 
 // The intensity, and what came of the decomposition.
-struct Pulled {
+struct MeanShrinkage {
     found: bool,
     intensity: f64,
     sweeps: usize,
     rotations: usize,
 }
 
-// Nothing is taken apart where all means are equal. `values` and `vectors` are to reckon in.
-fn pull(
+// Nothing is decomposed where all means are equal. `values` and `vectors` are to reckon in.
+fn shrinkage(
     means: &[f64],
     covariance: &[f64],
     n: usize,
@@ -98,13 +98,13 @@ fn pull(
     limit: usize,
     values: &mut [f64],
     vectors: &mut [f64],
-) -> Pulled
+) -> MeanShrinkage
     requires { ⌜ (0 < n) × (n ≤ maxSide) × (limit ≤ maxSweeps) × (length (now means) ≡ n) × (length (now covariance) ≡ n * n) × (length (now values) ≡ n) × (length (now vectors) ≡ n * n) ⌝ }
-    ensures { λ r. ⌜ JamesSteinPulls n limit (momentsOf (now (means .entry)) (now (covariance .entry)) periods) target (r .found) (r .intensity) (r .sweeps) (r .rotations) ⌝ }
+    ensures { λ r. ⌜ JamesSteinShrinks n limit (momentsOf (now (means .entry)) (now (covariance .entry)) periods) target (r .found) (r .intensity) (r .sweeps) (r .rotations) ⌝ }
 {
     let largest = largest_deviation(means, target);
     if largest == 0.0 {
-        return Pulled {
+        return MeanShrinkage {
             found: true,
             intensity: 0.0,
             sweeps: 0,
@@ -113,7 +113,7 @@ fn pull(
     }
     let d = decompose(covariance, n, limit, values, vectors);
     let alpha = intensity(means, covariance, n, periods, target, largest, values);
-    Pulled {
+    MeanShrinkage {
         found: d.found,
         intensity: alpha,
         sweeps: d.sweeps,
@@ -121,17 +121,17 @@ fn pull(
     }
 }
 
-// `pull` of the moments, in arrays of the largest size.
-fn pull_held(m: Moments, n: usize, target: f64, limit: usize) -> Pulled
+// `shrinkage` of the moments, in arrays of the largest size.
+fn shrinkage_held(m: Moments, n: usize, target: f64, limit: usize) -> MeanShrinkage
     requires { ⌜ (0 < n) × (n ≤ maxSide) × (limit ≤ maxSweeps) ⌝ }
-    ensures { λ r. ⌜ JamesSteinPulls n limit (held n m) target (r .found) (r .intensity) (r .sweeps) (r .rotations) ⌝ }
+    ensures { λ r. ⌜ JamesSteinShrinks n limit (held n m) target (r .found) (r .intensity) (r .sweeps) (r .rotations) ⌝ }
 {
     let size = n * n;
     let mean = m.mean;
     let covariance = m.covariance;
     let mut values = [0.0; matrix::MAX_SIDE];
     let mut vectors = [0.0; matrix::MAX_SIDE * matrix::MAX_SIDE];
-    pull(
+    shrinkage(
         &mean[..n],
         &covariance[..size],
         n,
@@ -144,7 +144,7 @@ fn pull_held(m: Moments, n: usize, target: f64, limit: usize) -> Pulled
 }
 
 // The means moved towards the target, out of the unit 2^exponent.
-fn put_means(means: &[f64], intensity: f64, target: f64, exponent: i32, out: &mut [f64])
+fn put_shrunk(means: &[f64], intensity: f64, target: f64, exponent: i32, out: &mut [f64])
     requires { ⌜ length (now means) ≡ length (now out) ⌝ }
     ensures { λ _. ⌜ now (out .exit) ≡ tab (length (now (out .entry))) (λ (i : ℕ). pow2Scaled (JamesStein.towards intensity target (nth (now (means .entry)) i)) exponent) ⌝ }
 {
@@ -162,13 +162,13 @@ pub(crate) fn shrink(m: Moments, n: usize, exponent: i32, limit: usize, out: &mu
     ensures { λ r. ⌜ answered r (now (out .exit)) ≡ jamesSteinOf n limit (held n m) exponent (now (out .entry)) ⌝ }
 {
     let target = grand_mean(m, n);
-    let p = pull_held(m, n, target, limit);
+    let p = shrinkage_held(m, n, target, limit);
     let found = p.found;
     if !found {
         return Answer::Refused(Refusal::Singular);
     }
     let mean = m.mean;
-    put_means(&mean[..n], p.intensity, target, exponent, out);
+    put_shrunk(&mean[..n], p.intensity, target, exponent, out);
     Answer::Shrunk(
         p.intensity,
         pow2_scaled(target, exponent),

@@ -1,4 +1,4 @@
-// The records of document 01 that cross a call.
+// The records of document 01 that cross a call, and the limits of periods.
 mod adjusted;
 mod base;
 mod bayes_stein;

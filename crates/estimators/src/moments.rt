@@ -1,32 +1,25 @@
-// The moments record, and the powers of two that its returns are taken over (expected_returns.rs, `Moments`).
+// The moments record, of returns over powers of two (expected_returns.rs, `Moments`).
 ghost use mathlib.Core.Path.{_≡_};
 ghost use Prim.Native.Nat.{ℕ, _+_, _*_, _≤_};
 ghost use lib.IntN.{natAbs};
 ghost use lib.ListN.{length};
 ghost use Rattle.leaves.specs.Loops.{tab};
-ghost use Rattle.leaves.specs.Scaling.{binaryExponent};
 ghost use Rattle.matrix.specs.Limits.{maxSide};
 ghost use Rattle.matrix.specs.Matrix.{at, rows};
 ghost use Rattle.estimators.specs.Sample as Sample;
 ghost use Rattle.estimators.specs.Moments.{moments};
 ghost use Rattle.estimators.specs.Held.{held};
-ghost use Rattle.estimators.specs.Exponents.{exponentAt, maxExponent, Exponents};
+ghost use Rattle.estimators.specs.Exponents.{maxExponent, Exponents};
+ghost use Rattle.estimators.specs.BayesStein.{exponentAt};
 use crate::powers::put_units;
-use crate::sample::covariance_in;
-use crate::sample::means_in;
+use crate::sample::covariance_in_units;
+use crate::sample::means_in_units;
 
 // Of n assets, the first n numbers of the mean vector and the first n * n of the covariance, row by row.
 pub(crate) struct Moments {
     pub mean: [f64; matrix::MAX_SIDE],
     pub covariance: [f64; matrix::MAX_SIDE * matrix::MAX_SIDE],
     pub periods: f64,
-}
-
-// b(x), which is at most `maxExponent` in size.
-pub(crate) fn exponent(x: f64) -> i32
-    ensures { λ r. ⌜ (r ≡ binaryExponent x) × (natAbs r ≤ maxExponent) ⌝ }
-{
-    leaves::scaling::binary_exponent(x)
 }
 
 // The means and the covariance, of the returns over their powers of two. `units` is to reckon in.
@@ -43,8 +36,8 @@ fn put_moments(
     ensures { λ _. ⌜ (now (mean .exit) ≡ tab n (Sample.mean periods (Sample.scaled (exponentAt (now (exponents .entry))) (at (now (r .entry)) n)))) × (now (covariance .exit) ≡ rows n n (Sample.covariance periods (Sample.scaled (exponentAt (now (exponents .entry))) (at (now (r .entry)) n)))) ⌝ }
 {
     put_units(exponents, n, units);
-    means_in(r, n, periods, units, mean);
-    covariance_in(r, n, periods, units, mean, covariance);
+    means_in_units(r, n, periods, units, mean);
+    covariance_in_units(r, n, periods, units, mean, covariance);
 }
 
 // The moments of the returns, each asset's over its power of two.

@@ -16,21 +16,21 @@ use crate::sample::covariance;
 use matrix::places::Place;
 
 // What a call's answer fills: an n × n table, n numbers, or nothing.
-pub(crate) enum Filled {
+pub(crate) enum AnswerShape {
     Table,
     Vector,
     Nothing,
 }
 
 // The numbers that the answer slice needs.
-fn needed(filled: Filled, n: usize) -> usize
+fn needed(filled: AnswerShape, n: usize) -> usize
     requires { ⌜ n ≤ maxSide ⌝ }
     ensures { λ r. ⌜ r ≡ Opening.needed filled n ⌝ }
 {
     match filled {
-        Filled::Table => n * n,
-        Filled::Vector => n,
-        Filled::Nothing => 0,
+        AnswerShape::Table => n * n,
+        AnswerShape::Vector => n,
+        AnswerShape::Nothing => 0,
     }
 }
 
@@ -39,7 +39,7 @@ pub(crate) fn check_shape(
     length: usize,
     n: usize,
     periods: usize,
-    filled: Filled,
+    filled: AnswerShape,
     room: usize,
 ) -> Check
     ensures { λ r. ⌜ checked r ≡ Refusals.first (byShape length n periods (Opening.needed filled n) room) ⌝ }

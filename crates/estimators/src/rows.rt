@@ -44,7 +44,7 @@ fn entries(row: Row, xs: &[f64], centers: &[f64], w: f64, out: &mut [f64])
 }
 
 // Each number times its column's unit, the first factor first.
-fn scale(xs: &[f64], units: &[f64], out: &mut [f64])
+fn to_units(xs: &[f64], units: &[f64], out: &mut [f64])
     requires { ⌜ (length (now xs) ≡ length (now out)) × (length (now out) + length (now out) ≤ length (now units)) ⌝ }
     ensures { λ _. ⌜ now (out .exit) ≡ tab (length (now (out .entry))) (λ (k : ℕ). nth (now (xs .entry)) k ⊗ nth (now (units .entry)) k ⊗ nth (now (units .entry)) (length (now (out .entry)) + k)) ⌝ }
 {
@@ -65,7 +65,7 @@ fn numbers(row: Row, xs: &[f64], units: &[f64], centers: &[f64], w: f64, out: &m
     if n + n <= units.len() {
         let mut buffer = [0.0; matrix::MAX_SIDE];
         let scaled = &mut buffer[..n];
-        scale(xs, units, scaled);
+        to_units(xs, units, scaled);
         entries(row, scaled, centers, w, out);
     } else {
         entries(row, xs, centers, w, out);

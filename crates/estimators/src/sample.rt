@@ -1,4 +1,4 @@
-// The sample means and covariance, the largest returns, and the rule for a constant asset (returns.rs).
+// The sample means and covariance, the largest returns, volatilities, and the rule for a constant asset (returns.rs; methods/mod.rs, `correlation`).
 ghost use mathlib.Core.Path.{_≡_};
 ghost use Prim.Native.Nat.{_*_, _≤_};
 ghost use lib.ListN.{length};
@@ -18,7 +18,7 @@ use crate::rows::Row;
 use crate::vectors;
 
 // Each asset's mean return, in its unit where there are units.
-pub(crate) fn means_in(r: &[f64], n: usize, periods: usize, units: &[f64], out: &mut [f64])
+pub(crate) fn means_in_units(r: &[f64], n: usize, periods: usize, units: &[f64], out: &mut [f64])
     requires { ⌜ (length (now r) ≡ periods * n) × (n ≤ maxSide) × (length (now out) ≡ n) ⌝ }
     ensures { λ _. ⌜ now (out .exit) ≡ tab n (Sample.mean periods (inUnits n (now (units .entry)) (at (now (r .entry)) n))) ⌝ }
 {
@@ -29,7 +29,7 @@ pub(crate) fn means_in(r: &[f64], n: usize, periods: usize, units: &[f64], out: 
 }
 
 // The sample covariance, from these means.
-pub(crate) fn covariance_in(
+pub(crate) fn covariance_in_units(
     r: &[f64],
     n: usize,
     periods: usize,
@@ -50,7 +50,7 @@ pub(crate) fn means(r: &[f64], n: usize, periods: usize, out: &mut [f64])
     ensures { λ _. ⌜ now (out .exit) ≡ tab n (Sample.mean periods (at (now (r .entry)) n)) ⌝ }
 {
     let none = [0.0; 0];
-    means_in(r, n, periods, &none, out);
+    means_in_units(r, n, periods, &none, out);
 }
 
 pub(crate) fn covariance(r: &[f64], n: usize, periods: usize, out: &mut [f64])
@@ -60,17 +60,17 @@ pub(crate) fn covariance(r: &[f64], n: usize, periods: usize, out: &mut [f64])
     let none = [0.0; 0];
     let mut buffer = [0.0; matrix::MAX_SIDE];
     let mean = &mut buffer[..n];
-    means_in(r, n, periods, &none, mean);
-    covariance_in(r, n, periods, &none, mean, out);
+    means_in_units(r, n, periods, &none, mean);
+    covariance_in_units(r, n, periods, &none, mean, out);
 }
 
 // Each asset's largest return in size.
-pub(crate) fn largest(r: &[f64], n: usize, periods: usize, out: &mut [f64])
+pub(crate) fn amax(r: &[f64], n: usize, periods: usize, out: &mut [f64])
     requires { ⌜ (length (now r) ≡ periods * n) × (n ≤ maxSide) × (length (now out) ≡ n) ⌝ }
     ensures { λ _. ⌜ now (out .exit) ≡ tab n (Sample.largest periods (at (now (r .entry)) n)) ⌝ }
 {
     let zeros = [0.0; matrix::MAX_SIDE];
-    columns::largest(Row::Plain, r, n, periods, &zeros[..n], out);
+    columns::amax(Row::Plain, r, n, periods, &zeros[..n], out);
 }
 
 // The square root of each variance.
@@ -86,7 +86,7 @@ pub(crate) fn put_volatilities(s: &[f64], n: usize, out: &mut [f64])
 }
 
 // The first asset with a volatility of at most 1e-10 of its largest return.
-pub(crate) fn constant_asset(volatilities: &[f64], n: usize, sizes: &[f64]) -> Check
+pub(crate) fn constant_returns(volatilities: &[f64], n: usize, sizes: &[f64]) -> Check
     requires { ⌜ (length (now volatilities) ≡ n) × (length (now sizes) ≡ n) ⌝ }
     ensures { λ r. ⌜ ((s : Matrix) → now (volatilities .entry) ≡ tab n (volatility s) → checked r ≡ constantReturns n s (nth (now (sizes .entry)))) ⌝ }
 {

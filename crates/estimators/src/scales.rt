@@ -1,11 +1,19 @@
-// The powers of two near numbers, one for each.
+// The powers of two near numbers, and numbers in units of them.
 ghost use mathlib.Core.Path.{_≡_};
-ghost use Prim.Native.Nat.{ℕ};
+ghost use Prim.Native.Nat.{ℕ, _≤_};
+ghost use lib.IntN.{natAbs};
 ghost use lib.ListN.{length};
 ghost use Rattle.leaves.specs.Loops.{tab, nth};
 ghost use Rattle.leaves.specs.Scaling.{binaryExponent, pow2Scaled};
-ghost use Rattle.estimators.specs.Exponents.{exponentAt, Exponents};
-use crate::moments::exponent;
+ghost use Rattle.estimators.specs.Exponents.{maxExponent, Exponents};
+ghost use Rattle.estimators.specs.BayesStein.{exponentAt};
+
+// b(x), which is at most `maxExponent` in size.
+pub(crate) fn exponent(x: f64) -> i32
+    ensures { λ r. ⌜ (r ≡ binaryExponent x) × (natAbs r ≤ maxExponent) ⌝ }
+{
+    leaves::scaling::binary_exponent(x)
+}
 
 // b(x) of each number.
 pub(crate) fn put_exponents(xs: &[f64], out: &mut [i32])
@@ -19,8 +27,8 @@ pub(crate) fn put_exponents(xs: &[f64], out: &mut [i32])
     }
 }
 
-// Each number xₖ becomes xₖ · 2^eₖ: out of its unit. `gather::scale` takes numbers into their units.
-pub(crate) fn scale(exponents: &[i32], out: &mut [f64])
+// Each number xₖ becomes xₖ · 2^eₖ: out of its unit.
+pub(crate) fn scale_back(exponents: &[i32], out: &mut [f64])
     requires { ⌜ (length (now exponents) ≡ length (now out)) × Exponents (now exponents) ⌝ }
     ensures { λ _. ⌜ now (out .exit) ≡ tab (length (now (out .entry))) (λ (k : ℕ). pow2Scaled (nth (now (out .entry)) k) (exponentAt (now (exponents .entry)) k)) ⌝ }
 {

@@ -30,8 +30,8 @@ fn aligned(i: usize) -> usize
 }
 
 // The first column of row i that is added up.
-fn start(term: Term, i: usize) -> usize
-    ensures { λ r. ⌜ r ≡ Rows.start term i ⌝ }
+fn first_column(term: Term, i: usize) -> usize
+    ensures { λ r. ⌜ r ≡ Rows.firstColumn term i ⌝ }
 {
     match term {
         Term::Product => aligned(i),
@@ -104,7 +104,7 @@ fn add_row(term: Term, i: usize, n: usize, d: &[f64], s: &[f64], out: &mut [f64]
     ensures { λ _. ⌜ now (out .exit) ≡ rows n n (λ (p q : ℕ). cond (eqb p i) (plus term (at (now (s .entry)) n) (nth (now (d .entry))) p q (at (now (out .entry)) n p q)) (at (now (out .entry)) n p q)) ⌝ }
 {
     let a = factor(term, i, n, d, s);
-    let from = start(term, i);
+    let from = first_column(term, i);
     let base = i * n;
     let begin = base + from;
     let end = base + n;
@@ -118,7 +118,7 @@ fn add_row2(term: Term, i: usize, n: usize, d: &[f64], e: &[f64], s: &[f64], out
 {
     let a = factor(term, i, n, d, s);
     let b = factor(term, i, n, e, s);
-    let from = start(term, i);
+    let from = first_column(term, i);
     let base = i * n;
     let begin = base + from;
     let end = base + n;

@@ -10,6 +10,7 @@ use crate::Regularization;
 use crate::Shrinkage;
 use crate::checks::Check;
 use crate::checks::when;
+use crate::weighted;
 
 fn is_sample(estimate: Estimate) -> bool
     ensures { λ r. ⌜ r ≡ Adjusted.isSample estimate ⌝ }
@@ -62,6 +63,22 @@ pub(crate) fn bad_shrinkage(shrinkage: Shrinkage) -> Check
     }
 }
 
+// Refusal 7 for fields 3 and 4: ln λ of the half-life in [-708, 0), the threshold finite.
+pub(crate) fn bad_estimate(estimate: Estimate) -> Check
+    ensures { λ r. ⌜ checked r ≡ Order.badEstimate estimate ⌝ }
+{
+    match estimate {
+        Estimate::Sample => Check::Passes,
+        Estimate::Given => Check::Passes,
+        Estimate::Weighted(h) => weighted::bad_half_life(h),
+        Estimate::Semi => Check::Passes,
+        Estimate::SemiBelow(threshold) => when(
+            !leaves::numbers::is_finite(threshold),
+            Refusal::BadSetting(Field::ThresholdField),
+        ),
+    }
+}
+
 // Ledoit-Wolf with another estimate.
 pub(crate) fn not_the_sample(shrinkage: Shrinkage, estimate: Estimate) -> Check
     ensures { λ r. ⌜ checked r ≡ Order.notTheSample shrinkage estimate ⌝ }
@@ -74,7 +91,7 @@ pub(crate) fn not_the_sample(shrinkage: Shrinkage, estimate: Estimate) -> Check
 }
 
 pub(crate) fn bad_sweep_limit(limit: usize) -> Check
-    ensures { λ r. ⌜ checked r ≡ Order.sweepLimit limit ⌝ }
+    ensures { λ r. ⌜ checked r ≡ Order.badSweepLimit limit ⌝ }
 {
     when(
         limit > matrix::MAX_SWEEPS,

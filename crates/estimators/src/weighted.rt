@@ -9,7 +9,8 @@ ghost use Rattle.matrix.specs.Limits.{maxSide};
 ghost use Rattle.matrix.specs.Matrix.{at, rows};
 ghost use Rattle.estimators.specs.Checks.{checked};
 ghost use Rattle.estimators.specs.Weighted as Weighted;
-ghost use Rattle.estimators.specs.Exponents.{exponentAt, Exponents};
+ghost use Rattle.estimators.specs.Exponents.{Exponents};
+ghost use Rattle.estimators.specs.BayesStein.{exponentAt};
 ghost use Rattle.estimators.specs.Order as Order;
 ghost use Rattle.estimators.specs.Order.{maxPeriods};
 use crate::Field;
@@ -35,7 +36,7 @@ pub(crate) fn log_decay(h: f64) -> f64
 const MIN_LOG_DECAY: f64 = -708.0;
 
 // ln λ in [-708, 0).
-pub(crate) fn check_half_life(h: f64) -> Check
+pub(crate) fn bad_half_life(h: f64) -> Check
     ensures { λ r. ⌜ checked r ≡ Order.badHalfLife h ⌝ }
 {
     let l = log_decay(h);
@@ -109,16 +110,16 @@ fn put_means(
 }
 
 // Σ wₜ xₜ / Σ wₜ of each asset, by way of a power of two near its largest return.
-pub(crate) fn means(r: &[f64], n: usize, periods: usize, weights: &[f64], out: &mut [f64])
+fn means(r: &[f64], n: usize, periods: usize, weights: &[f64], out: &mut [f64])
     requires { ⌜ (length (now r) ≡ periods * n) × (n ≤ maxSide) × (length (now weights) ≡ periods) × (length (now out) ≡ n) ⌝ }
     ensures { λ _. ⌜ now (out .exit) ≡ tab n (Weighted.weightedMean periods (now (weights .entry)) (at (now (r .entry)) n)) ⌝ }
 {
     let mut buffer = [0; matrix::MAX_SIDE];
-    let powers = &mut buffer[..n];
-    sample::largest(r, n, periods, out);
-    scales::put_exponents(out, powers);
-    put_means(r, n, periods, powers, weights, out);
-    scales::scale(powers, out);
+    let exponents = &mut buffer[..n];
+    sample::amax(r, n, periods, out);
+    scales::put_exponents(out, exponents);
+    put_means(r, n, periods, exponents, weights, out);
+    scales::scale_back(exponents, out);
 }
 
 // `covariance`, with three slices to reckon in.

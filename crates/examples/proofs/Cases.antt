@@ -4,11 +4,10 @@ use mathlib.Core.Path.{_≡_, refl}
 use mathlib.Core.Bool.{false}
 use mathlib.Core.List.{List, [], _∷_}
 use lib.IntN.{pos, negsuc}
-use lib.Ieee.{Float, inf, fin, binary64, neg, ofBits}
-use Rattle.leaves.specs.Numbers.{count, zero⁺, half, one, two}
+use lib.Ieee.{Float, inf, fin, neg}
+use Rattle.leaves.specs.Numbers.{float, count, zero⁺, half, one, two}
 use Rattle.leaves.specs.Scaling.{binaryExponent, pow2, pow2Scaled}
 use Rattle.leaves.specs.Root.{sqrt}
-use Rattle.examples.proofs.Evaluated.{evaluated}
 use Rattle.matrix.specs.Limits.{maxSweeps}
 use Rattle.estimators.specs.Settings.{settings}
 use Rattle.estimators.specs.Refusals.{passes, refuses}
@@ -23,6 +22,7 @@ use Rattle.estimators.specs.declared.Regularization.the-variants.{Unregularized
 use Rattle.estimators.specs.declared.Field.the-variants.{HalfLifeField}
 use Rattle.estimators.specs.declared.Refusal.the-variants.{BadSetting, ZeroVariance, Indefinite, NotDecomposed, Singular}
 use Rattle.estimators.specs.declared.Answer.the-variants.{Refused, Covariance, Mean, Shrunk}
+use Rattle.examples.proofs.Evaluated.{evaluated}
 
 -- rows (1,2), (3,6) or (1,1), (1,1)
 abbrev rows : List Float
@@ -48,10 +48,10 @@ abbrev plain : Float → Float → Float → Float → Answered
 plain a b c d = answered (Covariance zero⁺ 0 0) (a ∷ b ∷ c ∷ d ∷ [])
 
 pub record TwelveCases : Type 0 where
-  pub case-1 : (binaryExponent zero⁺ ≡ pos 0) × (binaryExponent (pow2 (negsuc 1073)) ≡ negsuc 1073) × (binaryExponent (ofBits binary64 0x7FEF_FFFF_FFFF_FFFF) ≡ pos 1023)
+  pub case-1 : (binaryExponent zero⁺ ≡ pos 0) × (binaryExponent (pow2 (negsuc 1073)) ≡ negsuc 1073) × (binaryExponent (float 0x7FEF_FFFF_FFFF_FFFF) ≡ pos 1023)
   pub case-2 : (pow2Scaled one (negsuc 1073) ≡ pow2 (negsuc 1073)) × (pow2Scaled one (pos 1024) ≡ inf false)
-  pub case-3 : (sqrt two ≡ ofBits binary64 0x3FF6_A09E_667F_3BCD) × (sqrt (pow2 (negsuc 1073)) ≡ pow2 (negsuc 536))
-  pub case-4 : (badHalfLife (ofBits binary64 0x3F50_624D_D2F1_A9FC) ≡ passes) × (badHalfLife (ofBits binary64 0x3F4D_7DBF_487F_CB92) ≡ refuses (BadSetting HalfLifeField))
+  pub case-3 : (sqrt two ≡ float 0x3FF6_A09E_667F_3BCD) × (sqrt (pow2 (negsuc 1073)) ≡ pow2 (negsuc 536))
+  pub case-4 : (badHalfLife (float 0x3F50_624D_D2F1_A9FC) ≡ passes) × (badHalfLife (float 0x3F4D_7DBF_487F_CB92) ≡ refuses (BadSetting HalfLifeField))
   pub case-5 : (weights 2 (logDecay one) ≡ half ∷ one ∷ []) × (exponentiallyWeightedMean (one ∷ count 4 ∷ []) 1 2 one (zero⁺ ∷ []) ≡ answered Mean (count 3 ∷ []))
   pub case-6 : two-assets rows Unshrunk Unregularized ≡ plain (count 2) (count 4) (count 4) (count 8)
   pub case-7 : two-assets rows Unshrunk (Ridge one) ≡ plain (count 3) (count 4) (count 4) (count 9)

@@ -1,11 +1,10 @@
 -- Small inputs of the five calls with the answers of the comparison copy, as equations about the definitions.
--- Written by `compare/run vectors` from compare/vectors.head and compare/examples.rs: edit those and not this file.
+-- Written by `compare/run vectors` from compare/vectors.head, compare/examples.rs and compare/examples: edit those and not this file.
 use Prim.Native.Nat.{ℕ}
 use mathlib.Core.Path.{_≡_, refl}
 use mathlib.Core.List.{List, [], _∷_, map}
 use lib.Ieee.{Float}
 use Rattle.leaves.specs.Numbers.{float as f}
-use Rattle.examples.proofs.Evaluated.{evaluated}
 use Rattle.estimators.specs.Settings.{settings}
 use Rattle.estimators.specs.Calls.{answered, adjustedCovariance, ledoitWolfIntensity, exponentiallyWeightedMean, jamesSteinMean, bayesSteinMean}
 use Rattle.estimators.specs.declared.Estimate.the-variants.{Sample, Given, Weighted, Semi, SemiBelow}
@@ -15,6 +14,7 @@ use Rattle.estimators.specs.declared.Regularization.the-variants.{Unregularized
 use Rattle.estimators.specs.declared.Field.the-variants.{RegularizationField, ShrinkageField, HalfLifeField, ThresholdField, SweepLimitField}
 use Rattle.estimators.specs.declared.Refusal.the-variants.{NoAssets, TooLarge, TooFewPeriods, WrongLength, NotFinite, CovarianceNotFinite, BadSetting, NotTheSample, ZeroVariance, WrongSide, Asymmetric, Indefinite, NotDecomposed, Singular}
 use Rattle.estimators.specs.declared.Answer.the-variants.{Refused, Covariance, Intensity, Mean, Shrunk}
+use Rattle.examples.proofs.Evaluated.{evaluated}
 
 -- numbers by their bits
 abbrev fs : List ℕ → List Float

@@ -11,7 +11,7 @@ use lib.Dec.{eqb, lit≤}
 use lib.IntN.{pos}
 use lib.ListN.{length}
 use lib.Ieee.{Float, nan, binary64, fits, le, eq}
-use Rattle.leaves.specs.Numbers.{_⊗_, zero⁺, one, 1e-10, isFinite}
+use Rattle.leaves.specs.Numbers.{zero⁺, one, isFinite}
 use Rattle.leaves.specs.Loops.{fill, nth}
 use Rattle.leaves.specs.Root.{sqrt}
 use Rattle.leaves.specs.Shift.{shift}
@@ -22,12 +22,15 @@ use Rattle.leaves.proofs.Bounds.{zero-bounded}
 use Rattle.leaves.proofs.Operations.{moved-within}
 use Rattle.leaves.proofs.Signs.{sign-not-below}
 use Rattle.leaves.proofs.SqrtNearest.{moved-sqrt}
+use Rattle.leaves.proofs.Zero.{no}
 use Rattle.matrix.specs.Matrix.{Matrix, at, rows, trace, allFinite}
 use Rattle.matrix.specs.Jacobi.{Decomposition}
 use Rattle.matrix.proofs.Stored.{entry-at, rows-at, by-cell}
-use Rattle.matrix.proofs.Alike.{finite-same, finite-all}
+use Rattle.matrix.proofs.Alike.{finite-same}
+use Rattle.matrix.proofs.Finite.{finite-all}
 use Rattle.estimators.specs.Refusals.{Check, passes, when, first}
-use Rattle.estimators.specs.Sample.{covariance, largest, constantAsset}
+use Rattle.estimators.specs.Sample.{covariance, largest, constantAsset, volatility, isConstant}
+use Rattle.estimators.specs.Given.{average}
 use Rattle.estimators.specs.LedoitWolf.{constantCorrelation, ledoitWolf}
 use Rattle.estimators.specs.Adjusted.{isSample, isGiven, decompositionOf, base, intensity, shrunk, regularized, isAdjusted, baseOf}
 use Rattle.estimators.specs.Adjusted as Spec
@@ -44,29 +47,26 @@ use Rattle.estimators.specs.declared.Field.the-variants.{ShrinkageField}
 use Rattle.estimators.specs.declared.Refusal.the-variants.{BadSetting, CovarianceNotFinite, NotTheSample, ZeroVariance, WrongSide, Singular}
 use Rattle.estimators.specs.declared.Answer.{Answer}
 use Rattle.estimators.specs.declared.Answer.the-variants.{Covariance, Intensity}
-use Rattle.law.specs.Law.{All, Sized, AtLeast, answerParts, Alike, ask, EstimateInRange, ShrinkageInRange, CopiedEstimate, maxPower, returnRange, covarianceRange, intensityRange}
+use Rattle.law.specs.Law.{All, Sized, AtLeast, answerParts, Alike, ask, EstimateInRange, ShrinkageInRange, CopiedEstimate, maxPower, returnRange, covarianceRange, intensityRange, parts}
 use Rattle.law.specs.Law as Law
 use Rattle.law.proofs.Ranges.{intensityBounds, shrunkBounds}
 use Rattle.law.proofs.Numbers.{times-itself, filled-alike}
-use Rattle.law.proofs.Chain.{Chain, ends, pass-must, pass-some, chain-same, chain-test, chain-must, chain-map, chain-append, chained, parts, settled}
-use Rattle.law.proofs.Sizes.{le-not-lt, unit-range, clamped-range}
-use Rattle.law.proofs.Sample.{tolerance-moved, Sampled}
+use Rattle.law.proofs.Chain.{Chain, ends, pass-must, pass-some, chain-same, chain-test, chain-must, chain-map, chain-append, chained, settled}
+use Rattle.law.proofs.Sizes.{unit-range, clamped-range}
+use Rattle.law.proofs.Comparisons.{le-not-lt}
+use Rattle.law.proofs.Sample.{Sampled}
+use Rattle.law.proofs.Constant.{tolerance-moved, sign-variance, sign-largest, above-zero}
 use Rattle.law.proofs.Matrices.{trace-moved, rows-moved}
 use Rattle.law.proofs.Opening.{Shape, returns, sample-moved, opening-chain}
 use Rattle.law.proofs.LedoitWolf.{ledoitWolf-same, correlation-same, ledoitWolf-cases}
-use Rattle.law.proofs.Correlation.{sign-variance, sign-largest, above-zero, target-moved, Targeted}
-use Rattle.law.proofs.Given.{average}
+use Rattle.law.proofs.Correlation.{target-moved, Targeted}
 use Rattle.law.proofs.Shrinkage.{Estimated, Shrunken, Adjusted, correlation-mixed, variance-mixed, nan-mixed, Regularized}
-use Rattle.law.proofs.Shrinkage as Shrinking
+use Rattle.law.proofs.Shrinkage as Shrinkages
 use Rattle.law.proofs.Estimates.{Based, estimate-chain}
 
 -- ---- the intensity: a number of the granted size, or NaN from Ledoit and Wolf
 abbrev Known : Shrinkage → Float → Type 0
-Known S δ = ((δ ≡ nan) × (S ≡ Unshrunk → ⊥)) ⊎ Shrinking.Intensity δ
-
-at-least-nan : (x : Float) → x ≡ nan → le zero⁺ x ≡ true → ⊥
-unfolding le
-at-least-nan x z e = subst lib.Dec.T (sym e ∙ ap (le zero⁺) z) tt
+Known S δ = ((δ ≡ nan) × (S ≡ Unshrunk → ⊥)) ⊎ Shrinkages.Intensity δ
 
 module _ (r : List Float) (n P : ℕ) (opens : (ds : List Check) → first (opening r n P 0 [] ++ ds) ≡ first ds) where
   -- where the adjustment gets as far as the intensity, the call for it does not refuse
@@ -74,29 +74,25 @@ module _ (r : List Float) (n P : ℕ) (opens : (ds : List Check) → first (open
   unfolding ledoitWolfIntensity ledoitWolfOrder settle first
   answers F e = ap (λ (c : Check). settle c [] (answered (Intensity (ledoitWolf F P n (at r n))) []) .answer) (opens (noCorrelation (LedoitWolf F) P n (at r n) ∷ []) ∙ ap (λ (c : Check). first (c ∷ [])) e)
 
-  ledoitWolf-known : (F : Target) → AtLeast intensityRange (ledoitWolf F P n (at r n)) → (ledoitWolf F P n (at r n) ≡ nan) ⊎ Shrinking.Intensity (ledoitWolf F P n (at r n))
-  ledoitWolf-known F = ledoitWolf-cases (λ z. AtLeast intensityRange z → (z ≡ nan) ⊎ Shrinking.Intensity z) F P n (at r n) (λ a. inr (zero-bounded intensityBounds)) (clamped-range intensityRange (lit≤ tt))
+  ledoitWolf-known : (F : Target) → AtLeast intensityRange (ledoitWolf F P n (at r n)) → (ledoitWolf F P n (at r n) ≡ nan) ⊎ Shrinkages.Intensity (ledoitWolf F P n (at r n))
+  ledoitWolf-known F = ledoitWolf-cases (λ z. AtLeast intensityRange z → (z ≡ nan) ⊎ Shrinkages.Intensity z) F P n (at r n) (λ a. inr (zero-bounded intensityBounds)) (clamped-range intensityRange (lit≤ tt))
 
-  no : {F : Target} → LedoitWolf F ≡ Unshrunk → ⊥
-  no e = let z : true ≡ false = cc in subst lib.Dec.T z tt
+  not-unshrunk : {F : Target} → LedoitWolf F ≡ Unshrunk → ⊥
+  not-unshrunk e = let z : true ≡ false = cc in subst lib.Dec.T z tt
 
   intensity-known : (S : Shrinkage) (E : Estimate) → ShrinkageInRange S (isSample E) r n P → badShrinkage S ≡ passes → notTheSample S E ≡ passes → noCorrelation S P n (at r n) ≡ passes → Known S (intensity S P n (at r n))
   unfolding intensity badShrinkage notTheSample
   intensity-known Unshrunk E q a b c = inr (zero-bounded intensityBounds)
   intensity-known (Fixed δ) E q a b c = inr (fixed δ (q .0) (q .1) (and-eq-true-iff (le zero⁺ δ) (le δ one) .0 (pass-must (le zero⁺ δ && le δ one) (BadSetting ShrinkageField) a)))
     where
-      fixed : (δ : Float) → lib.Dec.T (fits binary64 δ) → AtLeast intensityRange δ → (le zero⁺ δ ≡ true) × (le δ one ≡ true) → Shrinking.Intensity δ
-      fixed δ t a e = elim (unit-range intensityRange (lit≤ tt) δ t a (le-not-lt zero⁺ δ (e .0)) (le-not-lt δ one (e .1))) [ inl z ↦ absurd (at-least-nan δ z (e .0)) | inr q ↦ q ]
+      fixed : (δ : Float) → lib.Dec.T (fits binary64 δ) → AtLeast intensityRange δ → (le zero⁺ δ ≡ true) × (le δ one ≡ true) → Shrinkages.Intensity δ
+      fixed δ t a e = elim (unit-range intensityRange (lit≤ tt) δ t a (le-not-lt zero⁺ δ (e .0)) (le-not-lt δ one (e .1))) [ inl z ↦ no (sym (ap (le zero⁺) z) ∙ e .0) (unfold le in refl) | inr q ↦ q ]
   intensity-known (LedoitWolf F) E q a b c =
       let e : isSample E ≡ true = pass-must (isSample E) NotTheSample b in
       let l : All (AtLeast intensityRange) (ledoitWolf F P n (at r n) ∷ []) = subst (λ (w : Answer). All (AtLeast intensityRange) (answerParts n w [] .intensity)) (answers F c) (subst (λ (z : Bool). All (AtLeast intensityRange) (cond z (answerParts n (ledoitWolfIntensity r n P F) [] .intensity) [])) e q) in
-      elim (ledoitWolf-known F (l .0)) [ inl z ↦ inl (z, λ w. no w) | inr i ↦ inr i ]
+      elim (ledoitWolf-known F (l .0)) [ inl z ↦ inl (z, λ w. not-unshrunk w) | inr i ↦ inr i ]
 
 -- ---- the checks of the settings, and the adjusted matrix
-not-finite-nan : {A : Type 0} → isFinite nan ≡ true → A
-unfolding isFinite
-not-finite-nan e = absurd (subst lib.Dec.T (sym e) tt)
-
 module _ (k : ℕ) (small : k ≤ maxPower) (r : List Float) (sizes : All (Sized returnRange) r) (n P : ℕ) (s : Shape r n P) (side limit : ℕ) (S : Shrinkage) (H H' : Regularization) (h : Regularized (k + k) H H') (E E' : Estimate) (G G' : Matrix)
     (e : Based k n P side E E' (at r n) (at (map (shift (pos k)) r) n) G G') (δ : Float)
     (known : badShrinkage S ≡ passes → notTheSample S E ≡ passes → noCorrelation S P n (at r n) ≡ passes → Known S δ) where
@@ -131,9 +127,9 @@ module _ (k : ℕ) (small : k ≤ maxPower) (r : List Float) (sizes : All (Sized
         target-moved k n small (s .0) (s .1) b b' moved plus
         (λ i l. above-zero (b i i) (largest P x i) (moved-sqrt (moved i i l l) (sign-not-below (b i i) (plus i l)) .range)
         (tolerance-moved (returns k small r sizes n P s) (lit≤ tt) (omega arith) i l .range) (plus i l) (sign-largest P x i)
-        (ap (λ (v : Float). le (sqrt v) (1e-10 ⊗ largest P x i)) (is i i l l) ∙ first-all (λ i. le (sqrt (covariance P x i i)) (1e-10 ⊗ largest P x i)) n nothing i l))
+        (ap (λ (v : Float). isConstant (sqrt v) (largest P x i)) (is i i l l) ∙ first-all (λ i. isConstant (volatility (covariance P x) i) (largest P x i)) n nothing i l))
 
-    shrunk-moved : (S : Shrinkage) → Shrinking.Intensity δ → notTheSample S E ≡ passes → noCorrelation S P n (at r n) ≡ passes → (i j : ℕ) → i < n → j < n → Shrunken (k + k) (shrunk S δ n b i j) (shrunk S δ n b' i j)
+    shrunk-moved : (S : Shrinkage) → Shrinkages.Intensity δ → notTheSample S E ≡ passes → noCorrelation S P n (at r n) ≡ passes → (i j : ℕ) → i < n → j < n → Shrunken (k + k) (shrunk S δ n b i j) (shrunk S δ n b' i j)
     unfolding shrunk notTheSample noCorrelation
     shrunk-moved Unshrunk d e₄ e₅ i j l m = moved-within shrunkBounds tt (estimated i j l m)
     shrunk-moved (Fixed f) d e₄ e₅ i j l m = variance-mixed (k + k) double δ d n b b' i j (s .0) (s .1) estimated l m
@@ -185,7 +181,7 @@ module _ (k : ℕ) (small : k ≤ maxPower) (r : List Float) (sizes : All (Sized
       let f : (i j : ℕ) → i < n → j < n → a i j ≡ nan = λ i j l m. rows-at (regularized H (shrunk S δ n b)) n n i j l m ∙ h .nans (shrunk S δ n b) i j (void b i j) .0 in
       let f' : (i j : ℕ) → i < n → j < n → a' i j ≡ nan = λ i j l m. rows-at (regularized H' (shrunk S δ n b')) n n i j l m ∙ h .nans (shrunk S δ n b') i j (void b' i j) .1 in
       chain-must (allFinite n n a) CovarianceNotFinite (finite-same n n a' a (λ i j l m. ap isFinite (f' i j l m ∙ sym (f i j l m)))) (λ e₈.
-      not-finite-nan (sym (ap isFinite (f 0 0 (s .0) (s .0))) ∙ finite-all n n a e₈ 0 0 (s .0) (s .0)))
+      no (sym (ap isFinite (f 0 0 (s .0) (s .0))) ∙ finite-all n n a e₈ 0 0 (s .0) (s .0)) (unfold isFinite in refl))
 
   settings-chain : Chain Done (ofSettings (settings E S H limit) δ P n side x b a) (ofSettings (settings E' S H' limit) δ P n side y b' a')
   unfolding ofSettings
@@ -214,10 +210,10 @@ module _ (k : ℕ) (small : k ≤ maxPower) (r : List Float) (sizes : All (Sized
   δ r = intensity S P n (at r n)
 
   abbrev d : Estimate → Regularization → List Float → Decomposition
-  d E H g = decompositionOf (settings E S H limit) side (average side g)
+  d E H g = decompositionOf (settings E S H limit) g side
 
   abbrev estimate : Estimate → List Float → List Float → List Float
-  estimate E r g = baseOf (settings E S H limit) P n (at r n) (average side g)
+  estimate E r g = baseOf (settings E S H limit) P n (at r n) (average g side)
 
   abbrev adjusted : Float → Estimate → Regularization → List Float → List Float → List Float
   adjusted δ E H r g = rows n n (regularized H (shrunk S δ n (at (estimate E r g) n)))
@@ -235,15 +231,15 @@ module _ (k : ℕ) (small : k ≤ maxPower) (r : List Float) (sizes : All (Sized
 
   order : (slice slice' : List Float) → length slice' ≡ length slice
       → Chain (Outcome k n (δ r) (δ r') (d E H g) (d E' H' g') (at (adjusted (δ r) E H r g) n) (at (adjusted (δ r') E' H' r' g') n))
-      (adjustedOrder r n P (settings E S H limit) g side slice (d E H g) (δ r) (at (estimate E r g) n) (at (adjusted (δ r) E H r g) n))
-      (adjustedOrder r' n P (settings E' S H' limit) g' side slice' (d E' H' g') (δ r') (at (estimate E' r' g') n) (at (adjusted (δ r') E' H' r' g') n))
+      (adjustedOrder r n P (settings E S H limit) g side slice (δ r) (at (estimate E r g) n) (at (adjusted (δ r) E H r g) n))
+      (adjustedOrder r' n P (settings E' S H' limit) g' side slice' (δ r') (at (estimate E' r' g') n) (at (adjusted (δ r') E' H' r' g') n))
   unfolding adjustedOrder
   order slice slice' e =
       chain-append (opening-chain k small r sizes n P (n * n) slice slice' e (λ s opens.
       estimate-chain k small r sizes n P s side limit S H H' E E' g g' copied q q' given (λ based same.
       subst (λ (z : Float). Chain (Outcome k n (δ r) z (d E H g) (d E' H' g') (at (adjusted (δ r) E H r g) n) (at (adjusted z E' H' r' g') n)) (asked (δ r) E H r g) (asked z E' H' r' g')) (sym (intensity-same s))
       (chain-map (λ moved. record { intensity = refl; decomposition = same; entries = moved })
-      (settings-chain k small r sizes n P s side limit S H H' h E E' (average side g) (average side g') based (δ r) (intensity-known r n P opens S E shrinks))))))
+      (settings-chain k small r sizes n P s side limit S H H' h E E' (average g side) (average g' side) based (δ r) (intensity-known r n P opens S E shrinks))))))
 
   pub covariance-law : (slice slice' : List Float) → length slice' ≡ length slice
       → Alike (pos k) (parts n (ask r n P (Law.adjusted (settings E S H limit) g side) slice)) (parts n (ask r' n P (Law.adjusted (settings E' S H' limit) g' side) slice'))

@@ -1,4 +1,4 @@
--- Powers of two that document 01's limits on assets, periods and half-lives do not exceed: a sum over assets, periods or entries of a matrix grows by no more. Assumes nothing.
+-- Powers of two that document 01's limits on assets and periods do not exceed: a sum over assets, periods or entries of a matrix grows by no more. Assumes nothing.
 use Prim.Native.Nat.{ℕ, _+_, _*_, _^_, _≤_}
 use native.Mathlib.Nat.{le-trans, le-of-eq, mul-le-mul}
 use mathlib.Core.Path.{sym}
@@ -19,7 +19,7 @@ periodBits = 12
 pub period-bits : {n : ℕ} → n ≤ maxPeriods → n ≤ 2 ^ periodBits
 period-bits few = le-trans few (lit≤ tt)
 
--- the half-lives of the first weight's age
+-- the largest number of half-lives is this power of two itself, so that its product with a half-life is exact
 abbrev pub halfLifeBits : ℕ
 halfLifeBits = 6
 

@@ -1,7 +1,6 @@
 -- Three of the calls by their parts: what a call answers, as a function of its decomposition and of the checks that know the sweep limit. Assumes nothing.
 use mathlib.Core.Path.{_≡_, refl}
 use Prim.Native.Nat.{ℕ, _*_}
-use mathlib.Core.Bool.{not}
 use mathlib.Core.List.{List, [], _∷_, _++_}
 use lib.IntN.{ℤ}
 use lib.Ieee.{Float}
@@ -9,24 +8,24 @@ use Rattle.leaves.specs.Loops.{fill, nth}
 use Rattle.leaves.specs.Scaling.{binaryExponent, pow2Scaled}
 use Rattle.matrix.specs.Matrix.{at, amax}
 use Rattle.matrix.specs.Jacobi.{Decomposition}
-use Rattle.estimators.specs.Refusals.{Check, when, first}
+use Rattle.estimators.specs.Refusals.{Check, first}
 use Rattle.estimators.specs.Moments.{Moments}
+use Rattle.estimators.specs.Given.{average}
 use Rattle.estimators.specs.Adjusted.{decompositionOf, intensity, baseOf, adjustedOf}
 use Rattle.estimators.specs.JamesStein.{jamesSteinIntensity, towards}
-use Rattle.estimators.specs.BayesStein.{Pull, bayesSteinPull, pulled, exponentsOf, correlations}
-use Rattle.estimators.specs.Order.{opening, sweepLimit, ofGiven, ofSettings, byCorrelations, byDecomposition, adjustedOrder, jamesSteinOrder, bayesSteinOrder}
+use Rattle.estimators.specs.BayesStein.{MeanShrinkage, bayesSteinShrinkage, shrunkMean, exponentsOf, correlations}
+use Rattle.estimators.specs.Order.{opening, badSweepLimit, ofGiven, ofSettings, notFound, ofCorrelations, adjustedOrder, jamesSteinOrder, bayesSteinOrder}
 use Rattle.estimators.specs.Calls.{Answered, answered, settle, adjustedCovariance, jamesSteinMean, bayesSteinMean}
 use Rattle.estimators.specs.declared.Settings.{Settings}
-use Rattle.estimators.specs.declared.Refusal.the-variants.{Singular}
 use Rattle.estimators.specs.declared.Answer.the-variants.{Covariance, Shrunk}
+use Rattle.estimators.proofs.Opened.{answerOf}
 use Rattle.law.proofs.JamesStein as James
-use Rattle.law.proofs.Columns.{unitMoments, Σ, taken, sizeOf}
-use Rattle.law.proofs.Given.{average}
+use Rattle.law.proofs.Columns.{columnMoments, Σ, decomposedCorrelations, sizeOf}
 
 -- ---- the adjusted covariance
 module _ (r : List Float) (n P : ℕ) (s : Settings) (given : List Float) (side : ℕ) where
   abbrev pub estimated : List Float
-  estimated = baseOf s P n (at r n) (average side given)
+  estimated = baseOf s P n (at r n) (average given side)
 
   abbrev pub covariances : List Float
   covariances = adjustedOf s (intensity (s .shrinkage) P n (at r n)) n estimated
@@ -37,7 +36,7 @@ module _ (r : List Float) (n P : ℕ) (s : Settings) (given : List Float) (side 
   abbrev pub covarianceBy : List Float → Decomposition → List Check → Answered
   covarianceBy slice d cs = settle (first (opening r n P (n * n) slice ++ cs ++ ofAnswer)) slice (answered (Covariance (intensity (s .shrinkage) P n (at r n)) (d .sweeps) (d .rotations)) (fill (n * n) (nth covariances) slice))
 
-  pub covariance-is : (slice : List Float) → let d = decompositionOf s side (average side given) in adjustedCovariance r n P s given side slice ≡ covarianceBy slice d (ofGiven s given side d)
+  pub covariance-is : (slice : List Float) → adjustedCovariance r n P s given side slice ≡ covarianceBy slice (decompositionOf s given side) (ofGiven s given side)
   unfolding adjustedCovariance adjustedOrder
   covariance-is slice = refl
 
@@ -49,32 +48,31 @@ module _ (r : List Float) (n P : ℕ) where
   abbrev pub inUnit : Moments
   inUnit = James.unitMoments P n (at r n)
 
-  abbrev pub centre : Float
-  centre = James.centre n inUnit
+  abbrev pub unitGrandMean : Float
+  unitGrandMean = James.grandMeanOf n inUnit
 
   abbrev pub jamesDecomposition : ℕ → Decomposition
   jamesDecomposition limit = James.shrunk limit P n (at r n) .decomposition
 
   abbrev pub jamesBy : List Float → Decomposition → Check → Answered
   jamesBy slice d c =
-      let α = jamesSteinIntensity n inUnit centre d in
-      settle (first (opening r n P n slice ++ c ∷ when (not (d .found)) Singular ∷ [])) slice
-      (answered (Shrunk α (pow2Scaled centre unit) (d .sweeps) (d .rotations)) (fill n (λ i. pow2Scaled (towards α centre (nth (inUnit .mean) i)) unit) slice))
+      let α = jamesSteinIntensity n inUnit unitGrandMean d in
+      answerOf r n P n (c ∷ notFound d ∷ []) (Shrunk α (pow2Scaled unitGrandMean unit) (d .sweeps) (d .rotations)) (λ i. pow2Scaled (towards α unitGrandMean (nth (inUnit .mean) i)) unit) slice
 
-  pub james-is : (limit : ℕ) (slice : List Float) → jamesSteinMean r n P limit slice ≡ jamesBy slice (jamesDecomposition limit) (sweepLimit limit)
+  pub james-is : (limit : ℕ) (slice : List Float) → jamesSteinMean r n P limit slice ≡ jamesBy slice (jamesDecomposition limit) (badSweepLimit limit)
   unfolding jamesSteinMean jamesSteinOrder
   james-is limit slice = refl
 
   -- ---- the Bayes-Stein mean
-  abbrev pub pullBy : Decomposition → Pull
-  pullBy d = let m = unitMoments P n (at r n) in bayesSteinPull n (m .periods) (nth (m .mean)) (Σ n m) (exponentsOf P n (at r n)) d
+  abbrev pub shrinkageFrom : Decomposition → MeanShrinkage
+  shrinkageFrom d = let m = columnMoments P n (at r n) in bayesSteinShrinkage n (m .periods) (nth (m .mean)) (Σ n m) (exponentsOf P n (at r n)) d
 
   abbrev pub bayesBy : List Float → Decomposition → Check → Answered
   bayesBy slice d c =
-      let m = unitMoments P n (at r n) in
-      settle (first (opening r n P n slice ++ (c ∷ byCorrelations n (sizeOf P n (at r n)) (Σ n m) (correlations n m) ++ byDecomposition n d))) slice
-      (answered (Shrunk (pullBy d .intensity) (pullBy d .target) (d .sweeps) (d .rotations)) (fill n (λ i. pulled (pullBy d) (nth (m .mean) i) (exponentsOf P n (at r n) i)) slice))
+      let m = columnMoments P n (at r n) in
+      answerOf r n P n (c ∷ ofCorrelations n (sizeOf P n (at r n)) (Σ n m) (correlations n m) d) (Shrunk (shrinkageFrom d .intensity) (shrinkageFrom d .target) (d .sweeps) (d .rotations))
+      (λ i. shrunkMean (shrinkageFrom d) (nth (m .mean) i) (exponentsOf P n (at r n) i)) slice
 
-  pub bayes-is : (limit : ℕ) (slice : List Float) → bayesSteinMean r n P limit slice ≡ bayesBy slice (taken limit n (unitMoments P n (at r n))) (sweepLimit limit)
+  pub bayes-is : (limit : ℕ) (slice : List Float) → bayesSteinMean r n P limit slice ≡ bayesBy slice (decomposedCorrelations limit n (columnMoments P n (at r n))) (badSweepLimit limit)
   unfolding bayesSteinMean bayesSteinOrder
   bayes-is limit slice = refl

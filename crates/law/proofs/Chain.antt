@@ -12,9 +12,9 @@ use Rattle.estimators.specs.Refusals.{Detail, number, detail, Check, passes, re
 use Rattle.estimators.specs.Calls.{Answered, settle}
 use Rattle.estimators.specs.declared.Refusal.{Refusal}
 use Rattle.estimators.proofs.Passed.{passes-not, pass-test}
-use Rattle.law.specs.Law.{compared, AnswerParts, answerParts, Alike}
+use Rattle.law.specs.Law.{compared, Alike, parts}
 
--- both checks pass, and P holds; or both refuse with the same refusal at the same detail
+-- both checks pass, and P holds; or both refuse with the same number and what is compared of its detail
 pub data Both (P : Type 0) : Check → Check → Type 0 where
   accepted : P → Both P passes passes
   refused : {c c' : Refusal} → number c ≡ number c' → compared (detail c) ≡ compared (detail c') → Both P (refuses c) (refuses c')
@@ -40,7 +40,7 @@ module _ {P : Type 0} {cs cs' : List Check} where
       go passes = accepted tt
       go (refuses c) = refused refl refl
 
-  -- a test, with a refusal each of the same number and detail
+  -- a test, with a refusal each of the same number and what is compared of its detail
   pub chain-when : (b : Bool) {b' : Bool} (c c' : Refusal) → b' ≡ b → number c ≡ number c' → compared (detail c) ≡ compared (detail c') → (b ≡ false → Chain P cs cs') → Chain P (when b c ∷ cs) (when b' c' ∷ cs')
   chain-when b c c' e i p h = next (subst (λ (z : Bool). Both (Unit {0}) (when b c) (when z c')) (sym e) (alike b)) (λ q. h (pass-test b c q))
     where
@@ -84,9 +84,6 @@ chained (next (accepted u) h) = chained (h refl)
 chained (next (refused i p) h) = refused i p
 
 -- ---- the answer
-abbrev pub parts : ℕ → Answered → AnswerParts
-parts n w = answerParts n (w .answer) (w .slice)
-
 -- the two answers are alike if they are where both runs accept
 pub settled : {P : Type 0} {c c' : Check} → Both P c c' → (k : ℤ) (n : ℕ) (slice slice' : List Float) (w w' : Answered)
     → (c ≡ passes → c' ≡ passes → P → Alike k (parts n w) (parts n w')) → Alike k (parts n (settle c slice w)) (parts n (settle c' slice' w'))

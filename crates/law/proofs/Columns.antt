@@ -8,51 +8,49 @@ use mathlib.Core.Bool.{false}
 use lib.Dec.{lit≤, lit<}
 use lib.IntN.{ℤ, pos, negℤ, _+ℤ_}
 use lib.Pow.{pow-pos}
-use lib.Ieee.{Float, le, eq, ofBits}
+use lib.Ieee.{Float, eq, ofBits}
+use borrow.Author.Tests.{ne-eqb}
 use Rattle.leaves.specs.Numbers.{_⊗_, _⊘_, zero⁺, one, 1e-10}
 use Rattle.leaves.specs.Loops.{nth}
-use Rattle.leaves.specs.Root.{sqrt}
 use Rattle.leaves.specs.Scaling.{binaryExponent, pow2Scaled}
 use Rattle.leaves.proofs.Loops.{getD-tab}
 use Rattle.leaves.proofs.First.{first-ext}
-use Rattle.leaves.proofs.Whole.{over, under}
+use Rattle.leaves.proofs.Whole.{posPart, negPart}
 use Rattle.leaves.proofs.SqrtNearest.{moved-sqrt}
-use Rattle.leaves.proofs.Rounding.{near-least, held-pow}
+use Rattle.leaves.proofs.Rounding.{near-least, representable-pow}
 use Rattle.leaves.proofs.Units.{oneBits, U, U-pos, U-is, sign, mag, eq-zero}
 use Rattle.leaves.proofs.Range.{range-value, range-size, range-null}
 use Rattle.leaves.proofs.Bounds.{Bounded, rootOf, only-zero}
 use Rattle.leaves.proofs.Operations.{Moved, still, moved-mul, moved-over}
-use Rattle.leaves.proofs.Signs.{sign-mul, sign-sqrt, sign-not-below}
+use Rattle.leaves.proofs.Signs.{sign-mul, sign-not-below, sign-sqrt}
 use Rattle.leaves.proofs.PowersOfTwo.{zero-scaled, exponent-shift, exponent-null}
 use Rattle.leaves.proofs.Scale.{sign-scaled}
 use Rattle.matrix.specs.Matrix.{Matrix, at}
 use Rattle.matrix.specs.Jacobi.{Decomposition, decompose}
 use Rattle.matrix.proofs.Stored.{rows-at}
-use Rattle.estimators.specs.Sample.{mean, deviation, gram, covariance, largest, constantAsset, scaled}
+use Rattle.estimators.specs.Sample.{mean, deviation, gram, covariance, volatility, largest, isConstant, constantAsset, scaled}
 use Rattle.estimators.specs.Moments.{Moments, moments}
 use Rattle.estimators.specs.BayesStein.{exponentsOf, largestIn, correlations}
-use borrow.Author.Tests.{ne-eqb}
 use Rattle.estimators.proofs.SameReturns.{moments-same}
 use Rattle.law.specs.Law.{maxPower}
 use Rattle.law.proofs.Ranges.{zeroBounds, returnBounds, tenBillionthBounds, covarianceOf, exponentAbove, exponentBelow, unitBounds, unitMeanBounds, unitVarianceBounds, unitVolatilityBounds, toleranceBounds, steadyVolatilityBounds, inverseBounds, meanOverBounds}
-use Rattle.law.proofs.Sizes.{plus-val, le-no}
-use Rattle.law.proofs.Sample.{Returns, entries-as, covariance-moved, largest-moved, largest-above, ten-billionth-moved, ten-billionth-above}
-use Rattle.law.proofs.Scaled.{scaled-least, exponent-within}
-use Rattle.law.proofs.Correlation.{sign-variance, sign-largest, above-zero}
+use Rattle.law.proofs.Comparisons.{plus-val, le-no}
+use Rattle.law.proofs.Sample.{Returns, entries-as, covariance-moved, largest-moved, largest-above, means-moved}
+use Rattle.law.proofs.Constant.{ten-billionth-moved, ten-billionth-above, sign-variance, sign-largest, above-zero}
+use Rattle.law.proofs.Scaled.{Within, scaled-least, exponent-within}
 use Rattle.law.proofs.Shrinkage.{one-moved}
-use Rattle.law.proofs.Moments.{means-moved}
 use Rattle.law.proofs.Opening.{returns-scalable, column}
 use Rattle.law.proofs.Ratio.{product-is, quotient-is}
 
 -- ---- the parts of the call
-abbrev pub unitMoments : ℕ → ℕ → Matrix → Moments
-unitMoments P n x = moments P n (scaled (exponentsOf P n x) x)
+abbrev pub columnMoments : ℕ → ℕ → Matrix → Moments
+columnMoments P n x = moments P n (scaled (exponentsOf P n x) x)
 
 abbrev pub Σ : ℕ → Moments → Matrix
 Σ n m = at (m .covariance) n
 
-abbrev pub taken : ℕ → ℕ → Moments → Decomposition
-taken limit n m = decompose limit n (correlations n m)
+abbrev pub decomposedCorrelations : ℕ → ℕ → Moments → Decomposition
+decomposedCorrelations limit n m = decompose limit n (correlations n m)
 
 abbrev pub sizeOf : ℕ → ℕ → Matrix → ℕ → Float
 sizeOf P n x = largestIn (exponentsOf P n x) P x
@@ -62,54 +60,54 @@ exponent-at P n x i l = getD-tab n (λ i. binaryExponent (largest P x i)) i (pos
 
 -- ---- each column over its power of two
 module _ {k n P : ℕ} {x y : Matrix} (small : k ≤ maxPower) (r : Returns k n P returnBounds x y) where
-  entry-same : (t i : ℕ) → t < P → i < n → scaled (exponentsOf P n y) y t i ≡ scaled (exponentsOf P n x) x t i
+  abbrev u : Matrix
+  u = scaled (exponentsOf P n x) x
+
+  abbrev m : Moments
+  m = columnMoments P n x
+
+  entry-same : (t i : ℕ) → t < P → i < n → scaled (exponentsOf P n y) y t i ≡ u t i
   unfolding scaled
   entry-same t i a b =
       ap (λ (e : ℤ). pow2Scaled (y t i) (negℤ e)) (exponent-at P n y i b) ∙ column small r i b .same (r .entries t i a b) (largest-above r t i a b) ∙ sym (ap (λ (e : ℤ). pow2Scaled (x t i) (negℤ e)) (exponent-at P n x i b))
 
-  pub unit-moments-same : unitMoments P n y ≡ unitMoments P n x
-  unit-moments-same = moments-same n P (scaled (exponentsOf P n y) y) (scaled (exponentsOf P n x) x) entry-same
+  pub column-moments-same : columnMoments P n y ≡ m
+  column-moments-same = moments-same n P (scaled (exponentsOf P n y) y) (scaled (exponentsOf P n x) x) entry-same
 
   size-same : (i : ℕ) → i < n → sizeOf P n y i ≡ sizeOf P n x i
   size-same i b =
       ap (λ (e : ℤ). pow2Scaled (largest P y i) (negℤ e)) (exponent-at P n y i b) ∙ column small r i b .same (largest-moved r i b) (le-refl (mag (largest P x i))) ∙ sym (ap (λ (e : ℤ). pow2Scaled (largest P x i) (negℤ e)) (exponent-at P n x i b))
 
-  pub constant-same : (m : Moments) → constantAsset n (Σ n m) (sizeOf P n y) ≡ constantAsset n (Σ n m) (sizeOf P n x)
+  pub column-constant-same : (m : Moments) → constantAsset n (Σ n m) (sizeOf P n y) ≡ constantAsset n (Σ n m) (sizeOf P n x)
   unfolding constantAsset
-  constant-same m = first-ext n (λ i. le (sqrt (Σ n m i i)) (1e-10 ⊗ sizeOf P n y i)) (λ i. le (sqrt (Σ n m i i)) (1e-10 ⊗ sizeOf P n x i)) (λ i l. ap (λ (s : Float). le (sqrt (Σ n m i i)) (1e-10 ⊗ s)) (size-same i l))
+  column-constant-same m = first-ext n (λ i. isConstant (volatility (Σ n m) i) (sizeOf P n y i)) (λ i. isConstant (volatility (Σ n m) i) (sizeOf P n x i)) (λ i l. ap (λ (s : Float). isConstant (volatility (Σ n m) i) s) (size-same i l))
 
-  abbrev u : Matrix
-  u = scaled (exponentsOf P n x) x
-
-  entry-is : (t i : ℕ) → t < P → i < n → scaled (exponentsOf P n x) x t i ≡ pow2Scaled (x t i) (negℤ (binaryExponent (largest P x i)))
+  entry-is : (t i : ℕ) → i < n → u t i ≡ pow2Scaled (x t i) (negℤ (binaryExponent (largest P x i)))
   unfolding scaled
-  entry-is t i a b = ap (λ (e : ℤ). pow2Scaled (x t i) (negℤ e)) (exponent-at P n x i b)
+  entry-is t i b = ap (λ (e : ℤ). pow2Scaled (x t i) (negℤ e)) (exponent-at P n x i b)
 
   -- below 2 in size
-  units : Returns 0 n P unitBounds (scaled (exponentsOf P n x) x) (scaled (exponentsOf P n x) x)
-  units = entries-as r (λ t i a b. still unitBounds (subst (Bounded unitBounds) (sym (entry-is t i a b)) (column small r i b .moved (r .entries t i a b) (largest-above r t i a b) .range)))
+  units : Returns 0 n P unitBounds (u) (u)
+  units = entries-as r (λ t i a b. still unitBounds (subst (Bounded unitBounds) (sym (entry-is t i b)) (column small r i b .moved (r .entries t i a b) (largest-above r t i a b) .range)))
 
-  abbrev m : Moments
-  m = unitMoments P n x
-
-  pub μ-range : (i : ℕ) → i < n → Bounded unitMeanBounds (nth (unitMoments P n x .mean) i)
+  pub μ-range : (i : ℕ) → i < n → Bounded unitMeanBounds (nth (m .mean) i)
   μ-range i a = means-moved units zero-le i a .range
 
-  variance-is : (i : ℕ) → i < n → Σ n (unitMoments P n x) i i ≡ covariance P (scaled (exponentsOf P n x) x) i i
+  variance-is : (i : ℕ) → i < n → Σ n (m) i i ≡ covariance P (u) i i
   unfolding moments
   variance-is i a = rows-at (covariance P u) n n i i a a
 
-  variance-range : (i : ℕ) → i < n → Bounded unitVarianceBounds (Σ n (unitMoments P n x) i i)
+  variance-range : (i : ℕ) → i < n → Bounded unitVarianceBounds (Σ n (m) i i)
   variance-range i a = rw (variance-is i a) (covariance-moved units (lit≤ tt, lit≤ tt, lit≤ tt, lit≤ tt) i i a a .range)
 
-  variance-plus : (i : ℕ) → i < n → sign (Σ n (unitMoments P n x) i i) ≡ false
+  variance-plus : (i : ℕ) → i < n → sign (Σ n (m) i i) ≡ false
   variance-plus i a = ap sign (variance-is i a) ∙ sign-variance P u i
 
-  v-range : (i : ℕ) → i < n → Bounded unitVolatilityBounds (sqrt (Σ n (unitMoments P n x) i i))
+  v-range : (i : ℕ) → i < n → Bounded unitVolatilityBounds (volatility (Σ n (m)) i)
   v-range i a = moved-sqrt {k = 0} (still unitVarianceBounds (variance-range i a)) (sign-not-below (Σ n m i i) (variance-plus i a)) .range
 
   -- ---- a column that is accepted
-  module _ (i : ℕ) (a : i < n) (h : le (sqrt (Σ n (unitMoments P n x) i i)) (1e-10 ⊗ sizeOf P n x i) ≡ false) where
+  module _ (i : ℕ) (a : i < n) (h : isConstant (volatility (Σ n (columnMoments P n x)) i) (sizeOf P n x i) ≡ false) where
     abbrev A : Float
     A = largest P x i
 
@@ -125,14 +123,14 @@ module _ {k n P : ℕ} {x y : Matrix} (small : k ≤ maxPower) (r : Returns k n 
     tolerance-range : Bounded toleranceBounds (1e-10 ⊗ sizeOf P n x i)
     tolerance-range = moved-mul ten-billionth-moved (still unitBounds size-range) (lit≤ tt) (lit≤ tt) .range
 
-    v-above : 0 < mag (sqrt (Σ n (unitMoments P n x) i i))
+    v-above : 0 < mag (volatility (Σ n (m)) i)
     v-above = above-zero (Σ n m i i) (sizeOf P n x i) (v-range i a) tolerance-range (variance-plus i a) size-plus h
 
     -- the column is not zero: the volatility of zeros is a zero, for their bounds leave room for nothing else
     not-zero : 0 < mag (largest P x i)
     not-zero = elim (eq-zero-or-pos (mag A)) [ inr p ↦ p | inl z ↦ absurd (zeros z) ]
       where
-        same-column : covariance P (λ t j. scaled (exponentsOf P n x) x t i) i i ≡ covariance P (scaled (exponentsOf P n x) x) i i
+        same-column : covariance P (λ t j. u t i) i i ≡ covariance P (u) i i
         same-column = unfold covariance gram deviation mean in refl
 
         zeros : mag (largest P x i) ≡ 0 → ⊥
@@ -141,7 +139,7 @@ module _ {k n P : ℕ} {x y : Matrix} (small : k ≤ maxPower) (r : Returns k n 
             let zero-entry : (t : ℕ) → t < P → Bounded zeroBounds (scaled (exponentsOf P n x) x t i) = λ t l.
             let q = r .entries t i l a .range in
             let e = le-antisymm (le-trans (largest-above r t i l a) (le-of-eq z)) zero-le in
-            rw (entry-is t i l a, zero-scaled (x t i) (negℤ (binaryExponent (largest P x i))) (q .fit) (q .finite) e) (range-null (x t i) (q .fit) (q .finite) e (zeroBounds .grain) (2 ^ zeroBounds .least) (2 ^ zeroBounds .most)) in
+            rw (entry-is t i a, zero-scaled (x t i) (negℤ (binaryExponent (largest P x i))) (q .fit) (q .finite) e) (range-null (x t i) (q .fit) (q .finite) e (zeroBounds .grain) (2 ^ zeroBounds .least) (2 ^ zeroBounds .most)) in
             let R : Returns 0 n P zeroBounds w w = entries-as r (λ t j l b. still zeroBounds (zero-entry t l)) in
             let u : Moved 0 (covarianceOf zeroBounds) (Σ n m i i) (Σ n m i i) = rw (variance-is i a, ← same-column) (covariance-moved R (lit≤ tt, lit≤ tt, lit≤ tt, lit≤ tt) i i a a) in
             let v = moved-sqrt {k = 0} u (sign-not-below (Σ n m i i) (variance-plus i a)) .range in
@@ -150,28 +148,28 @@ module _ {k n P : ℕ} {x y : Matrix} (small : k ≤ maxPower) (r : Returns k n 
     pub grows : exponentsOf P n y i ≡ exponentsOf P n x i +ℤ pos k
     grows = exponent-at P n y i a ∙ ap binaryExponent (largest-moved r i a .copy) ∙ exponent-shift (pos k) A (A-range .finite) not-zero ∙ ap (λ (e : ℤ). e +ℤ pos k) (sym (exponent-at P n x i a))
 
-    pub exponent-small : (over (exponentsOf P n x i) ≤ exponentAbove returnBounds) × (under (exponentsOf P n x i) ≤ exponentBelow returnBounds)
+    pub exponent-small : Within (exponentAbove returnBounds) (exponentBelow returnBounds) (exponentsOf P n x i)
     exponent-small = rw (exponent-at P n x i a) (column small r i a .small)
 
     -- at least the tolerance of a column whose largest is at least 1
-    v-least : 2 ^ tenBillionthBounds .least ≤ mag (sqrt (Σ n (unitMoments P n x) i i))
+    v-least : 2 ^ tenBillionthBounds .least ≤ mag (volatility (Σ n (m)) i)
     v-least =
         let t = 1e-10 ⊗ sizeOf P n x i in
         let one : 2 ^ oneBits ≤ mag (sizeOf P n x i) = rw (exponent-at P n x i a) (scaled-least returnBounds A A-range not-zero returns-scalable) in
         let least : 2 ^ tenBillionthBounds .least ≤ mag t = rw (product-is 1e-10 (sizeOf P n x i) (ten-billionth-moved .range .fit) (size-range .fit) (tolerance-range .finite))
-        (near-least (mag 1e-10 * mag (sizeOf P n x i)) U (2 ^ tenBillionthBounds .least) U-pos (held-pow (tenBillionthBounds .least)) (le-trans (le-of-eq (ap (λ (z : ℕ). 2 ^ tenBillionthBounds .least * z) U-is)) (mul-le-mul (ten-billionth-moved .range .least ten-billionth-above) one))) in
-        le-of-lt (lt-of-le-of-lt least (le-no (sqrt (Σ n m i i)) t (plus-val (sqrt (Σ n m i i)) (v-range i a .fit) (v-range i a .finite) (sign-sqrt (Σ n m i i) (variance-plus i a))) (plus-val t (tolerance-range .fit) (tolerance-range .finite) (sign-mul 1e-10 (sizeOf P n x i) (unfold sign ofBits in sym size-plus))) h))
+        (near-least (mag 1e-10 * mag (sizeOf P n x i)) U (2 ^ tenBillionthBounds .least) U-pos (representable-pow (tenBillionthBounds .least)) (le-trans (le-of-eq (ap (λ (z : ℕ). 2 ^ tenBillionthBounds .least * z) U-is)) (mul-le-mul (ten-billionth-moved .range .least ten-billionth-above) one))) in
+        le-of-lt (lt-of-le-of-lt least (le-no (volatility (Σ n m) i) t (plus-val (volatility (Σ n m) i) (v-range i a .fit) (v-range i a .finite) (sign-sqrt (Σ n m i i) (variance-plus i a))) (plus-val t (tolerance-range .fit) (tolerance-range .finite) (sign-mul 1e-10 (sizeOf P n x i) (unfold sign ofBits in sym size-plus))) h))
 
-    v-moved : Moved 0 steadyVolatilityBounds (sqrt (Σ n (unitMoments P n x) i i)) (sqrt (Σ n (unitMoments P n x) i i))
-    v-moved = still steadyVolatilityBounds (range-size (steadyVolatilityBounds .least) (2 ^ steadyVolatilityBounds .most) (sqrt (Σ n m i i)) (lit≤ tt) (v-range i a .fit) (v-range i a .finite) (inr v-least) (v-range i a .most))
+    v-moved : Moved 0 steadyVolatilityBounds (volatility (Σ n (m)) i) (volatility (Σ n (m)) i)
+    v-moved = still steadyVolatilityBounds (range-size (steadyVolatilityBounds .least) (2 ^ steadyVolatilityBounds .most) (volatility (Σ n m) i) (lit≤ tt) (v-range i a .fit) (v-range i a .finite) (inr v-least) (v-range i a .most))
 
     -- its inverse, and the mean over it
-    inverse-range : Bounded inverseBounds (one ⊘ sqrt (Σ n (unitMoments P n x) i i))
+    inverse-range : Bounded inverseBounds (one ⊘ volatility (Σ n (m)) i)
     inverse-range = moved-over one-moved v-moved v-above (lit≤ tt) (lit≤ tt) .range
 
-    inverse-above : 0 < mag (one ⊘ sqrt (Σ n (unitMoments P n x) i i))
-    inverse-above = rw (quotient-is one (sqrt (Σ n m i i)) (one-moved .range .fit) (v-range i a .fit) (v-range i a .finite) v-above (inverse-range .finite))
-        (lt-of-lt-of-le (pow-pos (inverseBounds .least)) (near-least (mag one * U) (mag (sqrt (Σ n m i i))) (2 ^ inverseBounds .least) v-above (held-pow (inverseBounds .least))
+    inverse-above : 0 < mag (one ⊘ volatility (Σ n (m)) i)
+    inverse-above = rw (quotient-is one (volatility (Σ n m) i) (one-moved .range .fit) (v-range i a .fit) (v-range i a .finite) v-above (inverse-range .finite))
+        (lt-of-lt-of-le (pow-pos (inverseBounds .least)) (near-least (mag one * U) (mag (volatility (Σ n m) i)) (2 ^ inverseBounds .least) v-above (representable-pow (inverseBounds .least))
         (le-trans (mul-le-mul-left (2 ^ inverseBounds .least) (v-range i a .most)) (le-trans powers (mul-le-mul-right U one-least)))))
       where
         one-least : 2 ^ oneBits ≤ mag one
@@ -180,19 +178,19 @@ module _ {k n P : ℕ} {x y : Matrix} (small : k ≤ maxPower) (r : Returns k n 
         powers : 2 ^ inverseBounds .least * 2 ^ unitVolatilityBounds .most ≤ 2 ^ oneBits * U
         powers = unfold U in lit≤ tt
 
-    pub inverse-some : eq (one ⊘ sqrt (Σ n (unitMoments P n x) i i)) zero⁺ ≡ false
-    inverse-some = eq-zero (one ⊘ sqrt (Σ n m i i)) (inverse-range .fit) (inverse-range .finite) ∙ ne-eqb (mag (one ⊘ sqrt (Σ n m i i))) 0 (λ e. lt-irrefl 0 (subst (λ (n : ℕ). 0 < n) e inverse-above))
+    pub inverse-some : eq (one ⊘ volatility (Σ n (m)) i) zero⁺ ≡ false
+    inverse-some = eq-zero (one ⊘ volatility (Σ n m) i) (inverse-range .fit) (inverse-range .finite) ∙ ne-eqb (mag (one ⊘ volatility (Σ n m) i)) 0 (λ e. lt-irrefl 0 (subst (λ (n : ℕ). 0 < n) e inverse-above))
 
-    pub inverse-exponent : (over (binaryExponent (one ⊘ sqrt (Σ n (unitMoments P n x) i i))) ≤ exponentAbove inverseBounds) × (under (binaryExponent (one ⊘ sqrt (Σ n (unitMoments P n x) i i))) ≤ exponentBelow inverseBounds)
-    inverse-exponent = exponent-within inverseBounds (one ⊘ sqrt (Σ n m i i)) inverse-range inverse-above (lit≤ tt) (lit≤ tt)
+    pub inverse-exponent : Within (exponentAbove inverseBounds) (exponentBelow inverseBounds) (binaryExponent (one ⊘ volatility (Σ n (m)) i))
+    inverse-exponent = exponent-within inverseBounds (one ⊘ volatility (Σ n m) i) inverse-range inverse-above (lit≤ tt) (lit≤ tt)
 
-    pub mean-over-range : Bounded meanOverBounds (nth (unitMoments P n x .mean) i ⊘ sqrt (Σ n (unitMoments P n x) i i))
+    pub mean-over-range : Bounded meanOverBounds (nth (m .mean) i ⊘ volatility (Σ n (m)) i)
     mean-over-range = moved-over (still unitMeanBounds (μ-range i a)) v-moved v-above (lit≤ tt) (lit≤ tt) .range
 
-    pub mean-over-exponent : (over (binaryExponent (nth (unitMoments P n x .mean) i ⊘ sqrt (Σ n (unitMoments P n x) i i))) ≤ exponentAbove meanOverBounds) × (under (binaryExponent (nth (unitMoments P n x .mean) i ⊘ sqrt (Σ n (unitMoments P n x) i i))) ≤ exponentBelow meanOverBounds)
+    pub mean-over-exponent : Within (exponentAbove meanOverBounds) (exponentBelow meanOverBounds) (binaryExponent (nth (m .mean) i ⊘ volatility (Σ n (m)) i))
     mean-over-exponent =
-        let z = nth (m .mean) i ⊘ sqrt (Σ n m i i) in
+        let z = nth (m .mean) i ⊘ volatility (Σ n m) i in
         elim (eq-zero-or-pos (mag z)) [
           | inr p ↦ exponent-within meanOverBounds z mean-over-range p (lit≤ tt) (lit≤ tt)
-          | inl e ↦ (rw (exponent-null z (range-value mean-over-range) e) (unfold over under in (zero-le, zero-le)))
+          | inl e ↦ (rw (exponent-null z (range-value mean-over-range) e) (unfold posPart negPart in (zero-le, zero-le)))
         ]

@@ -13,12 +13,12 @@ use lib.Ieee.{Float, eq}
 use Rattle.leaves.specs.Numbers.{zero⁺}
 use Rattle.leaves.specs.Loops.{loop}
 use Rattle.leaves.specs.Scaling.{binaryExponent}
-use Rattle.leaves.proofs.Whole.{over, under, plus, same, over-neg, under-neg, lt-yes, lt-no}
+use Rattle.leaves.proofs.Whole.{posPart, negPart, plus, same, posPart-neg, negPart-neg, lt-yes, lt-no}
 use Rattle.leaves.proofs.Zero.{no}
 use Rattle.estimators.specs.BayesStein.{largerZ, orZero, commonExponent, withExponent}
 
 abbrev pub LeZ : ℤ → ℤ → Type 0
-LeZ a b = over a + under b ≤ over b + under a
+LeZ a b = posPart a + negPart b ≤ posPart b + negPart a
 
 module _ (m : ℕ → Float) (k : ℕ → ℤ) where
   abbrev pub exponent : ℕ → ℤ
@@ -47,22 +47,22 @@ module _ (m : ℕ → Float) (k : ℕ → ℤ) where
     largest = λ i l z. elim (eq-or-lt-of-le (le-of-suc-le-suc l)) [ inl q ↦ subst (λ (j : ℕ). LeZ (exponent j) o) (sym q) (h (subst (λ (j : ℕ). eq (m j) zero⁺ ≡ false) q z)) | inr q ↦ r .largest i q z ];
   }
 
-  rises : (n : ℕ) → eq (m n) zero⁺ ≡ false → ((i : ℕ) → i < n → eq (m i) zero⁺ ≡ false → LeZ (exponent i) (exponent n)) → Top (suc n) (exponent n)
-  rises n e h = record {
+  rises : (n : ℕ) → ((i : ℕ) → i < n → eq (m i) zero⁺ ≡ false → LeZ (exponent i) (exponent n)) → Top (suc n) (exponent n)
+  rises n h = record {
     at = n;
     below = lt-suc-self n;
     is = refl;
-    largest = λ i l z. elim (eq-or-lt-of-le (le-of-suc-le-suc l)) [ inl q ↦ subst (λ (j : ℕ). LeZ (exponent j) (exponent n)) (sym q) (le-refl (over (exponent n) + under (exponent n))) | inr q ↦ h i q z ];
+    largest = λ i l z. elim (eq-or-lt-of-le (le-of-suc-le-suc l)) [ inl q ↦ subst (λ (j : ℕ). LeZ (exponent j) (exponent n)) (sym q) (le-refl (posPart (exponent n) + negPart (exponent n))) | inr q ↦ h i q z ];
   }
 
   next : (n : ℕ) (o : Option ℤ) → Reached n o → (b : Bool) → eq (m n) zero⁺ ≡ b → Reached (suc n) (elim b [ true ↦ o | false ↦ largerZ o (binaryExponent (m n) +ℤ k n) ])
   next n none r true e = λ i l. elim (eq-or-lt-of-le (le-of-suc-le-suc l)) [ inl q ↦ ap (λ (i : ℕ). eq (m i) zero⁺) q ∙ e | inr q ↦ r i q ]
-  next n none r false e = rises n e (λ i l z. no (r i l) z)
+  next n none r false e = rises n (λ i l z. no (r i l) z)
   next n (some o) r true e = stays n o r (λ z. no e z)
   next n (some o) r false e = go (ltZ o (exponent n)) refl
     where
       go : (b : Bool) → ltZ o (exponent n) ≡ b → Top (suc n) (cond b (exponent n) o)
-      go true h = rises n e (λ i l z. let a = r .largest i l z in let c = lt-yes o (exponent n) h in omega arith)
+      go true h = rises n (λ i l z. let a = r .largest i l z in let c = lt-yes o (exponent n) h in omega arith)
       go false h = stays n o r (λ z. lt-no o (exponent n) h)
 
   reached : (n : ℕ) → Reached n (loop n step none)
@@ -96,12 +96,12 @@ module _ (m : ℕ → Float) (k : ℕ → ℤ) where
       go (some o) r = (r .at, r .below, r .is)
 
 -- every exponent is lower by j
-lowered : (x e f : ℤ) (j : ℕ) → f ≡ e +ℤ pos j → over (x +ℤ negℤ f) + j + under (x +ℤ negℤ e) ≡ over (x +ℤ negℤ e) + under (x +ℤ negℤ f)
-unfolding over under
-lowered x e f j h = rw h (omega (arith, plus x (negℤ e), plus x (negℤ (e +ℤ pos j)), over-neg e, under-neg e, over-neg (e +ℤ pos j), under-neg (e +ℤ pos j), plus e (pos j)))
+lowered : (x e f : ℤ) (j : ℕ) → f ≡ e +ℤ pos j → posPart (x +ℤ negℤ f) + j + negPart (x +ℤ negℤ e) ≡ posPart (x +ℤ negℤ e) + negPart (x +ℤ negℤ f)
+unfolding posPart negPart
+lowered x e f j h = rw h (omega (arith, plus x (negℤ e), plus x (negℤ (e +ℤ pos j)), posPart-neg e, negPart-neg e, posPart-neg (e +ℤ pos j), negPart-neg (e +ℤ pos j), plus e (pos j)))
 
 pub common-lower : (m : ℕ → Float) (e f : ℕ → ℤ) (j n : ℕ) → 0 < n → ((i : ℕ) → i < n → f i ≡ e i +ℤ pos j) → ((i : ℕ) → i < n → eq (m i) zero⁺ ≡ false) → commonExponent n m (λ i. negℤ (f i)) +ℤ pos j ≡ commonExponent n m (λ i. negℤ (e i))
-unfolding over under
+unfolding posPart negPart
 common-lower m e f j n p h z =
     let A = commonExponent n m (λ i. negℤ (e i)) in
     let B = commonExponent n m (λ i. negℤ (f i)) in
@@ -113,4 +113,4 @@ common-lower m e f j n p h z =
     let w = common-above m (λ i. negℤ (e i)) n l (b .1) (z l (b .1)) in
     let x = lowered (binaryExponent (m i)) (e i) (f i) j (h i (a .1)) in
     let y = lowered (binaryExponent (m l)) (e l) (f l) j (h l (b .1)) in
-    same (B +ℤ pos j) A (omega (arith, plus B (pos j), ap over (a .2), ap under (a .2), ap over (b .2), ap under (b .2)))
+    same (B +ℤ pos j) A (omega (arith, plus B (pos j), ap posPart (a .2), ap negPart (a .2), ap posPart (b .2), ap negPart (b .2)))

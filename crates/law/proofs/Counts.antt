@@ -13,7 +13,7 @@ use Rattle.matrix.specs.Rotation.{State}
 use Rattle.matrix.specs.Jacobi.{Decomposition, Test, test, converged, stops, isConverged, afterSweeps, stopping, sweeping, start, tolerance, initial, swept, scaledBack, decompose, unturned}
 use Rattle.matrix.proofs.Sweeps.{sweeping-is, sweeps-bound, decompose-is}
 use Rattle.matrix.proofs.Rotations.{rotations-bound}
-use Rattle.estimators.specs.Given.{decomposeGiven}
+use Rattle.estimators.specs.Given.{average, decomposeGiven}
 use Rattle.estimators.specs.JamesStein.{decomposeUnequal}
 use Rattle.estimators.specs.Adjusted.{isGiven, decompositionOf}
 use Rattle.estimators.specs.Calls.{ledoitWolfIntensity, exponentiallyWeightedMean}
@@ -23,10 +23,9 @@ use Rattle.estimators.specs.declared.Answer.the-variants.{Refused, Covariance, 
 use Rattle.estimators.specs.BayesStein.{correlations}
 use Rattle.law.specs.Law as Law
 use Rattle.law.specs.Law.{Question, ask}
-use Rattle.law.proofs.Columns.{unitMoments}
-use Rattle.law.proofs.Passing.{settled}
+use Rattle.law.proofs.Columns.{columnMoments}
+use Rattle.law.proofs.Passing.{settle-cases}
 use Rattle.law.proofs.Calls.{covariance-is, james-is, bayes-is}
-use Rattle.law.proofs.Given.{average}
 
 -- ---- the counts of a decomposition of n rows
 abbrev pub Few : ℕ → ℕ → ℕ → ℕ → Type 0
@@ -58,12 +57,12 @@ unequal-few limit n u Σ = go (eq u zero⁺)
     go true = none-few n n limit true
     go false = decompose-few limit n Σ
 
-settings-few : (s : Settings) (side : ℕ) (g : Matrix) → FewOf side (s .limit) (decompositionOf s side g)
+settings-few : (s : Settings) (given : List Float) (side : ℕ) → FewOf side (s .limit) (decompositionOf s given side)
 unfolding decompositionOf
-settings-few s side g = go (isGiven (s .estimate))
+settings-few s given side = go (isGiven (s .estimate))
   where
-    go : (b : Bool) → FewOf side (s .limit) (elim b [ true ↦ decomposeGiven (s .limit) side g | false ↦ unturned 0 true ])
-    go true = given-few (s .limit) side g
+    go : (b : Bool) → FewOf side (s .limit) (elim b [ true ↦ decomposeGiven (s .limit) side (average given side) | false ↦ unturned 0 true ])
+    go true = given-few (s .limit) side (average given side)
     go false = none-few side 0 (s .limit) true
 
 -- ---- the counts that a call reports, of a matrix of n rows
@@ -75,12 +74,12 @@ Counted n limit Mean = Unit {0}
 Counted n limit (Shrunk α μ₀ sweeps rotations) = Few n limit sweeps rotations
 
 -- what is decomposed has the given matrix's side, or a row for each asset
-abbrev pub decomposed : ℕ → Question → ℕ
-decomposed n (Law.adjusted s given side) = side
-decomposed n (Law.intensity F) = 0
-decomposed n (Law.weightedMean halfLife) = 0
-decomposed n (Law.jamesStein limit) = n
-decomposed n (Law.bayesStein limit) = n
+abbrev pub decomposedSide : ℕ → Question → ℕ
+decomposedSide n (Law.adjusted s given side) = side
+decomposedSide n (Law.intensity F) = 0
+decomposedSide n (Law.weightedMean halfLife) = 0
+decomposedSide n (Law.jamesStein limit) = n
+decomposedSide n (Law.bayesStein limit) = n
 
 abbrev pub limitOf : Question → ℕ
 limitOf (Law.adjusted s given side) = s .limit
@@ -89,17 +88,17 @@ limitOf (Law.weightedMean halfLife) = 0
 limitOf (Law.jamesStein limit) = limit
 limitOf (Law.bayesStein limit) = limit
 
-pub counted : (r : List Float) (n P : ℕ) (q : Question) (slice : List Float) → Counted (decomposed n q) (limitOf q) (ask r n P q slice .answer)
-counted r n P (Law.adjusted s given side) slice = rw (covariance-is r n P s given side slice) (settled (Counted side (s .limit)) (λ c. tt) _ slice _ (λ h. settings-few s side (average side given)))
-counted r n P (Law.intensity F) slice = unfold ledoitWolfIntensity in settled (Counted 0 0) (λ c. tt) _ _ _ (λ h. tt)
-counted r n P (Law.weightedMean halfLife) slice = unfold exponentiallyWeightedMean in settled (Counted 0 0) (λ c. tt) _ slice _ (λ h. tt)
-counted r n P (Law.jamesStein limit) slice = rw (james-is r n P limit slice) (settled (Counted n limit) (λ c. tt) _ slice _ (λ h. unequal-few limit n _ _))
-counted r n P (Law.bayesStein limit) slice = rw (bayes-is r n P limit slice) (settled (Counted n limit) (λ c. tt) _ slice _ (λ h. decompose-few limit n (correlations n (unitMoments P n (at r n)))))
+pub counted : (r : List Float) (n P : ℕ) (q : Question) (slice : List Float) → Counted (decomposedSide n q) (limitOf q) (ask r n P q slice .answer)
+counted r n P (Law.adjusted s given side) slice = rw (covariance-is r n P s given side slice) (settle-cases (Counted side (s .limit)) (λ c. tt) _ slice _ (λ h. settings-few s given side))
+counted r n P (Law.intensity F) slice = unfold ledoitWolfIntensity in settle-cases (Counted 0 0) (λ c. tt) _ _ _ (λ h. tt)
+counted r n P (Law.weightedMean halfLife) slice = unfold exponentiallyWeightedMean in settle-cases (Counted 0 0) (λ c. tt) _ slice _ (λ h. tt)
+counted r n P (Law.jamesStein limit) slice = rw (james-is r n P limit slice) (settle-cases (Counted n limit) (λ c. tt) _ slice _ (λ h. unequal-few limit n _ _))
+counted r n P (Law.bayesStein limit) slice = rw (bayes-is r n P limit slice) (settle-cases (Counted n limit) (λ c. tt) _ slice _ (λ h. decompose-few limit n (correlations n (columnMoments P n (at r n)))))
 
 -- ---- the first test
-sweeping-first : (limit n : ℕ) (most : Float) (st : State) → 0 < limit → test n most st ≡ converged → (sweeping limit n most st .done ≡ true) × (sweeping limit n most st .sweeps ≡ 0)
+sweeping-first : (limit n : ℕ) (tolerance : Float) (st : State) → 0 < limit → test n tolerance st ≡ converged → (sweeping limit n tolerance st .done ≡ true) × (sweeping limit n tolerance st .sweeps ≡ 0)
 unfolding afterSweeps loop
-sweeping-first limit n most st p e = rw (sweeping-is n most st limit, first-at (stopping n most st) 0 limit (first-none _) (ap stops e) p) (ap isConverged e, refl)
+sweeping-first limit n tolerance st p e = rw (sweeping-is n tolerance st limit, first-at (stopping n tolerance st) 0 limit (first-none _) (ap stops e) p) (ap isConverged e, refl)
 
 -- what the first test says of a matrix over its largest entry
 abbrev pub firstTest : ℕ → Matrix → Test

@@ -1,4 +1,4 @@
--- Document 01, "How tight" c: a diagonal matrix is decomposed at every limit above 0, so a diagonal given matrix is not refused 13 there. Its entries off the diagonal stay zeros of either sign up to the
+-- Document 01, "How tight" c: a diagonal matrix is decomposed at every limit above 0, and so is a diagonal given matrix whose averages with its transpose are finite (of the call: `NotDecomposed`). Its entries off the diagonal stay zeros of either sign up to the
 -- first test, which they pass. Assumes nothing.
 use mathlib.Core.Path.{_≡_, refl, sym, ap, _∙_, subst}
 use Prim.Native.Nat.{ℕ, zero, suc, _*_, _/_, _%_, _<_}
@@ -16,19 +16,19 @@ use Rattle.leaves.specs.Numbers.{_⊕_, _⊗_, _⊘_, zero⁺, two, isFinite}
 use Rattle.leaves.specs.Root.{sqrt}
 use Rattle.leaves.proofs.Loops.{kept-loop}
 use Rattle.leaves.proofs.First.{none-first}
-use Rattle.leaves.proofs.Zero.{no, other-is-not, not-above, zero-not-above}
+use Rattle.leaves.proofs.Zero.{Zero, no, other-is-not, not-above, zero-not-above}
 use Rattle.leaves.proofs.Units.{sign, nonzero-pos}
 use Rattle.leaves.proofs.Keys.{number, finite-number}
 use Rattle.matrix.specs.Matrix.{Matrix, at, rows, amax, averaged, sumOver, squares, firstEntry, allFinite, symmetrized, divided}
 use Rattle.matrix.specs.Jacobi.{Decomposition, Test, fails, converged, goesOn, offDiagonal, test, start, decompose, unturned, tolerance, initial}
-use Rattle.matrix.proofs.Stored.{rows-at, by-cell, amax-finite}
-use Rattle.matrix.proofs.Identity.{scaledEntry, start-is, quotients-finite}
-use Rattle.matrix.proofs.Alike.{finite-all}
+use Rattle.matrix.proofs.Stored.{rows-at, by-cell}
+use Rattle.matrix.proofs.Identity.{scaledEntry, start-is}
+use Rattle.matrix.proofs.Quotients.{quotients-finite}
+use Rattle.matrix.proofs.Finite.{finite-all, amax-finite}
 use Rattle.matrix.proofs.Sweeps.{decompose-is}
-use Rattle.estimators.specs.Given.{decomposeGiven}
+use Rattle.estimators.specs.Given.{average, decomposeGiven}
 use Rattle.law.proofs.Counts.{firstTest, found-at-once}
-use Rattle.law.proofs.Given.{average}
-use Rattle.law.proofs.Zeros.{Zero, Plus, zero-is, zero-add, zero-square, zero-half, zero-double, zero-average, is-zero, zero-over, number-zero-plus, number-twice, number-half, plus-square, plus-add, plus-tolerance, zero-below}
+use Rattle.law.proofs.Zeros.{Plus, zero-is, zero-add, zero-square, zero-half, zero-double, zero-average, is-zero, zero-over, number-zero-plus, number-twice, number-half, plus-square, plus-add, plus-tolerance, zero-below}
 
 -- ---- the first test
 module _ (n : ℕ) (l : List Float) (numbers : (i j : ℕ) → i < n → j < n → T (number (at l n i j))) (zeros : (i j : ℕ) → i < n → j < n → i < j → Zero (at l n i j)) where
@@ -71,34 +71,34 @@ module _ (n : ℕ) (a : Matrix) (fit : (i j : ℕ) → i < n → j < n → T (fi
       zero-over (a i j) (amax n n a) (zero-is (a i j) (fit i j hi hj) (diagonal i j hi hj d)) (largest .0) (largest .1) (nonzero-pos (amax n n a) largest nonzero)
 
   -- an entry over the largest, as the sweeps begin with it
-  begun : Matrix
-  begun = symmetrized (scaledEntry (amax n n a) a)
+  startEntry : Matrix
+  startEntry = symmetrized (scaledEntry (amax n n a) a)
 
-  begun-zero : (i j : ℕ) → i < n → j < n → (i ≡ j → ⊥) → Zero (begun i j)
-  unfolding begun
-  begun-zero i j hi hj d =
+  start-entry-zero : (i j : ℕ) → i < n → j < n → (i ≡ j → ⊥) → Zero (startEntry i j)
+  unfolding startEntry
+  start-entry-zero i j hi hj d =
       let q : (i j : ℕ) → i < n → j < n → (i ≡ j → ⊥) → Zero (scaledEntry (amax n n a) a i j) = λ i j hi hj d. zero-add zero⁺ (a i j ⊘ amax n n a) (false, refl) (over-zero i j hi hj d) in
       zero-half (scaledEntry (amax n n a) a i j ⊕ scaledEntry (amax n n a) a j i) (zero-add (scaledEntry (amax n n a) a i j) (scaledEntry (amax n n a) a j i) (q i j hi hj d) (q j i hj hi (λ e. d (sym e))))
 
-  begun-number : (i j : ℕ) → i < n → j < n → T (number (begun i j))
+  start-entry-number : (i j : ℕ) → i < n → j < n → T (number (startEntry i j))
   unfolding isNan
-  begun-number i j hi hj = go (eqb i j) refl
+  start-entry-number i j hi hj = go (eqb i j) refl
     where
-      same : (i : ℕ) → i < n → T (number (begun i i))
-      same i h = unfold begun in number-half (scaledEntry (amax n n a) a i i ⊕ scaledEntry (amax n n a) a i i) (number-twice (scaledEntry (amax n n a) a i i) (number-zero-plus (a i i ⊘ amax n n a) (finite-number (a i i ⊘ amax n n a) (quotients-finite n a fit all nonzero i i h h .1))))
+      same : (i : ℕ) → i < n → T (number (startEntry i i))
+      same i h = unfold startEntry in number-half (scaledEntry (amax n n a) a i i ⊕ scaledEntry (amax n n a) a i i) (number-twice (scaledEntry (amax n n a) a i i) (number-zero-plus (a i i ⊘ amax n n a) (finite-number (a i i ⊘ amax n n a) (quotients-finite n a fit all nonzero i i h h .1))))
 
-      go : (b : Bool) → eqb i j ≡ b → T (number (begun i j))
-      go true e = subst (λ (j : ℕ). T (number (begun i j))) (eqb-true i j e) (same i hi)
-      go false e = let z = begun-zero i j hi hj (eqb-false i j e) in rw (z .1) tt
+      go : (b : Bool) → eqb i j ≡ b → T (number (startEntry i j))
+      go true e = subst (λ (j : ℕ). T (number (startEntry i j))) (eqb-true i j e) (same i hi)
+      go false e = let z = start-entry-zero i j hi hj (eqb-false i j e) in rw (z .1) tt
 
-  start-begun : start n (amax n n a) a ≡ rows n n begun
-  unfolding begun
-  start-begun = start-is n (amax n n a) a (quotients-finite n a fit all nonzero)
+  start-entries : start n (amax n n a) a ≡ rows n n startEntry
+  unfolding startEntry
+  start-entries = start-is n (amax n n a) a (quotients-finite n a fit all nonzero)
 
   diagonal-converges : firstTest n a ≡ converged
   diagonal-converges =
-      let l = rows n n begun in
-      rw start-begun (passes-test n l (λ i j hi hj. rw (rows-at begun n n i j hi hj) (begun-number i j hi hj)) (λ i j hi hj h. rw (rows-at begun n n i j hi hj) (begun-zero i j hi hj (λ e. lt-irrefl j (subst (λ (k : ℕ). k < j) e h)))))
+      let l = rows n n startEntry in
+      rw start-entries (passes-test n l (λ i j hi hj. rw (rows-at startEntry n n i j hi hj) (start-entry-number i j hi hj)) (λ i j hi hj h. rw (rows-at startEntry n n i j hi hj) (start-entry-zero i j hi hj (λ e. lt-irrefl j (subst (λ (k : ℕ). k < j) e h)))))
 
 pub diagonal-found : (limit n : ℕ) (a : Matrix) → 0 < limit → ((i j : ℕ) → i < n → j < n → T (fits binary64 (a i j))) → allFinite n n a ≡ true → Diagonal n a → decompose limit n a .found ≡ true
 diagonal-found limit n a p fit all diagonal = go (eq (amax n n a) zero⁺) refl
@@ -124,28 +124,28 @@ above-not (fin s (suc m) d) e = other-is-not s m d
 
 -- the averages, and their quotients by the largest
 module _ (n : ℕ) (g : List Float) (fit : (i j : ℕ) → i < n → j < n → T (fits binary64 (at g n i j))) (diagonal : Diagonal n (at g n)) where
-  averages-fit : (i j : ℕ) → i < n → j < n → T (fits binary64 (average n g i j))
+  averages-fit : (i j : ℕ) → i < n → j < n → T (fits binary64 (average g n i j))
   averages-fit i j hi hj = rw (rows-at (averaged (at g n)) n n i j hi hj) (div-fits binary64 (at g n i j ⊕ at g n j i) two)
 
-  averages-diagonal : Diagonal n (average n g)
+  averages-diagonal : Diagonal n (average g n)
   averages-diagonal i j hi hj d =
       let z : (i j : ℕ) → i < n → j < n → (i ≡ j → ⊥) → Zero (at g n i j) = λ i j hi hj d. zero-is (at g n i j) (fit i j hi hj) (diagonal i j hi hj d) in
       ap (λ (x : Float). eq x zero⁺) (rows-at (averaged (at g n)) n n i j hi hj)
       ∙ is-zero (averaged (at g n) i j) (zero-average (at g n i j ⊕ at g n j i) (zero-add (at g n i j) (at g n j i) (z i j hi hj d) (z j i hj hi (λ e. d (sym e)))))
 
-  pub given-diagonal : (limit : ℕ) → 0 < limit → allFinite n n (average n g) ≡ true → decomposeGiven limit n (average n g) .found ≡ true
+  pub given-diagonal : (limit : ℕ) → 0 < limit → allFinite n n (average g n) ≡ true → decomposeGiven limit n (average g n) .found ≡ true
   unfolding decomposeGiven
-  given-diagonal limit p all = go (lt zero⁺ (amax n n (average n g))) refl
+  given-diagonal limit p all = go (lt zero⁺ (amax n n (average g n))) refl
     where
       quotients : Matrix
-      quotients = divided (average n g) (amax n n (average n g))
+      quotients = divided (average g n) (amax n n (average g n))
 
       chosen : Bool → Decomposition
       chosen x = elim x [ true ↦ decompose limit n quotients | false ↦ unturned n true ]
 
-      go : (x : Bool) → lt zero⁺ (amax n n (average n g)) ≡ x → chosen x .found ≡ true
+      go : (x : Bool) → lt zero⁺ (amax n n (average g n)) ≡ x → chosen x .found ≡ true
       go false e = unfold unturned in refl
       go true e =
-          let w = above-not (amax n n (average n g)) e in
-          let f = quotients-finite n (average n g) averages-fit all w in
-          diagonal-found limit n quotients p (λ i j hi hj. f i j hi hj .0) (finite-from n quotients (λ i j hi hj. f i j hi hj .1)) (λ i j hi hj d. is-zero (quotients i j) (over-zero n (average n g) averages-fit all averages-diagonal w i j hi hj d))
+          let w = above-not (amax n n (average g n)) e in
+          let f = quotients-finite n (average g n) averages-fit all w in
+          diagonal-found limit n quotients p (λ i j hi hj. f i j hi hj .0) (finite-from n quotients (λ i j hi hj. f i j hi hj .1)) (λ i j hi hj d. is-zero (quotients i j) (over-zero n (average g n) averages-fit all averages-diagonal w i j hi hj d))

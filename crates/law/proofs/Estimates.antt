@@ -20,10 +20,11 @@ use Rattle.leaves.proofs.Zero.{no}
 use Rattle.leaves.proofs.Operations.{moved-within}
 use Rattle.matrix.specs.Matrix.{Matrix, at}
 use Rattle.estimators.specs.Refusals.{passes, when, whenSome}
-use Rattle.estimators.specs.Sample.{covariance, largest, constantAsset}
+use Rattle.estimators.specs.Sample.{covariance, largest}
 use Rattle.estimators.specs.Weighted.{logDecay, accepted}
+use Rattle.estimators.specs.Given.{average}
 use Rattle.estimators.specs.Adjusted.{isSample, isGiven, decompositionOf, base}
-use Rattle.estimators.specs.Order.{badHalfLife, badEstimate, noVariance, ofGiven}
+use Rattle.estimators.specs.Order.{badHalfLife, badEstimate, constantReturns, noVariance, ofGiven}
 use Rattle.estimators.specs.Settings.{settings}
 use Rattle.estimators.specs.declared.Estimate.{Estimate}
 use Rattle.estimators.specs.declared.Estimate.the-variants.{Sample, Given, Weighted, Semi, SemiBelow}
@@ -36,10 +37,11 @@ use Rattle.law.proofs.Ranges.{returnBounds, estimateBounds}
 use Rattle.law.proofs.Numbers.{copy-shift}
 use Rattle.law.proofs.Chain.{Chain, ends, pass-must}
 use Rattle.law.proofs.Sizes.{sized-fits}
-use Rattle.law.proofs.Sample.{Returns, constant-same}
+use Rattle.law.proofs.Sample.{Returns}
+use Rattle.law.proofs.Constant.{constant-same}
 use Rattle.law.proofs.Opening.{Shape, returns, sample-moved, semi-moved, semiBelow-moved}
 use Rattle.law.proofs.Weighted as Weighted
-use Rattle.law.proofs.Given.{average, average-moved, decomposition-same, given-chain}
+use Rattle.law.proofs.Given.{average-moved, decomposition-same, given-chain}
 use Rattle.law.proofs.Shrinkage.{Estimated}
 
 pub record Based (k n P side : ℕ) (E E' : Estimate) (x y G G' : Matrix) : Type 0 where
@@ -57,22 +59,22 @@ module _ (k : ℕ) (small : k ≤ maxPower) (r : List Float) (sizes : All (Sized
   abbrev y : Matrix
   y = at (map (shift (pos k)) r) n
 
-  abbrev R : Returns k n P returnBounds (at r n) (at (map (shift (pos k)) r) n)
+  abbrev R : Returns k n P returnBounds x y
   R = returns k small r sizes n P s
 
   -- 9, of a variance from the returns
-  varies : (b b' : Matrix) → ((i : ℕ) → i < n → b' i i ≡ shift (pos (k + k)) (b i i)) → whenSome (constantAsset n b' (largest P y)) ZeroVariance ≡ whenSome (constantAsset n b (largest P x)) ZeroVariance
+  varies : (b b' : Matrix) → ((i : ℕ) → i < n → b' i i ≡ shift (pos (k + k)) (b i i)) → constantReturns n b' (largest P y) ≡ constantReturns n b (largest P x)
   varies b b' e = ap (λ (o : Option ℕ). whenSome o ZeroVariance) (constant-same R (lit≤ tt) (omega arith) b b' e)
 
-  from-sample : Based k n P side Sample Sample (at r n) (at (map (shift (pos k)) r) n) G G'
+  from-sample : Based k n P side Sample Sample x y G G'
   unfolding base noVariance
   from-sample = record { bad = refl; sample = refl; given = refl; entries = λ e e' i j a b. moved-within estimateBounds tt (sample-moved k small r sizes n P s i j a b); variance = varies; sampled = λ e i j. (refl, refl) }
 
-  from-semi : Based k n P side Semi Semi (at r n) (at (map (shift (pos k)) r) n) G G'
+  from-semi : Based k n P side Semi Semi x y G G'
   unfolding base noVariance
   from-semi = record { bad = refl; sample = refl; given = refl; entries = λ e e' i j a b. moved-within estimateBounds tt (semi-moved k small r sizes n P s i j a b); variance = varies; sampled = λ e. no e refl }
 
-  from-threshold : (θ θ' : Float) → Sized returnRange θ → θ' ≡ shift (pos k) θ → Based k n P side (SemiBelow θ) (SemiBelow θ') (at r n) (at (map (shift (pos k)) r) n) G G'
+  from-threshold : (θ θ' : Float) → Sized returnRange θ → θ' ≡ shift (pos k) θ → Based k n P side (SemiBelow θ) (SemiBelow θ') x y G G'
   unfolding badEstimate base noVariance
   from-threshold θ θ' z e = record {
     bad = ap (λ (b : Bool). when (not b) (BadSetting ThresholdField)) (ap isFinite e ∙ isFinite-shift (pos k) θ);
@@ -83,13 +85,13 @@ module _ (k : ℕ) (small : k ≤ maxPower) (r : List Float) (sizes : All (Sized
     sampled = λ e. no e refl;
   }
 
-  from-weights : (h : Float) → EstimateInRange P (Weighted h) → Based k n P side (Weighted h) (Weighted h) (at r n) (at (map (shift (pos k)) r) n) G G'
+  from-weights : (h : Float) → EstimateInRange P (Weighted h) → Based k n P side (Weighted h) (Weighted h) x y G G'
   unfolding badEstimate badHalfLife base noVariance
   from-weights h long = record { bad = refl; sample = refl; given = refl; entries = λ q q' i j a b. Weighted.covariance-moved small R h long (pass-must (accepted (logDecay h)) (BadSetting HalfLifeField) q) i j a b; variance = varies; sampled = λ e. no e refl }
 
 -- a given matrix, where its slice has the right length
 module _ (k : ℕ) (small : k ≤ maxPower) (n P side : ℕ) (x y : Matrix) (g : List Float) (sizes : All (Sized covarianceRange) g) (full : length g ≡ side * side) where
-  from-given : Based k n P side Given Given x y (average side g) (average side (map (shift (pos (k + k))) g))
+  from-given : Based k n P side Given Given x y (average g side) (average (map (shift (pos (k + k))) g) side)
   unfolding base noVariance
   from-given = record {
     bad = refl;
@@ -97,7 +99,7 @@ module _ (k : ℕ) (small : k ≤ maxPower) (n P side : ℕ) (x y : Matrix) (g :
     given = refl;
     entries = λ q q' i j a b.
         let e : side ≡ n = eqb-true side n (not-false (eqb side n) q') in
-        moved-within estimateBounds tt (average-moved (k + k) (omega arith) side 0 g sizes full i j (lt-of-lt-of-le a (le-of-eq (sym e))) (lt-of-lt-of-le b (le-of-eq (sym e))));
+        moved-within estimateBounds tt (average-moved (k + k) (omega arith) side g sizes full i j (lt-of-lt-of-le a (le-of-eq (sym e))) (lt-of-lt-of-le b (le-of-eq (sym e))));
     variance = λ b b' e. ap (λ (o : Option ℕ). whenSome o ZeroVariance) (first-ext n (λ i. eq (b' i i) zero⁺) (λ i. eq (b i i) zero⁺) (λ i l. ap₂ eq (e i l) (sym (shift-zero⁺ (pos (k + k)))) ∙ eq-shift (pos (k + k)) (b i i) zero⁺));
     sampled = λ e. no e refl;
   }
@@ -105,16 +107,16 @@ module _ (k : ℕ) (small : k ≤ maxPower) (n P side : ℕ) (x y : Matrix) (g :
 -- ---- the checks of a given matrix, and after them what is known of the estimate
 pub estimate-chain : {Q : Type 0} (k : ℕ) (small : k ≤ maxPower) (r : List Float) (sizes : All (Sized returnRange) r) (n P : ℕ) (s : Shape r n P) (side limit : ℕ) (S : Shrinkage) (H H' : Regularization) (E E' : Estimate) (g g' : List Float)
     → CopiedEstimate (pos k) E E' → EstimateInRange P E → EstimateInRange P E' → (isGiven E ≡ true → All (Sized covarianceRange) g × (g' ≡ map (shift (pos (k + k))) g))
-    → (Based k n P side E E' (at r n) (at (map (shift (pos k)) r) n) (average side g) (average side g') → decompositionOf (settings E' S H' limit) side (average side g') ≡ decompositionOf (settings E S H limit) side (average side g) → Q)
-    → Chain Q (ofGiven (settings E S H limit) g side (decompositionOf (settings E S H limit) side (average side g))) (ofGiven (settings E' S H' limit) g' side (decompositionOf (settings E' S H' limit) side (average side g')))
+    → (Based k n P side E E' (at r n) (at (map (shift (pos k)) r) n) (average g side) (average g' side) → decompositionOf (settings E' S H' limit) g' side ≡ decompositionOf (settings E S H limit) g side → Q)
+    → Chain Q (ofGiven (settings E S H limit) g side) (ofGiven (settings E' S H' limit) g' side)
 unfolding ofGiven decompositionOf
-estimate-chain k small r sizes n P s side limit S H H' E E' g g' sample q q' known then = ends (then (from-sample k small r sizes n P s side (average side g) (average side g')) refl)
-estimate-chain k small r sizes n P s side limit S H H' E E' g g' semi q q' known then = ends (then (from-semi k small r sizes n P s side (average side g) (average side g')) refl)
-estimate-chain k small r sizes n P s side limit S H H' E E' g g' (weighted {halfLife = h}) q q' known then = ends (then (from-weights k small r sizes n P s side (average side g) (average side g') h q) refl)
+estimate-chain k small r sizes n P s side limit S H H' E E' g g' sample q q' known then = ends (then (from-sample k small r sizes n P s side (average g side) (average g' side)) refl)
+estimate-chain k small r sizes n P s side limit S H H' E E' g g' semi q q' known then = ends (then (from-semi k small r sizes n P s side (average g side) (average g' side)) refl)
+estimate-chain k small r sizes n P s side limit S H H' E E' g g' (weighted {halfLife = h}) q q' known then = ends (then (from-weights k small r sizes n P s side (average g side) (average g' side) h q) refl)
 estimate-chain k small r sizes n P s side limit S H H' E E' g g' (semiBelow {x = θ} {y = θ'} c) q q' known then =
-    ends (then (from-threshold k small r sizes n P s side (average side g) (average side g') θ θ' q (copy-shift k θ θ' (sized-fits returnRange θ q) (sized-fits returnRange θ' q') c)) refl)
+    ends (then (from-threshold k small r sizes n P s side (average g side) (average g' side) θ θ' q (copy-shift k θ θ' (sized-fits returnRange θ q) (sized-fits returnRange θ' q') c)) refl)
 estimate-chain {Q} k small r sizes n P s side limit S H H' E E' g g' given q q' known then =
     let m = known refl in
-    subst (λ (g' : List Float). (Based k n P side Given Given (at r n) (at (map (shift (pos k)) r) n) (average side g) (average side g') → decompositionOf (settings Given S H' limit) side (average side g') ≡ decompositionOf (settings Given S H limit) side (average side g) → Q)
-    → Chain Q (ofGiven (settings Given S H limit) g side (decompositionOf (settings Given S H limit) side (average side g))) (ofGiven (settings Given S H' limit) g' side (decompositionOf (settings Given S H' limit) side (average side g')))) (sym (m .1))
-    (λ then. given-chain (k + k) (omega arith) side limit g (m .0) S S H H' (λ full. then (from-given k small n P side (at r n) (at (map (shift (pos k)) r) n) g (m .0) full) (decomposition-same (k + k) (omega arith) side limit g (m .0) full))) then
+    subst (λ (g' : List Float). (Based k n P side Given Given (at r n) (at (map (shift (pos k)) r) n) (average g side) (average g' side) → decompositionOf (settings Given S H' limit) g' side ≡ decompositionOf (settings Given S H limit) g side → Q)
+    → Chain Q (ofGiven (settings Given S H limit) g side) (ofGiven (settings Given S H' limit) g' side)) (sym (m .1))
+    (λ then. given-chain (k + k) (omega arith) side g (m .0) limit S H H' (λ full. then (from-given k small n P side (at r n) (at (map (shift (pos k)) r) n) g (m .0) full) (decomposition-same (k + k) (omega arith) side g (m .0) full limit))) then

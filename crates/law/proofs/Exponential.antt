@@ -12,24 +12,24 @@ use lib.IntN.{ℤ, pos, negsuc, negℤ}
 use lib.Pow.{pow-add, pow-pos, pow-mono}
 use lib.Ieee.{Float, nan, inf, fin, binary64, fits, up, down, unlike, ofInt, ofBits, lt, le, sub, neg}
 use lib.Ieee.Back.{round-whole}
-use lib.Ieee.Fits.{down-pos, add-fits, mul-fits}
+use lib.Ieee.Fits.{down-pos, add-fits}
 use lib.Ieee.Positive.{first-pos}
 use borrow.Author.Tests.{lt-ltb, le-ltb, eq-eqb}
 use Rattle.leaves.specs.Numbers.{_⊕_, _⊖_, _⊗_, _⊘_, zero⁺, half, one, count, isFinite}
 use Rattle.leaves.specs.Scaling.{pow2Scaled}
 use Rattle.leaves.specs.Shift.{shift}
 use Rattle.leaves.specs.Exp.{minArgument, ln2, H, L, floor, horner, nearestPower, reduced, exp, expM1}
-use Rattle.leaves.proofs.Whole.{le-or-lt, over, under, over-neg, under-neg}
-use Rattle.leaves.proofs.Rounding.{near, Held, Near, near-most, near-least, near-error, near-held, held-times}
+use Rattle.leaves.proofs.Whole.{le-or-lt, posPart, negPart, posPart-neg, negPart-neg}
+use Rattle.leaves.proofs.Rounding.{near, Representable, Near, near-most, near-least, near-error, near-representable, representable-times}
 use Rattle.leaves.proofs.Units.{topBits, U, U-pos, Top, Val, sign, mag, val-of, val-mag, val-finite, mag-shift, zero-val, neg-val, rounded, rounded-val, lt-val, eq-val, one-val}
-use Rattle.leaves.proofs.Arithmetic.{sumSign, total, total-le, add-rounded, mul-rounded, div-rounded}
+use Rattle.leaves.proofs.Arithmetic.{sumSign, sumSize, sumSize-le, add-rounded, mul-rounded, div-rounded}
 use Rattle.leaves.proofs.Bounds.{Bounds, Bounded}
 use Rattle.leaves.proofs.Range.{Range, count-val, range-size, range-finer, range-weaken}
 use Rattle.leaves.proofs.Shift.{shift-forth}
 use Rattle.leaves.proofs.Signs.{sign-shift}
 use Rattle.leaves.proofs.PowersOfTwo.{range-move, scaled-moves}
 use Rattle.law.proofs.Ranges.{hornerBounds, weightPower, weightBounds}
-use Rattle.law.proofs.Sizes.{plus-val}
+use Rattle.law.proofs.Comparisons.{plus-val}
 
 -- ---- 1/32
 unfoldable pub W : ℕ
@@ -50,9 +50,9 @@ ageMost = 48 * 32
 abbrev pub argumentMost : ℕ
 argumentMost = 2 * ageMost
 
-held-W : (c : ℕ) → c < 2 ^ 53 → Held (c * W)
+representable-W : (c : ℕ) → c < 2 ^ 53 → Representable (c * W)
 unfolding W
-held-W c h = held-times c 1069 h
+representable-W c h = representable-times c 1069 h
 
 under-W : (c : ℕ) → c ≤ 8192 → c * W < Top
 unfolding W Top
@@ -61,7 +61,7 @@ under-W c h = lt-of-le-of-lt (mul-le-mul-right (2 ^ 1069) h) (lit< tt)
 -- ---- results with a bound of c / 32
 within : (c : ℕ) → c ≤ 8192 → (z : Float) (s : Bool) (n d : ℕ) → 0 < d → z ≡ rounded s n d → n ≤ c * W * d → Val z s (near n d) × (near n d ≤ c * W)
 within c few z s n d D e h =
-    let m = near-most n d (c * W) D (held-W c (le-trans (omega arith) (lit≤ {m = 8193} tt))) h in
+    let m = near-most n d (c * W) D (representable-W c (le-trans (omega arith) (lit≤ {m = 8193} tt))) h in
     (rw e (rounded-val s n d D (lt-of-le-of-lt m (under-W c few))), m)
 
 module _ (c : ℕ) (few : c ≤ 8192) (x y : Float) (s t : Bool) (a b : ℕ) (v : Val x s a) (w : Val y t b) where
@@ -71,8 +71,8 @@ module _ (c : ℕ) (few : c ≤ 8192) (x y : Float) (s t : Bool) (a b : ℕ) (v 
   div-most : 0 < b → a * U ≤ c * W * b → Val (x ⊘ y) (unlike s t) (near (a * U) b) × (near (a * U) b ≤ c * W)
   div-most B h = within c few (x ⊘ y) (unlike s t) (a * U) b B (div-rounded x y s t a b v w B) h
 
-  add-most : total s a t b ≤ c * W → Val (x ⊕ y) (sumSign s a t b) (near (total s a t b) 1) × (near (total s a t b) 1 ≤ c * W)
-  add-most h = within c few (x ⊕ y) (sumSign s a t b) (total s a t b) 1 (zero-lt-suc 0) (add-rounded x y s t a b v w) (le-trans h (le-of-eq (sym (mul-one (c * W)))))
+  add-most : sumSize s a t b ≤ c * W → Val (x ⊕ y) (sumSign s a t b) (near (sumSize s a t b) 1) × (near (sumSize s a t b) 1 ≤ c * W)
+  add-most h = within c few (x ⊕ y) (sumSign s a t b) (sumSize s a t b) 1 (zero-lt-suc 0) (add-rounded x y s t a b v w) (le-trans h (le-of-eq (sym (mul-one (c * W)))))
 
 half-val : Val half false (16 * W)
 unfolding U W
@@ -92,7 +92,7 @@ one-plus c few x t b v h = go t v
     more = native.Mathlib.Nat.add-mul 32 c W
 
     least : (n : ℕ) → (32 - c) * W ≤ n → (32 - c) * W ≤ near n 1
-    least n l = near-least n 1 ((32 - c) * W) (zero-lt-suc 0) (held-W (32 - c) (le-trans (omega arith) (lit≤ {m = 33} tt))) (le-trans (le-of-eq (mul-one ((32 - c) * W))) l)
+    least n l = near-least n 1 ((32 - c) * W) (zero-lt-suc 0) (representable-W (32 - c) (le-trans (omega arith) (lit≤ {m = 33} tt))) (le-trans (le-of-eq (mul-one ((32 - c) * W))) l)
 
     go : (t : Bool) → Val x t b → (d : ℕ) × Val (one ⊕ x) false d × ((32 - c) * W ≤ d) × (d ≤ (32 + c) * W)
     go false v =
@@ -239,7 +239,7 @@ module _ (y : Float) (Y : ℕ) (v : Val y true Y) (few : Y ≤ argumentMost * W)
   quotient : Val (y ⊘ ln2) true Z
   unfolding Z
   quotient = div-most 8192 (lit≤ tt) y ln2 true false Y N v ln2-val N-pos
-      (let n = N-is .0 in let w = U-W in le-trans (mul-le-mul-right U few) (turn N U W n)) .0
+      (let n = N-is .0 in le-trans (mul-le-mul-right U few) (turn N U W n)) .0
     where
       turn : (N U W : ℕ) → 69314 * U ≤ 100000 * N → argumentMost * W * U ≤ 8192 * W * N
       turn N U W h = let f = mul-le-mul-right W h in omega arith
@@ -249,7 +249,7 @@ module _ (y : Float) (Y : ℕ) (v : Val y true Y) (few : Y ≤ argumentMost * W)
   unfolding nearestPower floor
   zero-power h = record {
     K = 0;
-    is = go (y ⊘ ln2 ⊕ half) sum (near-most (16 * W - Z) 1 (16 * W) (zero-lt-suc 0) (held-W 16 (lit< tt)) (omega arith));
+    is = go (y ⊘ ln2 ⊕ half) sum (near-most (16 * W - Z) 1 (16 * W) (zero-lt-suc 0) (representable-W 16 (lit< tt)) (omega arith));
     few = zero-le;
     near = λ l. zero-le;
     above = omega arith;
@@ -325,7 +325,7 @@ module _ (y : Float) (Y : ℕ) (v : Val y true Y) (few : Y ≤ argumentMost * W)
 -- -K, as a float
 minus-val : (K : ℕ) → K ≤ 140 → (s : Bool) × Val (ofInt binary64 (negℤ (pos K))) s (K * U) × (((K ≡ 0) × (s ≡ false)) ⊎ (s ≡ true))
 unfolding ofInt
-minus-val zero h = (false, val-of (ofInt binary64 (pos 0)) false 0 1 (0 * U) (lit< tt) (round-whole binary64 false 0 (lit≤ tt)) (omega arith), inl (refl, refl))
+minus-val zero h = (false, val-of (count 0) false 0 1 (0 * U) (lit< tt) (round-whole binary64 false 0 (lit≤ tt)) (omega arith), inl (refl, refl))
 minus-val (suc n) h = (true, val-of (ofInt binary64 (negsuc n)) true (suc n) 1 (suc n * U) (lit< tt) (round-whole binary64 true (suc n) (le-trans h (lit≤ tt))) (omega arith), inr refl)
 
 times-high : (K n u w : ℕ) → u ≡ 32 * w → 100000 * n ≤ 69315 * u → K ≤ 140 → K * n ≤ 4096 * w
@@ -342,13 +342,13 @@ reduced-val y Y v p =
     let r₁ : (t : Bool) × (a : ℕ) × Val (y ⊕ neg (k ⊗ H)) t a × (a ≤ 12 * W) = first (neg (k ⊗ H)) (m .2) (neg-val (k ⊗ H) (unlike s false) (K * NH) h) in
     let l = mul-most 1 (lit≤ tt) k L s false (K * U) NL (m .1) L-val (le-trans (le-of-eq (mul-right-comm K U NL)) (mul-le-mul-right U (le-trans (mul-le-mul-right NL (p .few)) NL-is))) in
     let r₂ = add-most 16 (lit≤ tt) (y ⊕ neg (k ⊗ H)) (neg (k ⊗ L)) (r₁ .0) (not (unlike s false)) (r₁ .1) (near (K * U * NL) U) (r₁ .2) (neg-val (k ⊗ L) (unlike s false) (near (K * U * NL) U) (l .0))
-    (le-trans (total-le (r₁ .0) (not (unlike s false)) (r₁ .1) (near (K * U * NL) U)) (let a = r₁ .3 in let b = l .1 in omega arith)) in
-    (sumSign (r₁ .0) (r₁ .1) (not (unlike s false)) (near (K * U * NL) U), near (total (r₁ .0) (r₁ .1) (not (unlike s false)) (near (K * U * NL) U)) 1, r₂ .0, r₂ .1)
+    (le-trans (sumSize-le (r₁ .0) (not (unlike s false)) (r₁ .1) (near (K * U * NL) U)) (let a = r₁ .3 in let b = l .1 in omega arith)) in
+    (sumSign (r₁ .0) (r₁ .1) (not (unlike s false)) (near (K * U * NL) U), near (sumSize (r₁ .0) (r₁ .1) (not (unlike s false)) (near (K * U * NL) U)) 1, r₂ .0, r₂ .1)
   where
     -- K times H is exact
     high : (K : ℕ) → K ≤ 140 → (k : Float) (s : Bool) → Val k s (K * U) → Val (k ⊗ H) (unlike s false) (K * NH)
     high K few k s w =
-        let e : near (K * U * NH) U ≡ K * NH = ap (λ (n : ℕ). near n U) (mul-right-comm K U NH) ∙ near-held (K * NH) U U-pos (unfold NH in subst Held (mul-assoc K 2977044471 (2 ^ 1042)) (held-times (K * 2977044471) 1042 (lt-of-le-of-lt (mul-le-mul-right 2977044471 few) (lit< tt)))) in
+        let e : near (K * U * NH) U ≡ K * NH = ap (λ (n : ℕ). near n U) (mul-right-comm K U NH) ∙ near-representable (K * NH) U U-pos (unfold NH in subst Representable (mul-assoc K 2977044471 (2 ^ 1042)) (representable-times (K * 2977044471) 1042 (lt-of-le-of-lt (mul-le-mul-right 2977044471 few) (lit< tt)))) in
         let b : K * NH ≤ 4096 * W = times-high K NH U W U-W (NH-is .1) few in
         subst (Val (k ⊗ H) (unlike s false)) e (subst (λ (z : Float). Val z (unlike s false) (near (K * U * NH) U)) (sym (mul-rounded k H s false (K * U) NH w H-val))
         (rounded-val (unlike s false) (K * U * NH) U U-pos (subst (λ (n : ℕ). n < Top) (sym e) (lt-of-le-of-lt b (under-W 4096 (lit≤ tt))))))
@@ -368,17 +368,17 @@ reduced-val y Y v p =
 abbrev pub Weight : Float → Type 0
 Weight w = Bounded weightBounds w
 
--- ---- exp y, for y = -Y from -96 to 0: P / 2 ^ K with P from 5/16 to 27/16
+-- ---- exp y, for y = -Y from -96 to 0: a numerator from 5/16 to 27/16, over 2 ^ K
 pub record Exp (y : Float) (Y : ℕ) : Type 0 where
   pub power : Power y Y
-  pub P : ℕ
-  pub least : 10 * W ≤ P
-  pub most : P ≤ 54 * W
+  pub numerator : ℕ
+  pub least : 10 * W ≤ numerator
+  pub most : numerator ≤ 54 * W
   pub fit : T (fits binary64 (exp y))
   pub finite : T (isFinite (exp y))
   pub range : Y ≤ ageMost * W → Weight (exp y)
   pub plus : sign (exp y) ≡ false
-  pub is : mag (exp y) * 2 ^ power .K ≡ P
+  pub is : mag (exp y) * 2 ^ power .K ≡ numerator
 
 pub exp-above : {y : Float} {Y : ℕ} → Exp y Y → 0 < mag (exp y)
 exp-above {y} x = first-pos (mag (exp y)) (2 ^ (x .power .K)) (subst (λ (n : ℕ). 0 < n) (sym (x .is)) (lt-of-lt-of-le (mul-pos (lit< {m = 0} {n = 10} tt) W-pos) (x .least)))
@@ -407,25 +407,25 @@ module _ (K : ℕ) (few : K ≤ 140) (p : Float) (P : ℕ) (fit : T (fits binary
       let hi : 54 * W ≤ 2 ^ h .most = unfold W in lit≤ tt in
       range-size (h .least) (2 ^ h .most) p (lit≤ tt) fit (val-finite p false P v) (inr (rw m (le-trans lo least))) (rw m (le-trans most hi))
 
-  low : under (negℤ (pos K)) ≤ h .grain + over (negℤ (pos K))
-  unfolding over
-  low = omega (arith, under-neg (pos K))
+  low : negPart (negℤ (pos K)) ≤ h .grain + posPart (negℤ (pos K))
+  unfolding posPart
+  low = omega (arith, negPart-neg (pos K))
 
-  high : h .most + over (negℤ (pos K)) ≤ topBits + under (negℤ (pos K))
-  unfolding under
-  high = omega (arith, over-neg (pos K))
+  high : h .most + posPart (negℤ (pos K)) ≤ topBits + negPart (negℤ (pos K))
+  unfolding negPart
+  high = omega (arith, posPart-neg (pos K))
 
   lowered : pow2Scaled p (negℤ (pos K)) ≡ shift (negℤ (pos K)) p
   lowered = scaled-moves (h .most) p p-range (negℤ (pos K)) low high
 
   lowered-range : Range (h .grain - K) (2 ^ (h .least - K)) (2 ^ h .most) (shift (negℤ (pos K)) p)
-  unfolding over under
+  unfolding posPart negPart
   lowered-range =
-      let o : over (negℤ (pos K)) ≡ 0 = over-neg (pos K) in
-      let u : under (negℤ (pos K)) ≡ K = under-neg (pos K) in
+      let o : posPart (negℤ (pos K)) ≡ 0 = posPart-neg (pos K) in
+      let u : negPart (negℤ (pos K)) ≡ K = negPart-neg (pos K) in
       range-move (h .most) p p-range (negℤ (pos K)) low high (h .grain - K) (2 ^ (h .least - K)) (2 ^ h .most) (omega arith)
-      (le-trans (le-of-eq (sym (pow-add 2 (h .least - K) (under (negℤ (pos K)))))) (le-trans (pow-mono (omega arith)) (le-of-eq (pow-add 2 (h .least) (over (negℤ (pos K)))))))
-      (le-trans (le-of-eq (sym (pow-add 2 (h .most) (over (negℤ (pos K)))))) (le-trans (pow-mono (omega arith)) (le-of-eq (pow-add 2 (h .most) (under (negℤ (pos K)))))))
+      (le-trans (le-of-eq (sym (pow-add 2 (h .least - K) (negPart (negℤ (pos K)))))) (le-trans (pow-mono (omega arith)) (le-of-eq (pow-add 2 (h .least) (posPart (negℤ (pos K)))))))
+      (le-trans (le-of-eq (sym (pow-add 2 (h .most) (posPart (negℤ (pos K)))))) (le-trans (pow-mono (omega arith)) (le-of-eq (pow-add 2 (h .most) (negPart (negℤ (pos K)))))))
 
   lowered-is : mag (shift (negℤ (pos K)) p) * 2 ^ K ≡ P
   lowered-is =
@@ -458,7 +458,7 @@ module _ (y : Float) (Y : ℕ) (v : Val y true Y) (few : Y ≤ argumentMost * W)
       let R = lowered-range K (w .few) p (h .0) fit (h .1) (h .2) (h .3) in
       record {
         power = w;
-        P = h .0;
+        numerator = h .0;
         least = h .2;
         most = h .3;
         fit = subst (λ (z : Float). T (fits binary64 z)) (sym e) (R .fit);
@@ -485,7 +485,6 @@ product-most Y b c g w u e p hi h =
 pub record ExpM1 (y : Float) (Y : ℕ) : Type 0 where
   pub E : ℕ
   pub val : Val (expM1 y) true E
-  pub fit : T (fits binary64 (expM1 y))
   pub near-zero : Y ≤ 16 * W → (Y ≤ 16 * E) × (E ≤ 3 * Y)
   pub far : 16 * W < Y → (5 * W ≤ E) × (E ≤ 32 * W)
 
@@ -506,7 +505,6 @@ module _ (y : Float) (Y : ℕ) (v : Val y true Y) (some : 0 < Y) (few : Y ≤ ar
       record {
         E = near (Y * b) U;
         val = subst (λ (z : Float). Val z true (near (Y * b) U)) (sym e) (m .0);
-        fit = subst (λ (z : Float). T (fits binary64 z)) (sym e) (mul-fits binary64 y p);
         near-zero = λ l. (product-least Y b (near (Y * b) U) W U U-W W-pos some (q .2) (n .halved), omega (arith, product-most Y b 44 (near (Y * b) U) W U U-W W-pos (q .3) (n .doubled)));
         far = λ l. absurd (omega arith);
       }
@@ -517,16 +515,15 @@ module _ (y : Float) (Y : ℕ) (v : Val y true Y) (some : 0 < Y) (few : Y ≤ ar
       let x = exp-within y Y v few in
       let e : expM1 y ≡ exp y ⊖ one = rw (half-test ∙ lt-ltb (16 * W) Y h) in
       let a = mag (exp y) in
-      let b : a ≤ 27 * W = halve a (x .power .K) (x .P) W (x .power .some h) (x .is) (x .most) in
+      let b : a ≤ 27 * W = halve a (x .power .K) (x .numerator) W (x .power .some h) (x .is) (x .most) in
       let q = add-most 32 (lit≤ tt) (exp y) (neg one) false true a (32 * W) (exp-val x) (neg-val one false (32 * W) one-W) (omega arith) in
       let n = a - 32 * W + (32 * W - a) in
       let s : (cond (ltb a (32 * W)) true (false && ltb (32 * W) a)) ≡ true = rw (lt-ltb a (32 * W) (let p = W-pos in omega arith)) in
       record {
         E = near n 1;
         val = subst₂ (λ (z : Float) (s : Bool). Val z s (near n 1)) (sym e) s (q .0);
-        fit = subst (λ (z : Float). T (fits binary64 z)) (sym e) (add-fits binary64 (exp y) (neg one));
         near-zero = λ l. absurd (omega arith);
-        far = λ l. (near-least n 1 (5 * W) (zero-lt-suc 0) (held-W 5 (lit< tt)) (omega arith), q .1);
+        far = λ l. (near-least n 1 (5 * W) (zero-lt-suc 0) (representable-W 5 (lit< tt)) (omega arith), q .1);
       }
     where
       halve : (a K P w : ℕ) → 0 < K → a * 2 ^ K ≡ P → P ≤ 54 * w → a ≤ 27 * w

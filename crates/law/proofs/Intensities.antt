@@ -14,7 +14,7 @@ use Rattle.matrix.specs.Jacobi.{Decomposition}
 use Rattle.estimators.specs.Refusals.{passes, first}
 use Rattle.estimators.specs.Moments.{Moments, moments}
 use Rattle.estimators.specs.LedoitWolf.{ledoitWolf}
-use Rattle.estimators.specs.Adjusted.{decompositionOf, intensity}
+use Rattle.estimators.specs.Adjusted.{intensity}
 use Rattle.estimators.specs.JamesStein.{jamesSteinIntensity}
 use Rattle.estimators.specs.Order.{opening, ofGiven, badShrinkage, ofSettings}
 use Rattle.estimators.specs.Calls.{ledoitWolfIntensity, exponentiallyWeightedMean}
@@ -26,19 +26,18 @@ use Rattle.estimators.specs.declared.Refusal.the-variants.{BadSetting}
 use Rattle.estimators.specs.declared.Answer.{Answer}
 use Rattle.estimators.specs.declared.Answer.the-variants.{Refused, Covariance, Intensity, Mean, Shrunk}
 use Rattle.estimators.specs.BayesStein.{exponentsOf, bayesStein}
-use Rattle.estimators.proofs.Firsts.{pass-append}
 use Rattle.estimators.proofs.Passed.{pass-cons}
 use Rattle.law.specs.Law as Law
 use Rattle.law.specs.Law.{Question, ask}
-use Rattle.law.proofs.Sizes.{not-lt, clamp-cases}
-use Rattle.law.proofs.Columns.{unitMoments}
+use Rattle.law.proofs.Sizes.{clamp-cases}
+use Rattle.law.proofs.Comparisons.{not-lt}
+use Rattle.law.proofs.Columns.{columnMoments}
 use Rattle.law.proofs.LedoitWolf.{ledoitWolf-cases}
 use Rattle.law.proofs.JamesStein.{james-cases}
-use Rattle.law.proofs.Pull.{pull-unit}
+use Rattle.law.proofs.MeanShrinkage.{shrinkage-unit}
 use Rattle.law.proofs.Chain.{pass-must}
-use Rattle.law.proofs.Passing.{pass-opening, settled}
-use Rattle.law.proofs.Calls.{ofAnswer, covariance-is, inUnit, centre, jamesDecomposition, james-is, bayes-is}
-use Rattle.law.proofs.Given.{average}
+use Rattle.law.proofs.Passing.{pass-append, pass-opening, settle-cases}
+use Rattle.law.proofs.Calls.{ofAnswer, covariance-is, inUnit, unitGrandMean, jamesDecomposition, james-is, bayes-is}
 
 abbrev pub Share : Float → Type 0
 Share x = (x ≡ nan) ⊎ ((le zero⁺ x ≡ true) × (le x one ≡ true))
@@ -64,10 +63,10 @@ ledoitWolf-share F P n x = ledoitWolf-cases Share F P n x zero-share (λ w t. cl
 james-share : (n : ℕ) (m : Moments) (μ₀ : Float) (d : Decomposition) → Share (jamesSteinIntensity n m μ₀ d)
 james-share n m μ₀ d = james-cases Share n m μ₀ d zero-share (λ w t. clamped w)
 
-bayes-share : (r : List Float) (limit n P : ℕ) → n ≤ maxSide → Share (bayesStein n limit (unitMoments P n (at r n)) (exponentsOf P n (at r n)) .intensity)
+bayes-share : (r : List Float) (limit n P : ℕ) → n ≤ maxSide → Share (bayesStein n limit (columnMoments P n (at r n)) (exponentsOf P n (at r n)) .intensity)
 bayes-share r limit n P few =
-    let m = unitMoments P n (at r n) in
-    let u = pull-unit limit n m (exponentsOf P n (at r n)) few (unfold moments in sign-count P) in
+    let m = columnMoments P n (at r n) in
+    let u = shrinkage-unit limit n m (exponentsOf P n (at r n)) few (unfold moments in sign-count P) in
     share-of (bayesStein n limit m (exponentsOf P n (at r n)) .intensity) (u .0) (u .1)
 
 adjusted-share : (S : Shrinkage) (P n : ℕ) (x : Matrix) → badShrinkage S ≡ passes → Share (intensity S P n x)
@@ -86,13 +85,13 @@ Reported (Shrunk α μ₀ sweeps rotations) = Share α
 
 pub reported : (r : List Float) (n P : ℕ) (q : Question) (slice : List Float) → Reported (ask r n P q slice .answer)
 reported r n P (Law.adjusted s given side) slice =
-    let cs = opening r n P (n * n) slice ++ ofGiven s given side (decompositionOf s side (average side given)) in
+    let cs = opening r n P (n * n) slice ++ ofGiven s given side in
     let a = ofAnswer r n P s given side in
-    rw (covariance-is r n P s given side slice) (settled Reported (λ c. tt) (first (cs ++ a)) slice _ (λ h. adjusted-share (s .shrinkage) P n (at r n) (second (pass-append cs a h .1))))
+    rw (covariance-is r n P s given side slice) (settle-cases Reported (λ c. tt) (first (cs ++ a)) slice _ (λ h. adjusted-share (s .shrinkage) P n (at r n) (second (pass-append cs a h .1))))
   where
     second : first (ofAnswer r n P s given side) ≡ passes → badShrinkage (s .shrinkage) ≡ passes
     second h = unfold ofSettings in pass-cons _ _ (pass-cons _ _ h .1) .0
-reported r n P (Law.intensity F) slice = unfold ledoitWolfIntensity in settled Reported (λ c. tt) _ _ _ (λ h. ledoitWolf-share F P n (at r n))
-reported r n P (Law.weightedMean halfLife) slice = unfold exponentiallyWeightedMean in settled Reported (λ c. tt) _ slice _ (λ h. tt)
-reported r n P (Law.jamesStein limit) slice = rw (james-is r n P limit slice) (settled Reported (λ c. tt) _ slice _ (λ h. james-share n (inUnit r n P) (centre r n P) (jamesDecomposition r n P limit)))
-reported r n P (Law.bayesStein limit) slice = rw (bayes-is r n P limit slice) (settled Reported (λ c. tt) (first (opening r n P n slice ++ _)) slice _ (λ h. bayes-share r limit n P (pass-opening r n P n slice (pass-append (opening r n P n slice) _ h .0) .0)))
+reported r n P (Law.intensity F) slice = unfold ledoitWolfIntensity in settle-cases Reported (λ c. tt) _ _ _ (λ h. ledoitWolf-share F P n (at r n))
+reported r n P (Law.weightedMean halfLife) slice = unfold exponentiallyWeightedMean in settle-cases Reported (λ c. tt) _ slice _ (λ h. tt)
+reported r n P (Law.jamesStein limit) slice = rw (james-is r n P limit slice) (settle-cases Reported (λ c. tt) _ slice _ (λ h. james-share n (inUnit r n P) (unitGrandMean r n P) (jamesDecomposition r n P limit)))
+reported r n P (Law.bayesStein limit) slice = rw (bayes-is r n P limit slice) (settle-cases Reported (λ c. tt) (first (opening r n P n slice ++ _)) slice _ (λ h. bayes-share r limit n P (pass-opening r n P n slice (pass-append (opening r n P n slice) _ h .0) .0)))

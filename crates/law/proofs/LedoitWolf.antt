@@ -6,18 +6,18 @@ use native.Mathlib.Omega.{arith}
 use mathlib.Core.Bool.{Bool, true, false}
 use mathlib.Core.List.{List, [], map}
 use mathlib.Core.Option.{Option}
-use lib.Dec.{lit≤}
+use lib.Dec.{T, lit≤}
 use lib.IntN.{pos}
 use lib.Ieee.{Float, binary64, fits, lt}
 use lib.Ieee.Fits.{div-fits}
-use Rattle.leaves.specs.Numbers.{_⊘_, count, zero⁺, clamp01}
+use Rattle.leaves.specs.Numbers.{zero⁺, clamp01}
 use Rattle.leaves.specs.Scaling.{binaryExponent}
 use Rattle.leaves.specs.Shift.{shift}
-use Rattle.matrix.specs.Matrix.{Matrix, at, rows, amax}
+use Rattle.matrix.specs.Matrix.{Matrix, at, amax}
 use Rattle.matrix.proofs.Stored.{rows-ext}
 use Rattle.estimators.specs.Refusals.{Check, passes, refuses, whenSome, first}
-use Rattle.estimators.specs.Sample.{deviation, gram, covariance, scaled}
-use Rattle.estimators.specs.LedoitWolf.{intensityOf, ledoitWolf, intensityBy}
+use Rattle.estimators.specs.Sample.{deviation, covariance, scaled}
+use Rattle.estimators.specs.LedoitWolf.{intensityFrom, intensityOf, ledoitWolf, intensityBy}
 use Rattle.estimators.specs.Order.{noCorrelation, ledoitWolfOrder}
 use Rattle.estimators.specs.Calls.{Answered, answered, settle, ledoitWolfIntensity}
 use Rattle.estimators.specs.declared.Target.{Target}
@@ -25,43 +25,44 @@ use Rattle.estimators.specs.declared.Target.the-variants.{ConstantVariance, Con
 use Rattle.estimators.specs.declared.Shrinkage.the-variants.{LedoitWolf}
 use Rattle.estimators.specs.declared.Refusal.the-variants.{ZeroVariance}
 use Rattle.estimators.specs.declared.Answer.the-variants.{Intensity}
-use Rattle.law.specs.Law.{All, Sized, answerParts, Alike, ask, maxPower, returnRange}
+use Rattle.law.specs.Law.{All, Sized, answerParts, Alike, ask, maxPower, returnRange, parts}
 use Rattle.law.specs.Law as Law
 use Rattle.law.proofs.Ranges.{returnBounds, deviationOf}
 use Rattle.law.proofs.Numbers.{times-itself}
-use Rattle.law.proofs.Chain.{Chain, ends, chain-same, chained, parts, settled}
-use Rattle.law.proofs.Sample.{Returns, deviation-moved, constant-same}
+use Rattle.law.proofs.Chain.{Chain, ends, chain-same, chained, settled}
+use Rattle.law.proofs.Sample.{Returns, deviation-moved}
+use Rattle.law.proofs.Constant.{constant-same}
 use Rattle.law.proofs.Matrices.{amax-moved, amax-above}
 use Rattle.law.proofs.Scaled.{Scaling, scaling}
 use Rattle.law.proofs.Opening.{Shape, returns, sample-moved, opening-chain}
 
 -- 0, or a number cut to [0, 1]
-pub ledoitWolf-cases : (P : Float → Type 0) (F : Target) (T n : ℕ) (x : Matrix) → P zero⁺ → ((w : Float) → lib.Dec.T (fits binary64 w) → P (clamp01 w)) → P (ledoitWolf F T n x)
+pub ledoitWolf-cases : (Q : Float → Type 0) (F : Target) (P n : ℕ) (x : Matrix) → Q zero⁺ → ((w : Float) → T (fits binary64 w) → Q (clamp01 w)) → Q (ledoitWolf F P n x)
 unfolding ledoitWolf intensityOf intensityBy
-ledoitWolf-cases P F T n x none cut = go (lt zero⁺ _) _ (div-fits binary64 _ _)
+ledoitWolf-cases Q F P n x none cut = go (lt zero⁺ _) _ (div-fits binary64 _ _)
   where
-    go : (b : Bool) (w : Float) → lib.Dec.T (fits binary64 w) → P (elim b [ true ↦ clamp01 w | false ↦ zero⁺ ])
+    go : (b : Bool) (w : Float) → T (fits binary64 w) → Q (elim b [ true ↦ clamp01 w | false ↦ zero⁺ ])
     go true w t = cut w t
     go false w t = none
 
-pub ledoitWolf-same : {k n T : ℕ} {x y : Matrix} (F : Target) → k ≤ maxPower → Returns k n T returnBounds x y → ledoitWolf F T n y ≡ ledoitWolf F T n x
+pub ledoitWolf-same : {k n P : ℕ} {x y : Matrix} (F : Target) → k ≤ maxPower → Returns k n P returnBounds x y → ledoitWolf F P n y ≡ ledoitWolf F P n x
 unfolding ledoitWolf scaled
-ledoitWolf-same {k} {n} {T} {x} {y} F small r =
+ledoitWolf-same {k} {n} {P} {x} {y} F small r =
     let each = deviation-moved r (lit≤ tt) (omega arith) in
-    let s : Scaling k (deviationOf returnBounds) (amax T n (deviation T x)) (amax T n (deviation T y)) = scaling (amax-moved T n (deviation T x) (deviation T y) each) (lit≤ tt, lit≤ tt, lit≤ tt, lit≤ tt, lit≤ tt) (omega arith) in
-    ap (λ (z : List Float). intensityOf F T n (at z n) (at (rows n n (λ i j. gram T (at z n) i j ⊘ count T)) n))
-    (rows-ext T n (scaled (λ i. binaryExponent (amax T n (deviation T y))) (deviation T y)) (scaled (λ i. binaryExponent (amax T n (deviation T x))) (deviation T x))
-    (λ t i a b. s .same (each t i a b) (amax-above T n (deviation T x) (deviation T y) each t i a b)))
+    let s : Scaling k (deviationOf returnBounds) (amax P n (deviation P x)) (amax P n (deviation P y)) = scaling (amax-moved P n (deviation P x) (deviation P y) each) (lit≤ tt, lit≤ tt, lit≤ tt, lit≤ tt, lit≤ tt) (omega arith) in
+    ap (λ (z : List Float). intensityFrom F P n (at z n))
+    (rows-ext P n (scaled (λ i. binaryExponent (amax P n (deviation P y))) (deviation P y)) (scaled (λ i. binaryExponent (amax P n (deviation P x))) (deviation P x))
+    (λ t i a b. s .same (each t i a b) (amax-above P n (deviation P x) (deviation P y) each t i a b)))
 
-module _ (k : ℕ) (small : k ≤ maxPower) (r : List Float) (sizes : All (Sized returnRange) r) (n T : ℕ) where
-  pub correlation-same : (F : Target) → Shape r n T → noCorrelation (LedoitWolf F) T n (at (map (shift (pos k)) r) n) ≡ noCorrelation (LedoitWolf F) T n (at r n)
+module _ (k : ℕ) (small : k ≤ maxPower) (r : List Float) (sizes : All (Sized returnRange) r) (n P : ℕ) where
+  pub correlation-same : (F : Target) → Shape r n P → noCorrelation (LedoitWolf F) P n (at (map (shift (pos k)) r) n) ≡ noCorrelation (LedoitWolf F) P n (at r n)
   unfolding noCorrelation
   correlation-same ConstantVariance s = refl
   correlation-same ConstantCorrelation s = ap (λ (o : Option ℕ). whenSome o ZeroVariance)
-      (constant-same (returns k small r sizes n T s) (lit≤ tt) (omega arith) (covariance T (at r n)) (covariance T (at (map (shift (pos k)) r) n)) (λ i l. sample-moved k small r sizes n T s i i l l .copy))
+      (constant-same (returns k small r sizes n P s) (lit≤ tt) (omega arith) (covariance P (at r n)) (covariance P (at (map (shift (pos k)) r) n)) (λ i l. sample-moved k small r sizes n P s i i l l .copy))
 
   abbrev accepted : Target → List Float → Answered
-  accepted F r = answered (Intensity (ledoitWolf F T n (at r n))) []
+  accepted F r = answered (Intensity (ledoitWolf F P n (at r n))) []
 
   -- the call takes no slice
   no-slice : (c : Check) (δ : Float) (slice : List Float) → parts n (settle c [] (answered (Intensity δ) [])) ≡ answerParts n (settle c [] (answered (Intensity δ) []) .answer) slice
@@ -69,19 +70,19 @@ module _ (k : ℕ) (small : k ≤ maxPower) (r : List Float) (sizes : All (Sized
   no-slice passes δ slice = refl
   no-slice (refuses c) δ slice = refl
 
-  pub intensity-law : (F : Target) (slice slice' : List Float) → Alike (pos k) (parts n (ask r n T (Law.intensity F) slice)) (parts n (ask (map (shift (pos k)) r) n T (Law.intensity F) slice'))
+  pub intensity-law : (F : Target) (slice slice' : List Float) → Alike (pos k) (parts n (ask r n P (Law.intensity F) slice)) (parts n (ask (map (shift (pos k)) r) n P (Law.intensity F) slice'))
   unfolding ledoitWolfIntensity
   intensity-law F slice slice' =
       let r' = map (shift (pos k)) r in
-      subst₂ (Alike (pos k)) (no-slice (first (ledoitWolfOrder r n T F)) (ledoitWolf F T n (at r n)) slice) (no-slice (first (ledoitWolfOrder r' n T F)) (ledoitWolf F T n (at r' n)) slice')
+      subst₂ (Alike (pos k)) (no-slice (first (ledoitWolfOrder r n P F)) (ledoitWolf F P n (at r n)) slice) (no-slice (first (ledoitWolfOrder r' n P F)) (ledoitWolf F P n (at r' n)) slice')
       (settled (chained chain) (pos k) n [] [] (accepted F r) (accepted F r') (λ e e' same. record {
         refusal = refl;
         entries = tt;
         meansAndTarget = tt;
-        intensity = (rw same (times-itself (ledoitWolf F T n (at r n))), tt);
+        intensity = (rw same (times-itself (ledoitWolf F P n (at r n))), tt);
         sweepsAndRotations = refl;
       }))
     where
-      chain : Chain (ledoitWolf F T n (at (map (shift (pos k)) r) n) ≡ ledoitWolf F T n (at r n)) (ledoitWolfOrder r n T F) (ledoitWolfOrder (map (shift (pos k)) r) n T F)
+      chain : Chain (ledoitWolf F P n (at (map (shift (pos k)) r) n) ≡ ledoitWolf F P n (at r n)) (ledoitWolfOrder r n P F) (ledoitWolfOrder (map (shift (pos k)) r) n P F)
       chain = unfold ledoitWolfOrder in
-          opening-chain k small r sizes n T 0 [] [] refl (λ s opens. chain-same (noCorrelation (LedoitWolf F) T n (at r n)) (correlation-same F s) (λ e. ends (ledoitWolf-same F small (returns k small r sizes n T s))))
+          opening-chain k small r sizes n P 0 [] [] refl (λ s opens. chain-same (noCorrelation (LedoitWolf F) P n (at r n)) (correlation-same F s) (λ e. ends (ledoitWolf-same F small (returns k small r sizes n P s))))

@@ -1,10 +1,12 @@
 -- The proof of the power-of-two law, and other laws of the five calls.
 pub mod Chain
 pub mod Sample
+pub mod Constant
 pub mod Scaled
 pub mod Bits
 pub mod Ranges
 pub mod Numbers
+pub mod Comparisons
 pub mod Sizes
 pub mod Sums
 pub mod Opening
@@ -16,16 +18,16 @@ pub mod Shrinkage
 pub mod Exponential
 pub mod Weights
 pub mod Weighted
-pub mod Moments
+pub mod SteinAnswers
 pub mod JamesStein
 pub mod Estimates
 pub mod Adjusted
 pub mod Ratio
 pub mod Common
-pub mod Tied
+pub mod Rescaled
 pub mod Share
 pub mod Columns
-pub mod Pull
+pub mod MeanShrinkage
 pub mod BayesStein
 pub mod Theorem
 -- laws of each call, over all inputs

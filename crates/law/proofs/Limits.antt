@@ -3,7 +3,7 @@
 use mathlib.Core.Path.{_≡_, refl, sym, ap, ap₂, _∙_, subst}
 use Prim.Native.Nat.{ℕ, _*_, _≤_}
 use native.Mathlib.Nat.{le-trans}
-use mathlib.Core.Bool.{Bool, true, false, not}
+use mathlib.Core.Bool.{Bool, true, false}
 use mathlib.Core.List.{List, [], _∷_, _++_}
 use lib.Ieee.{Float, lt, eq}
 use borrow.Author.Tests.{le-ltb}
@@ -14,10 +14,10 @@ use Rattle.matrix.specs.Matrix.{Matrix, at, amax, divided}
 use Rattle.matrix.specs.Jacobi.{Decomposition, decompose, unturned}
 use Rattle.matrix.proofs.LargerLimit.{larger-limit}
 use Rattle.estimators.specs.Refusals.{Check, passes, when, first}
-use Rattle.estimators.specs.Given.{decomposeGiven}
+use Rattle.estimators.specs.Given.{average, decomposeGiven}
 use Rattle.estimators.specs.JamesStein.{largestDeviation, decomposeUnequal}
 use Rattle.estimators.specs.Adjusted.{decompositionOf, adjusted}
-use Rattle.estimators.specs.Order.{opening, sweepLimit, ofGiven, ofSettings}
+use Rattle.estimators.specs.Order.{opening, badSweepLimit, ofGiven, ofSettings, notFound}
 use Rattle.estimators.specs.Calls.{adjustedCovariance, jamesSteinMean, bayesSteinMean}
 use Rattle.estimators.specs.Settings.{settings}
 use Rattle.estimators.specs.declared.Field.the-variants.{SweepLimitField}
@@ -28,22 +28,20 @@ use Rattle.estimators.specs.declared.Regularization.{Regularization}
 use Rattle.estimators.specs.declared.Settings.{Settings}
 use Rattle.estimators.specs.declared.Refusal.the-variants.{BadSetting, NotDecomposed, Singular}
 use Rattle.estimators.specs.BayesStein.{correlations}
-use Rattle.estimators.proofs.Firsts.{pass-append}
 use Rattle.estimators.proofs.Passed.{pass-cons}
 use Rattle.law.specs.Law as Law
 use Rattle.law.specs.Law.{Question, ask}
-use Rattle.law.proofs.Columns.{unitMoments, taken}
+use Rattle.law.proofs.Columns.{columnMoments, decomposedCorrelations}
 use Rattle.law.proofs.Chain.{pass-must}
-use Rattle.law.proofs.Passing.{Accepted, all-pass}
-use Rattle.law.proofs.Calls.{ofAnswer, covarianceBy, covariance-is, inUnit, centre, jamesDecomposition, jamesBy, james-is, bayesBy, bayes-is}
-use Rattle.law.proofs.Given.{average}
+use Rattle.law.proofs.Passing.{pass-append, Accepted, all-pass}
+use Rattle.law.proofs.Calls.{ofAnswer, covarianceBy, covariance-is, inUnit, unitGrandMean, jamesDecomposition, jamesBy, james-is, bayesBy, bayes-is}
 
 -- ---- the check of the limit
-limit-passes : (limit : ℕ) → limit ≤ maxSweeps → sweepLimit limit ≡ passes
-unfolding sweepLimit
+limit-passes : (limit : ℕ) → limit ≤ maxSweeps → badSweepLimit limit ≡ passes
+unfolding badSweepLimit
 limit-passes limit h = ap (λ (b : Bool). when b (BadSetting SweepLimitField)) (le-ltb maxSweeps limit h)
 
-same-limit : (limit limit′ : ℕ) → limit ≤ limit′ → limit′ ≤ maxSweeps → sweepLimit limit′ ≡ sweepLimit limit
+same-limit : (limit limit′ : ℕ) → limit ≤ limit′ → limit′ ≤ maxSweeps → badSweepLimit limit′ ≡ badSweepLimit limit
 same-limit limit limit′ l h = limit-passes limit′ h ∙ sym (limit-passes limit (le-trans l h))
 
 -- ---- the decompositions that the calls ask for
@@ -73,15 +71,15 @@ given-larger limit limit′ n a l = go (lt zero⁺ (amax n n a))
 module _ (r : List Float) (n P : ℕ) (slice : List Float) where
   james-found : (d : Decomposition) (c : Check) → Accepted (jamesBy r n P slice d c) → d .found ≡ true
   james-found d c h =
-      let cs : List Check = c ∷ when (not (d .found)) Singular ∷ [] in
+      let cs : List Check = c ∷ notFound d ∷ [] in
       let q = pass-append (opening r n P n slice) cs (all-pass (first (opening r n P n slice ++ cs)) slice _ h) .1 in
-      pass-must (d .found) Singular (pass-cons (when (not (d .found)) Singular) [] (pass-cons c (when (not (d .found)) Singular ∷ []) q .1) .0)
+      pass-must (d .found) Singular (pass-cons (notFound d) [] (pass-cons c (notFound d ∷ []) q .1) .0)
 
   james-limit : (limit limit′ : ℕ) → limit ≤ limit′ → limit′ ≤ maxSweeps → Accepted (jamesSteinMean r n P limit slice) → jamesSteinMean r n P limit′ slice ≡ jamesSteinMean r n P limit slice
   james-limit limit limit′ l h a =
-      let f = james-found (jamesDecomposition r n P limit) (sweepLimit limit) (subst Accepted (james-is r n P limit slice) a) in
+      let f = james-found (jamesDecomposition r n P limit) (badSweepLimit limit) (subst Accepted (james-is r n P limit slice) a) in
       let m = inUnit r n P in
-      james-is r n P limit′ slice ∙ ap₂ (jamesBy r n P slice) (unequal-larger limit limit′ n (largestDeviation n (nth (m .mean)) (centre r n P)) (at (m .covariance) n) l f) (same-limit limit limit′ l h) ∙ sym (james-is r n P limit slice)
+      james-is r n P limit′ slice ∙ ap₂ (jamesBy r n P slice) (unequal-larger limit limit′ n (largestDeviation n (nth (m .mean)) (unitGrandMean r n P)) (at (m .covariance) n) l f) (same-limit limit limit′ l h) ∙ sym (james-is r n P limit slice)
 
   bayes-found : (d : Decomposition) (c : Check) → Accepted (bayesBy r n P slice d c) → d .found ≡ true
   bayes-found d c h =
@@ -93,46 +91,41 @@ module _ (r : List Float) (n P : ℕ) (slice : List Float) where
 
   bayes-limit : (limit limit′ : ℕ) → limit ≤ limit′ → limit′ ≤ maxSweeps → Accepted (bayesSteinMean r n P limit slice) → bayesSteinMean r n P limit′ slice ≡ bayesSteinMean r n P limit slice
   bayes-limit limit limit′ l h a =
-      let m = unitMoments P n (at r n) in
-      let f = bayes-found (taken limit n m) (sweepLimit limit) (subst Accepted (bayes-is r n P limit slice) a) in
+      let m = columnMoments P n (at r n) in
+      let f = bayes-found (decomposedCorrelations limit n m) (badSweepLimit limit) (subst Accepted (bayes-is r n P limit slice) a) in
       bayes-is r n P limit′ slice ∙ ap₂ (bayesBy r n P slice) (larger-limit n (correlations n m) limit limit′ l f) (same-limit limit limit′ l h) ∙ sym (bayes-is r n P limit slice)
 
 -- ---- the adjusted covariance
 abbrev pub limited : Settings → ℕ → Settings
 limited s limit = settings (s .estimate) (s .shrinkage) (s .regularization) limit
 
-after : {c c' : Check} {cs : List Check} → c' ≡ c → (c' ∷ cs) ≡ (c ∷ cs)
-after {cs = cs} e = ap (λ (c : Check). c ∷ cs) e
-
 module _ (S : Shrinkage) (H : Regularization) (given : List Float) (side : ℕ) where
-  given-checks : (E : Estimate) (limit limit′ : ℕ) (d : Decomposition) → sweepLimit limit′ ≡ sweepLimit limit → ofGiven (settings E S H limit′) given side d ≡ ofGiven (settings E S H limit) given side d
+  given-checks : (E : Estimate) (limit limit′ : ℕ) → badSweepLimit limit′ ≡ badSweepLimit limit → decompositionOf (settings E S H limit′) given side ≡ decompositionOf (settings E S H limit) given side
+      → ofGiven (settings E S H limit′) given side ≡ ofGiven (settings E S H limit) given side
   unfolding ofGiven
-  given-checks Sample limit limit′ d e = refl
-  given-checks Given limit limit′ d e = after e
-  given-checks (Weighted halfLife) limit limit′ d e = refl
-  given-checks Semi limit limit′ d e = refl
-  given-checks (SemiBelow threshold) limit limit′ d e = refl
+  given-checks Sample limit limit′ e p = refl
+  given-checks Given limit limit′ e p = rw (e, p)
+  given-checks (Weighted halfLife) limit limit′ e p = refl
+  given-checks Semi limit limit′ e p = refl
+  given-checks (SemiBelow threshold) limit limit′ e p = refl
 
-  given-same : (E : Estimate) (limit limit′ : ℕ) (g : Matrix) → limit ≤ limit′ → first (ofGiven (settings E S H limit) given side (decompositionOf (settings E S H limit) side g)) ≡ passes
-      → decompositionOf (settings E S H limit′) side g ≡ decompositionOf (settings E S H limit) side g
+  given-same : (E : Estimate) (limit limit′ : ℕ) → limit ≤ limit′ → first (ofGiven (settings E S H limit) given side) ≡ passes
+      → decompositionOf (settings E S H limit′) given side ≡ decompositionOf (settings E S H limit) given side
   unfolding ofGiven decompositionOf
-  given-same Sample limit limit′ g l h = refl
-  given-same Given limit limit′ g l h =
+  given-same Sample limit limit′ l h = refl
+  given-same Given limit limit′ l h =
       let h₁ = pass-cons _ _ h in
       let h₂ = pass-cons _ _ (h₁ .1) in
       let h₃ = pass-cons _ _ (h₂ .1) in
       let h₄ = pass-cons _ _ (h₃ .1) in
       let h₅ = pass-cons _ _ (h₄ .1) in
       let h₆ = pass-cons _ _ (h₅ .1) in
-      given-larger limit limit′ side g l (pass-must (decomposeGiven limit side g .found) NotDecomposed (pass-cons _ _ (h₆ .1) .0))
-  given-same (Weighted halfLife) limit limit′ g l h = refl
-  given-same Semi limit limit′ g l h = refl
-  given-same (SemiBelow threshold) limit limit′ g l h = refl
+      given-larger limit limit′ side (average given side) l (pass-must (decomposeGiven limit side (average given side) .found) NotDecomposed (pass-cons _ _ (h₆ .1) .0))
+  given-same (Weighted halfLife) limit limit′ l h = refl
+  given-same Semi limit limit′ l h = refl
+  given-same (SemiBelow threshold) limit limit′ l h = refl
 
 module _ (r : List Float) (n P : ℕ) (s : Settings) (given : List Float) (side : ℕ) (slice : List Float) where
-  g : Matrix
-  g = average side given
-
   -- nothing but the decomposition and its checks knows the limit
   by-same : (limit limit′ : ℕ) (d : Decomposition) (cs : List Check) → covarianceBy r n P (limited s limit′) given side slice d cs ≡ covarianceBy r n P (limited s limit) given side slice d cs
   unfolding ofSettings adjusted
@@ -146,16 +139,16 @@ module _ (r : List Float) (n P : ℕ) (s : Settings) (given : List Float) (side 
 
   covariance-limit : (limit limit′ : ℕ) → limit ≤ limit′ → limit′ ≤ maxSweeps → Accepted (adjustedCovariance r n P (limited s limit) given side slice)
       → adjustedCovariance r n P (limited s limit′) given side slice ≡ adjustedCovariance r n P (limited s limit) given side slice
-  unfolding g
   covariance-limit limit limit′ l h a =
       let S = s .shrinkage in
       let H = s .regularization in
-      let d = decompositionOf (limited s limit) side g in
-      let d′ = decompositionOf (limited s limit′) side g in
-      let cs = ofGiven (limited s limit) given side d in
-      let p : d′ ≡ d = given-same S H given side (s .estimate) limit limit′ g l (checks-pass (limited s limit) d cs (subst Accepted (covariance-is r n P (limited s limit) given side slice) a)) in
-      let q : ofGiven (limited s limit′) given side d′ ≡ cs = ap (ofGiven (limited s limit′) given side) p ∙ given-checks S H given side (s .estimate) limit limit′ d (same-limit limit limit′ l h) in
-      covariance-is r n P (limited s limit′) given side slice ∙ by-same limit limit′ d′ (ofGiven (limited s limit′) given side d′) ∙ ap₂ (covarianceBy r n P (limited s limit) given side slice) p q ∙ sym (covariance-is r n P (limited s limit) given side slice)
+      let d = decompositionOf (limited s limit) given side in
+      let d′ = decompositionOf (limited s limit′) given side in
+      let cs = ofGiven (limited s limit) given side in
+      let cs′ = ofGiven (limited s limit′) given side in
+      let p : d′ ≡ d = given-same S H given side (s .estimate) limit limit′ l (checks-pass (limited s limit) d cs (subst Accepted (covariance-is r n P (limited s limit) given side slice) a)) in
+      let q : cs′ ≡ cs = given-checks S H given side (s .estimate) limit limit′ (same-limit limit limit′ l h) p in
+      covariance-is r n P (limited s limit′) given side slice ∙ by-same limit limit′ d′ cs′ ∙ ap₂ (covarianceBy r n P (limited s limit) given side slice) p q ∙ sym (covariance-is r n P (limited s limit) given side slice)
 
 -- ---- all five calls
 abbrev pub withLimit : Question → ℕ → Question

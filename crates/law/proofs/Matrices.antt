@@ -12,7 +12,8 @@ use Rattle.leaves.proofs.Operations.{Moved}
 use Rattle.leaves.proofs.Totals.{moved-amax, Part, part-zero, part-add, part-more, part-loop, part-moved, moved-sum}
 use Rattle.matrix.specs.Matrix.{Matrix, at, rows, trace, amax, addKept, sumRow, sumOver}
 use Rattle.matrix.specs.Limits.{maxSide}
-use Rattle.matrix.proofs.Stored.{by-cell, rows-at, amax-entry}
+use Rattle.matrix.proofs.Stored.{by-cell, rows-at}
+use Rattle.matrix.proofs.Finite.{amax-entry}
 use Rattle.law.proofs.Bits.{sideBits, side-bits, cellBits, cell-bits}
 
 module _ {k : ℕ} {b : Bounds} (m n : ℕ) (f f' : Matrix) (each : (i j : ℕ) → i < m → j < n → Moved k b (f i j) (f' i j)) where

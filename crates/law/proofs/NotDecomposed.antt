@@ -1,5 +1,5 @@
--- Document 01, "How tight" c: at a limit above 0 no diagonal given matrix is refused 13, for want of a decomposition. No other check of the call refuses with 13, and this one passes (`Diagonal`).
--- Assumes nothing.
+-- Document 01, "How tight" c: at a limit above 0 no diagonal given matrix whose averages with its transpose are finite is refused 13, for want of a decomposition. No other check of the call refuses with 13, and
+-- this one passes (`Diagonal`). Assumes nothing.
 use mathlib.Core.Path.{_≡_, refl, sym, ap, _∙_, subst}
 use Prim.Native.Nat.{ℕ, _*_, _<_}
 use mathlib.Core.Bool.{Bool, true, false, not, _&&_, _||_}
@@ -11,14 +11,14 @@ use lib.Ieee.{Float, binary64, fits, le, eq}
 use Rattle.leaves.specs.Numbers.{_⊗_, zero⁺, one, isFinite}
 use Rattle.leaves.specs.Loops.{firstTo}
 use Rattle.matrix.specs.Limits.{maxSide, maxSweeps}
-use Rattle.matrix.specs.Matrix.{Matrix, at, amax, trace, averaged, firstEntry, allFinite}
+use Rattle.matrix.specs.Matrix.{Matrix, at, amax, trace, averaged, firstNotFinite, allFinite}
 use Rattle.matrix.specs.Jacobi.{Decomposition, smallestValue, unturned}
 use Rattle.estimators.specs.Refusals.{number, Check, passes, refuses, when, whenSome, first}
 use Rattle.estimators.specs.Sample.{covariance, largest, constantAsset}
 use Rattle.estimators.specs.Weighted.{logDecay, accepted}
-use Rattle.estimators.specs.Given.{asymmetry, decomposeGiven, indefinite}
+use Rattle.estimators.specs.Given.{asymmetry, average, decomposeGiven, indefinite}
 use Rattle.estimators.specs.Adjusted.{isSample, isGiven, decompositionOf, intensity, isAdjusted}
-use Rattle.estimators.specs.Order.{maxPeriods, notFinite, opening, sweepLimit, ofGiven, badRegularization, badShrinkage, badHalfLife, badEstimate, notTheSample, noCorrelation, noVariance, ofSettings}
+use Rattle.estimators.specs.Order.{maxPeriods, notFinite, opening, badSweepLimit, ofGiven, badRegularization, badShrinkage, badHalfLife, badEstimate, notTheSample, noCorrelation, noVariance, ofSettings}
 use Rattle.estimators.specs.Calls.{Answered, settle, adjustedCovariance}
 use Rattle.estimators.specs.Settings.{settings}
 use Rattle.estimators.specs.declared.Estimate.{Estimate}
@@ -36,7 +36,6 @@ use Rattle.estimators.specs.declared.Answer.{Answer}
 use Rattle.estimators.specs.declared.Answer.the-variants.{Refused, Covariance, Intensity, Mean, Shrunk}
 use Rattle.law.proofs.Diagonal.{Diagonal, given-diagonal}
 use Rattle.law.proofs.Calls.{estimated, covariances, ofAnswer, covariance-is}
-use Rattle.law.proofs.Given.{average}
 
 -- ---- checks that do not refuse with 13
 abbrev Avoids : Check → Type 0
@@ -67,10 +66,10 @@ search (some a) c e = e a
 
 finite : (m n : ℕ) (a : Matrix) → Avoids (notFinite m n a)
 unfolding notFinite
-finite m n a = search (firstEntry m n (λ i j. not (isFinite (a i j)))) (λ p. NotFinite (p .0) (p .1)) (λ p. refl)
+finite m n a = search (firstNotFinite m n a) (λ p. NotFinite (p .0) (p .1)) (λ p. refl)
 
-limit-avoids : (limit : ℕ) → Avoids (sweepLimit limit)
-unfolding sweepLimit
+limit-avoids : (limit : ℕ) → Avoids (badSweepLimit limit)
+unfolding badSweepLimit
 limit-avoids limit = test (ltb maxSweeps limit) (BadSetting SweepLimitField) refl
 
 opening-avoids : (r : List Float) (n P needed : ℕ) (slice : List Float) → AllAvoid (opening r n P needed slice)
@@ -86,18 +85,19 @@ opening-avoids r n P needed slice = (
   ),
 )
 
-given-avoids : (E : Estimate) (S : Shrinkage) (H : Regularization) (limit : ℕ) (g : List Float) (side : ℕ) (d : Decomposition) → (isGiven E ≡ true → d .found ≡ true) → AllAvoid (ofGiven (settings E S H limit) g side d)
-unfolding ofGiven
-given-avoids Sample S H limit g side d h = tt
-given-avoids Given S H limit g side d h =
+given-avoids : (E : Estimate) (S : Shrinkage) (H : Regularization) (limit : ℕ) (g : List Float) (side : ℕ) → (isGiven E ≡ true → decompositionOf (settings E S H limit) g side .found ≡ true) → AllAvoid (ofGiven (settings E S H limit) g side)
+unfolding ofGiven decompositionOf
+given-avoids Sample S H limit g side h = tt
+given-avoids Given S H limit g side h =
+    let d = decomposeGiven limit side (average g side) in
     (limit-avoids limit, (test (eqb side 0) NoAssets refl, (test (ltb maxSide side) TooLarge refl, (test (not (eqb (length g) (side * side))) (WrongSide side) refl, (finite side side (at g side), (search (asymmetry side (at g side)) (λ p. Asymmetric (p .0) (p .1)) (λ p. refl), (decided (d .found) (h refl), (test (indefinite side d) (Indefinite (smallestValue side d ⊗ amax side side (averaged (at g side)))) refl, tt))))))))
   where
     decided : (b : Bool) → b ≡ true → Avoids (when (not b) NotDecomposed)
     decided true e = tt
     decided false e = absurd (subst T (sym e) tt)
-given-avoids (Weighted halfLife) S H limit g side d h = tt
-given-avoids Semi S H limit g side d h = tt
-given-avoids (SemiBelow threshold) S H limit g side d h = tt
+given-avoids (Weighted halfLife) S H limit g side h = tt
+given-avoids Semi S H limit g side h = tt
+given-avoids (SemiBelow threshold) S H limit g side h = tt
 
 -- ---- the checks of the settings
 regularization-avoids : (H : Regularization) → Avoids (badRegularization H)
@@ -172,29 +172,26 @@ numberOf (Intensity δ) = 0
 numberOf Mean = 0
 numberOf (Shrunk α μ₀ s r) = 0
 
-settled : (c : Check) → Avoids c → (slice : List Float) (w : Answered) → numberOf (w .answer) ≡ 0 → eqb (numberOf (settle c slice w .answer)) (number NotDecomposed) ≡ false
+settled-avoids : (c : Check) → Avoids c → (slice : List Float) (w : Answered) → numberOf (w .answer) ≡ 0 → eqb (numberOf (settle c slice w .answer)) (number NotDecomposed) ≡ false
 unfolding settle
-settled passes p slice w e = ap (λ (k : ℕ). eqb k (number NotDecomposed)) e
-settled (refuses c) p slice w e = p
+settled-avoids passes p slice w e = ap (λ (k : ℕ). eqb k (number NotDecomposed)) e
+settled-avoids (refuses c) p slice w e = p
 
 module _ (r : List Float) (n P : ℕ) (s : Settings) (g : List Float) (side : ℕ) (slice : List Float) where
-  abbrev d : Decomposition
-  d = decompositionOf s side (average side g)
-
   -- where the decomposition of a given matrix, if one is made, was found
-  decomposed : (isGiven (s .estimate) ≡ true → d .found ≡ true) → eqb (numberOf (adjustedCovariance r n P s g side slice .answer)) (number NotDecomposed) ≡ false
+  decomposed : (isGiven (s .estimate) ≡ true → decompositionOf s g side .found ≡ true) → eqb (numberOf (adjustedCovariance r n P s g side slice .answer)) (number NotDecomposed) ≡ false
   decomposed h =
       let o = opening r n P (n * n) slice in
-      let c = ofGiven s g side d in
+      let c = ofGiven s g side in
       let a = ofAnswer r n P s g side in
       rw (covariance-is r n P s g side slice)
-      (settled (first (o ++ c ++ a)) (avoid-first (o ++ c ++ a) (append (o ++ c) a (append o c (opening-avoids r n P (n * n) slice) (given-avoids (s .estimate) (s .shrinkage) (s .regularization) (s .limit) g side d h)) (settings-avoid s (intensity (s .shrinkage) P n (at r n)) P n side (at r n) (at (estimated r n P s g side) n) (at (covariances r n P s g side) n)))) slice _ refl)
+      (settled-avoids (first (o ++ c ++ a)) (avoid-first (o ++ c ++ a) (append (o ++ c) a (append o c (opening-avoids r n P (n * n) slice) (given-avoids (s .estimate) (s .shrinkage) (s .regularization) (s .limit) g side h)) (settings-avoid s (intensity (s .shrinkage) P n (at r n)) P n side (at r n) (at (estimated r n P s g side) n) (at (covariances r n P s g side) n)))) slice _ refl)
 
-  pub diagonal-not-refused : 0 < s .limit → ((i j : ℕ) → i < side → j < side → T (fits binary64 (at g side i j))) → Diagonal side (at g side) → allFinite side side (average side g) ≡ true
+  pub diagonal-not-refused : 0 < s .limit → ((i j : ℕ) → i < side → j < side → T (fits binary64 (at g side i j))) → Diagonal side (at g side) → allFinite side side (average g side) ≡ true
       → adjustedCovariance r n P s g side slice .answer ≡ Refused NotDecomposed → ⊥
   unfolding decompositionOf
   diagonal-not-refused p fit diagonal all e = subst T (sym (ap (λ (w : Answer). eqb (numberOf w) (number NotDecomposed)) e) ∙ decomposed (λ h. found (isGiven (s .estimate)) h)) tt
     where
-      found : (b : Bool) → b ≡ true → (elim b as (λ z. Decomposition) [ true ↦ decomposeGiven (s .limit) side (average side g) | false ↦ unturned 0 true ]) .found ≡ true
+      found : (b : Bool) → b ≡ true → (elim b as (λ z. Decomposition) [ true ↦ decomposeGiven (s .limit) side (average g side) | false ↦ unturned 0 true ]) .found ≡ true
       found true h = given-diagonal side g fit diagonal (s .limit) p all
       found false h = absurd (subst T (sym h) tt)

@@ -4,11 +4,11 @@ use Prim.Native.Nat.{ℕ, zero, suc, _+_, _*_, _^_, _<_}
 use native.Mathlib.Nat.{zero-mul}
 use native.Mathlib.Omega.{arith}
 use mathlib.Core.Bool.{Bool, true, false}
-use mathlib.Core.List.{List, [], _∷_, _++_, map}
+use mathlib.Core.List.{List, [], _∷_, map}
 use lib.Dec.{T}
 use lib.IntN.{ℤ, pos, negsuc, negℤ, natAbs, _+ℤ_, _*ℤ_, *ℤ-one}
 use lib.ListN.{take, drop}
-use lib.Seq.{take-append-seam}
+use lib.Seq.{take-at}
 use lib.Ieee.{Float, nan, inf, fin, binary64, fits}
 use Rattle.leaves.specs.Numbers.{signum}
 use Rattle.leaves.specs.Loops.{tab, fill}
@@ -90,7 +90,7 @@ each-tab R (suc n) f f' h = (h 0 (omega arith), each-tab R n (λ i. f (suc i)) (
 -- the answer's part of a slice
 take-fill : (n : ℕ) (f : ℕ → Float) (slice : List Float) → take n (fill n f slice) ≡ tab n f
 unfolding fill
-take-fill n f slice = ap (λ (k : ℕ). take k (tab n f ++ drop n slice)) (sym (length-tab f n)) ∙ take-append-seam (tab n f) (drop n slice)
+take-fill n f slice = take-at (tab n f) (drop n slice) n (length-tab f n)
 
 pub filled-alike : (k n : ℕ) (f f' : ℕ → Float) (slice slice' : List Float) → ((i : ℕ) → i < n → T (fits binary64 (f i)) × (f' i ≡ shift (pos k) (f i))) → Each (Times (pos k)) (take n (fill n f slice)) (take n (fill n f' slice'))
 filled-alike k n f f' slice slice' h =

@@ -51,18 +51,18 @@ entries-same k l m n = ap (λ (o : Option (ℕ × ℕ)). whenSome o (λ p. NotFi
 pub returns-scalable : Scalable returnBounds
 returns-scalable = (lit≤ tt, lit≤ tt, lit≤ tt, lit≤ tt, lit≤ tt)
 
-pub column : {k n T : ℕ} {x y : Matrix} → k ≤ maxPower → Returns k n T returnBounds x y → (i : ℕ) → i < n → Scaling k returnBounds (largest T x i) (largest T y i)
+pub column : {k n P : ℕ} {x y : Matrix} → k ≤ maxPower → Returns k n P returnBounds x y → (i : ℕ) → i < n → Scaling k returnBounds (largest P x i) (largest P y i)
 column small r i a = scaling (largest-moved r i a) returns-scalable (omega arith)
 
 -- ---- the shapes that are accepted
 abbrev pub Shape : List Float → ℕ → ℕ → Type 0
-Shape r n T = Shaped (length r) n T
+Shape r n P = Shaped (length r) n P
 
-module _ (k : ℕ) (small : k ≤ maxPower) (r : List Float) (sizes : All (Sized returnRange) r) (n T : ℕ) where
+module _ (k : ℕ) (small : k ≤ maxPower) (r : List Float) (sizes : All (Sized returnRange) r) (n P : ℕ) where
   abbrev r' : List Float
   r' = map (shift (pos k)) r
 
-  pub returns : Shape r n T → Returns k n T returnBounds (at r n) (at (map (shift (pos k)) r) n)
+  pub returns : Shape r n P → Returns k n P returnBounds (at r n) (at r' n)
   returns (assets, few, periods, most, full) = record {
     assets = assets;
     few = few;
@@ -76,29 +76,29 @@ module _ (k : ℕ) (small : k ≤ maxPower) (r : List Float) (sizes : All (Sized
   squares : Squares k returnBounds
   squares = (lit≤ tt, lit≤ tt, omega arith, omega arith)
 
-  pub sample-moved : Shape r n T → (i j : ℕ) → i < n → j < n → Sampled (k + k) (covariance T (at r n) i j) (covariance T (at (map (shift (pos k)) r) n) i j)
+  pub sample-moved : Shape r n P → (i j : ℕ) → i < n → j < n → Sampled (k + k) (covariance P (at r n) i j) (covariance P (at r' n) i j)
   sample-moved s = covariance-moved (returns s) squares
 
-  pub semi-moved : Shape r n T → (i j : ℕ) → i < n → j < n → Sampled (k + k) (semicovariance T (at r n) i j) (semicovariance T (at (map (shift (pos k)) r) n) i j)
+  pub semi-moved : Shape r n P → (i j : ℕ) → i < n → j < n → Sampled (k + k) (semicovariance P (at r n) i j) (semicovariance P (at r' n) i j)
   semi-moved s = semicovariance-moved (returns s) squares
 
-  pub semiBelow-moved : (θ θ' : Float) → Sized returnRange θ → θ' ≡ shift (pos k) θ → Shape r n T → (i j : ℕ) → i < n → j < n → Sampled (k + k) (semicovarianceBelow θ T (at r n) i j) (semicovarianceBelow θ' T (at (map (shift (pos k)) r) n) i j)
+  pub semiBelow-moved : (θ θ' : Float) → Sized returnRange θ → θ' ≡ shift (pos k) θ → Shape r n P → (i j : ℕ) → i < n → j < n → Sampled (k + k) (semicovarianceBelow θ P (at r n) i j) (semicovarianceBelow θ' P (at r' n) i j)
   semiBelow-moved θ θ' z e s = semicovarianceBelow-moved (returns s) squares (sized-moved k returnRange (lit≤ tt) θ θ' z e)
 
-  covariance-same : Shape r n T → allFinite n n (covariance T (at (map (shift (pos k)) r) n)) ≡ allFinite n n (covariance T (at r n))
-  covariance-same s = finite-same n n (covariance T (at (map (shift (pos k)) r) n)) (covariance T (at r n)) (λ i j a b. ap isFinite (sample-moved s i j a b .copy) ∙ isFinite-shift (pos (k + k)) (covariance T (at r n) i j))
+  covariance-same : Shape r n P → allFinite n n (covariance P (at r' n)) ≡ allFinite n n (covariance P (at r n))
+  covariance-same s = finite-same n n (covariance P (at (map (shift (pos k)) r) n)) (covariance P (at r n)) (λ i j a b. ap isFinite (sample-moved s i j a b .copy) ∙ isFinite-shift (pos (k + k)) (covariance P (at r n) i j))
 
   -- for a slice of `needed` numbers
-  pub opening-chain : {P : Type 0} {cs cs' : List Check} (needed : ℕ) (slice slice' : List Float) → length slice' ≡ length slice
-      → (Shape r n T → ((ds : List Check) → first (opening r n T 0 [] ++ ds) ≡ first ds) → Chain P cs cs') → Chain P (opening r n T needed slice ++ cs) (opening (map (shift (pos k)) r) n T needed slice' ++ cs')
+  pub opening-chain : {Q : Type 0} {cs cs' : List Check} (needed : ℕ) (slice slice' : List Float) → length slice' ≡ length slice
+      → (Shape r n P → ((ds : List Check) → first (opening r n P 0 [] ++ ds) ≡ first ds) → Chain Q cs cs') → Chain Q (opening r n P needed slice ++ cs) (opening r' n P needed slice' ++ cs')
   unfolding opening first
   opening-chain needed slice slice' e then =
-      let lengths = ap₂ (λ (l room : ℕ). byShape l n T needed room) (length-map r (shift (pos k))) e in
-      chain-equal (byShape (length r) n T needed (length slice)) lengths (λ e₁.
-      let s = shape-passes (length r) n T needed (length slice) e₁ refl .0 in
-      chain-same (notFinite T n (at r n)) (entries-same k r T n) (λ e₂.
-      chain-must (allFinite n n (covariance T (at r n))) CovarianceNotFinite (covariance-same s) (λ e₃. then s (opens s e₂ e₃))))
+      let lengths = ap₂ (λ (l room : ℕ). byShape l n P needed room) (length-map r (shift (pos k))) e in
+      chain-equal (byShape (length r) n P needed (length slice)) lengths (λ e₁.
+      let s = shape-passes (length r) n P needed (length slice) e₁ refl .0 in
+      chain-same (notFinite P n (at r n)) (entries-same k r P n) (λ e₂.
+      chain-must (allFinite n n (covariance P (at r n))) CovarianceNotFinite (covariance-same s) (λ e₃. then s (opens s e₂ e₃))))
     where
       -- it passes too where no slice is asked for
-      opens : Shape r n T → notFinite T n (at r n) ≡ passes → allFinite n n (covariance T (at r n)) ≡ true → (ds : List Check) → first (opening r n T 0 [] ++ ds) ≡ first ds
-      opens s e₂ e₃ ds = opened r n T 0 [] ds s zero-le ∙ rw (e₂, e₃)
+      opens : Shape r n P → notFinite P n (at r n) ≡ passes → allFinite n n (covariance P (at r n)) ≡ true → (ds : List Check) → first (opening r n P 0 [] ++ ds) ≡ first ds
+      opens s e₂ e₃ ds = opened r n P 0 [] ds s zero-le ∙ rw (e₂, e₃)

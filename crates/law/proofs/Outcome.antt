@@ -10,12 +10,14 @@ use lib.Seq.{drop-at}
 use lib.Ieee.{Float, nan, eq}
 use Rattle.leaves.specs.Numbers.{zero⁺, isFinite}
 use Rattle.leaves.specs.Loops.{tab, fill, nth}
-use Rattle.leaves.proofs.Loops.{length-tab, fill-at}
+use Rattle.leaves.proofs.Loops.{length-tab}
+use Rattle.leaves.proofs.Fill.{fill-at}
 use Rattle.matrix.specs.Matrix.{Matrix, at, trace, allFinite}
 use Rattle.matrix.specs.Jacobi.{Decomposition}
-use Rattle.matrix.proofs.Alike.{trace-alike, finite-all}
+use Rattle.matrix.proofs.Alike.{trace-alike}
+use Rattle.matrix.proofs.Finite.{finite-all}
 use Rattle.estimators.specs.Refusals.{Check, passes, refuses, when, first}
-use Rattle.estimators.specs.Adjusted.{decompositionOf, intensity, adjusted, isAdjusted}
+use Rattle.estimators.specs.Adjusted.{decompositionOf, intensity, isAdjusted}
 use Rattle.estimators.specs.Order.{opening, ofGiven, noVariance, bySettings, byAnswer, byEstimate, ofSettings, adjustedOrder, weightedOrder, jamesSteinOrder, bayesSteinOrder}
 use Rattle.estimators.specs.Calls.{Answered, answered, settle, adjustedCovariance, exponentiallyWeightedMean, jamesSteinMean, bayesSteinMean}
 use Rattle.estimators.specs.declared.Settings.{Settings}
@@ -23,15 +25,13 @@ use Rattle.estimators.specs.declared.Refusal.{Refusal}
 use Rattle.estimators.specs.declared.Refusal.the-variants.{CovarianceNotFinite, Singular}
 use Rattle.estimators.specs.declared.Answer.{Answer}
 use Rattle.estimators.specs.declared.Answer.the-variants.{Refused, Covariance, Intensity, Mean, Shrunk}
-use Rattle.estimators.proofs.Firsts.{pass-append}
 use Rattle.estimators.proofs.Passed.{pass-test, pass-cons}
-use Rattle.estimators.proofs.Opened.{settle-length}
+use Rattle.estimators.proofs.Opened.{answerOf, settle-length}
 use Rattle.law.specs.Law as Law
 use Rattle.law.specs.Law.{Question, ask}
 use Rattle.law.proofs.Calls.{estimated, covariances, ofAnswer, covariance-is}
-use Rattle.law.proofs.Given.{average}
 use Rattle.law.proofs.Chain.{pass-must}
-use Rattle.law.proofs.Passing.{pass-opening, Accepted}
+use Rattle.law.proofs.Passing.{pass-append, pass-opening, Accepted}
 
 -- ---- the answer slice
 pub record Kept (needed : ℕ) (old : List Float) (w : Answered) : Type 0 where
@@ -58,7 +58,7 @@ settle-kept needed old A f k other room = record { refused = left k .0; later = 
 
 -- whatever is checked after the opening
 opened-kept : (r : List Float) (n P needed : ℕ) (old : List Float) (A : Answer) (f : ℕ → Float) (cs : List Check) → (IsRefused A → ⊥)
-    → Kept needed old (settle (first (opening r n P needed old ++ cs)) old (answered A (fill needed f old)))
+    → Kept needed old (answerOf r n P needed cs A f old)
 opened-kept r n P needed old A f cs other =
     settle-kept needed old A f (first (opening r n P needed old ++ cs)) other (λ h. pass-opening r n P needed old (pass-append (opening r n P needed old) cs h .0) .1)
 
@@ -74,7 +74,7 @@ pub kept : (r : List Float) (n P : ℕ) (q : Question) (old : List Float) → Ke
 unfolding adjustedCovariance adjustedOrder exponentiallyWeightedMean weightedOrder jamesSteinMean jamesSteinOrder bayesSteinMean bayesSteinOrder
 kept r n P (Law.adjusted s given side) old =
     let o = opening r n P (n * n) old in
-    let g = ofGiven s given side (decompositionOf s side (average side given)) in
+    let g = ofGiven s given side in
     settle-kept (n * n) old _ _ (first (o ++ g ++ ofAnswer r n P s given side)) (λ z. z) (λ h. pass-opening r n P (n * n) old (pass-append o g (pass-append (o ++ g) (ofAnswer r n P s given side) h .0) .0) .1)
 kept r n P (Law.intensity F) old = record { refused = λ c e. refl; later = refl; long = refl }
 kept r n P (Law.weightedMean halfLife) old = opened-kept r n P n old _ _ _ (λ z. z)
@@ -105,19 +105,19 @@ usable n a old f t =
 pub accepted-covariance : (r : List Float) (n P : ℕ) (s : Settings) (given : List Float) (side : ℕ) (old : List Float)
     → Accepted (adjustedCovariance r n P s given side old) → Usable n (adjustedCovariance r n P s given side old .slice)
 unfolding settle
-accepted-covariance r n P s given side old = rw (covariance-is r n P s given side old) (λ h. go (first (opening r n P (n * n) old ++ ofGiven s given side (decompositionOf s side (average side given)) ++ ofAnswer r n P s given side)) refl h)
+accepted-covariance r n P s given side old = rw (covariance-is r n P s given side old) (λ h. go (first (opening r n P (n * n) old ++ ofGiven s given side ++ ofAnswer r n P s given side)) refl h)
   where
     d : Decomposition
-    d = decompositionOf s side (average side given)
+    d = decompositionOf s given side
 
     a : List Float
     a = covariances r n P s given side
 
-    go : (c : Check) → first (opening r n P (n * n) old ++ ofGiven s given side d ++ ofAnswer r n P s given side) ≡ c
+    go : (c : Check) → first (opening r n P (n * n) old ++ ofGiven s given side ++ ofAnswer r n P s given side) ≡ c
         → Accepted (settle c old (answered (Covariance (intensity (s .shrinkage) P n (at r n)) (d .sweeps) (d .rotations)) (fill (n * n) (nth a) old)))
         → Usable n (settle c old (answered (Covariance (intensity (s .shrinkage) P n (at r n)) (d .sweeps) (d .rotations)) (fill (n * n) (nth a) old)) .slice)
     go (refuses c) e h = absurd (h c refl)
     go passes e h =
-        let q = pass-append (opening r n P (n * n) old ++ ofGiven s given side d) (ofAnswer r n P s given side) e .1 in
+        let q = pass-append (opening r n P (n * n) old ++ ofGiven s given side) (ofAnswer r n P s given side) e .1 in
         let t = last-checks s (intensity (s .shrinkage) P n (at r n)) P n side (at r n) (at (estimated r n P s given side) n) (at a n) q in
         usable n a old (t .0) (t .1)

@@ -1,7 +1,7 @@
--- What is known where the opening checks pass, of a call that accepts, and of every answer: document 01, "Causes". Assumes nothing.
-use mathlib.Core.Path.{_≡_, refl}
+-- What is known where checks pass one after the other, where the opening checks do, of a call that accepts, and of every answer: document 01, "Causes". Assumes nothing.
+use mathlib.Core.Path.{_≡_, refl, _∙_}
 use Prim.Native.Nat.{ℕ, _≤_}
-use mathlib.Core.List.{List}
+use mathlib.Core.List.{List, _++_}
 use lib.ListN.{length}
 use lib.Ieee.{Float}
 use Rattle.matrix.specs.Limits.{maxSide}
@@ -12,8 +12,13 @@ use Rattle.estimators.specs.Calls.{Answered, settle}
 use Rattle.estimators.specs.declared.Refusal.{Refusal}
 use Rattle.estimators.specs.declared.Answer.{Answer}
 use Rattle.estimators.specs.declared.Answer.the-variants.{Refused}
-use Rattle.estimators.proofs.Firsts.{pass-append}
+use Rattle.estimators.proofs.Firsts.{first-then}
+use Rattle.estimators.proofs.Passed.{pass-cons}
 use Rattle.estimators.proofs.Shapes.{shape-passes}
+
+-- earlier and later checks that all pass
+pub pass-append : (xs ys : List Check) → first (xs ++ ys) ≡ passes → (first xs ≡ passes) × (first ys ≡ passes)
+pass-append xs ys e = pass-cons (first xs) ys (first-then xs ys refl ∙ e)
 
 -- no more than maxSide assets, and the answer slice is long enough
 pub pass-opening : (r : List Float) (n P needed : ℕ) (slice : List Float) → first (opening r n P needed slice) ≡ passes → (n ≤ maxSide) × (needed ≤ length slice)
@@ -33,7 +38,7 @@ all-pass passes slice w h = refl
 all-pass (refuses c) slice w h = absurd (h c refl)
 
 -- what every refusal has, and the answer where all checks pass, the call's answer has
-pub settled : (P : Answer → Type 0) → ((c : Refusal) → P (Refused c)) → (c : Check) (slice : List Float) (w : Answered) → (c ≡ passes → P (w .answer)) → P (settle c slice w .answer)
+pub settle-cases : (P : Answer → Type 0) → ((c : Refusal) → P (Refused c)) → (c : Check) (slice : List Float) (w : Answered) → (c ≡ passes → P (w .answer)) → P (settle c slice w .answer)
 unfolding settle
-settled P refused passes slice w h = h refl
-settled P refused (refuses c) slice w h = refused c
+settle-cases P refused passes slice w h = h refl
+settle-cases P refused (refuses c) slice w h = refused c

@@ -1,6 +1,6 @@
 -- The bounds of every quantity between the returns and an answer, each made of the bounds that it follows from as the quantity is made of others. At the bottom stand document 01's ranges
--- and the limits on assets and periods (Bits); nothing else is a number of its own but what the constants and `exp` ask for. So a limit or range that changes moves all that rests on it, and the proofs
--- write no bound as a numeral. Bounds are powers of two of units, and 1 is 2 ^ oneBits of them. Assumes nothing.
+-- and the limits on assets and periods (Bits); nothing else is a number of its own but what the constants and `exp` ask for. So a limit or range that changes moves all that rests on it, and outside of
+-- Exponential and Weights the proofs write no bound as a numeral. Bounds are powers of two of units, and 1 is 2 ^ oneBits of them. Assumes nothing.
 use Prim.Native.Nat.{ℕ, suc, _+_, _-_}
 use Rattle.leaves.proofs.Units.{oneBits, topBits}
 use Rattle.leaves.proofs.Bounds.{Bounds, sizes, multiples, sumOf, productOf, normalProductOf, quotientOf, rootOf}
@@ -113,7 +113,7 @@ totalWeightBounds = sumOf periodBits weightBounds
 abbrev pub denominatorBounds : Bounds
 denominatorBounds = sizes (oneBits - 77) (oneBits + 8 + periodBits)
 
--- the return over the power of two of its column's largest
+-- a return over the power of two of its column's largest, or of the largest of all
 abbrev pub unitBounds : Bounds
 unitBounds = unitOf returnBounds
 
@@ -161,12 +161,12 @@ unitVarianceBounds = covarianceOf unitBounds
 abbrev pub unitVolatilityBounds : Bounds
 unitVolatilityBounds = rootOf unitVarianceBounds
 
--- James-Stein: the grand mean, and a mean pulled towards it
-abbrev pub centreBounds : Bounds
-centreBounds = quotientOf (sumOf sideBits unitMeanBounds) (countBounds sideBits)
+-- James-Stein: the grand mean μ₀, and α (μ₀ - μ), by which a mean moves towards it
+abbrev pub grandMeanBounds : Bounds
+grandMeanBounds = quotientOf (sumOf sideBits unitMeanBounds) (countBounds sideBits)
 
-abbrev pub pulledPartBounds : Bounds
-pulledPartBounds = productOf meanIntensityBounds (sumOf 1 centreBounds)
+abbrev pub stepBounds : Bounds
+stepBounds = productOf meanIntensityBounds (sumOf 1 grandMeanBounds)
 
 -- Bayes-Stein: a volatility above its tolerance, of a column whose largest return is at least 1; its inverse, and the mean over it
 abbrev pub toleranceBounds : Bounds
@@ -181,6 +181,6 @@ inverseBounds = quotientOf oneBounds steadyVolatilityBounds
 abbrev pub meanOverBounds : Bounds
 meanOverBounds = quotientOf unitMeanBounds steadyVolatilityBounds
 
--- what is left of a mean, scaled back
+-- (1 - α) μ, what is left of a mean, in its column's unit
 abbrev pub leftMeanBounds : Bounds
 leftMeanBounds = productOf (sumOf 1 meanIntensityBounds) unitMeanBounds

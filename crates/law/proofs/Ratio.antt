@@ -15,21 +15,22 @@ use lib.Pow.{pow-add, pow-pos, pow-mono}
 use lib.Ieee.{Float, nan, inf, fin, binary64, fits, mul, div, unlike, le, size, isNan}
 use lib.Ieee.Digits.{size-lt, size-reaches}
 use lib.Ieee.Fits.{mul-fits, div-fits}
-use Rattle.leaves.proofs.Laws.{size-pos}
-use Rattle.leaves.proofs.Whole.{le-or-lt}
 use borrow.Author.Tests.{ltb-true}
 use Rattle.leaves.specs.Numbers.{_⊗_, _⊘_, ε, count, isFinite, larger, smaller}
 use Rattle.leaves.specs.Loops.{loop, sumTo, minTo, maxTo}
-use Rattle.leaves.proofs.Rounding.{near, Near, near-most, near-error, near-held, held-times}
-use Rattle.leaves.proofs.Units.{oneBits, topBits, fractionBits, val-pos, U, U-pos, Top, Val, zero-mag, sign, mag, val-mag, val-finite, mag-val, mag-held, finite-fin, fin-val, fin-under-Top, finite-mag, rounded-val}
+use Rattle.leaves.proofs.Laws.{size-pos}
+use Rattle.leaves.proofs.Whole.{le-or-lt}
+use Rattle.leaves.proofs.Rounding.{near, Near, near-most, near-error, near-representable, representable-times}
+use Rattle.leaves.proofs.Units.{oneBits, topBits, fractionBits, val-pos, U, U-pos, Top, Val, zero-mag, sign, mag, val-mag, val-finite, mag-val, mag-representable, finite-fin, fin-val, fin-under-Top, finite-mag, rounded-val}
 use Rattle.leaves.proofs.Arithmetic.{mul-finite, div-finite, mul-rounded, div-rounded}
 use Rattle.leaves.proofs.Range.{count-val}
 use Rattle.leaves.proofs.Signs.{sign-mul, sign-div}
 use Rattle.leaves.proofs.Keys.{number, finite-number, key, lt-key, Fine, larger-by, smaller-by, picked}
+use Rattle.leaves.proofs.Zero.{over-inf}
 use Rattle.matrix.specs.Limits.{maxSide}
 use Rattle.matrix.proofs.Turn.{turnBits}
 use Rattle.law.proofs.Bits.{sideBits}
-use Rattle.law.proofs.Sizes.{over-inf, le-or}
+use Rattle.law.proofs.Comparisons.{le-or}
 use Rattle.law.proofs.Sums.{sum-fits, sum-least, sum-finite, sum-most, sum-some}
 
 -- a product of an entry of V and a number below 2, and a projection, which is a sum of such
@@ -73,18 +74,18 @@ module _ (x y : Float) (fx : T (fits binary64 x)) (fy : T (fits binary64 y)) whe
     quotient : T (isFinite (x ⊘ y)) → Near (mag (x ⊘ y)) (mag x * U) (mag y)
     quotient f = subst (λ (g : ℕ). Near g (mag x * U) (mag y)) (sym (quotient-is f)) (near-error (mag x * U) (mag y) p)
 
--- ---- values that pass the test of Bayes and Stein
+-- ---- values that pass Bayes-Stein's test for a singular matrix (14)
 -- 2 ^ -52, in units, and n of them
-abbrev tinyBits : ℕ
-tinyBits = oneBits - fractionBits
+abbrev epsilonBits : ℕ
+epsilonBits = oneBits - fractionBits
 
-tiny : (n : ℕ) → n ≤ maxSide → Val (count n ⊗ ε) false (n * 2 ^ tinyBits)
+tiny : (n : ℕ) → n ≤ maxSide → Val (count n ⊗ ε) false (n * 2 ^ epsilonBits)
 tiny n few =
-    let e : near (n * U * 2 ^ tinyBits) U ≡ n * 2 ^ tinyBits = ap (λ (z : ℕ). near z U) (mul-right-comm n U (2 ^ tinyBits)) ∙ near-held (n * 2 ^ tinyBits) U U-pos (held-times n tinyBits (lt-of-le-of-lt few (lit< tt))) in
-    let ε-val : Val ε false (2 ^ tinyBits) = unfold U in (refl, refl) in
-    let top : n * 2 ^ tinyBits < Top = lt-of-le-of-lt (mul-le-mul-right (2 ^ tinyBits) few) (unfold Top in lit< tt) in
-    subst₂ (λ (z : Float) (a : ℕ). Val z false a) (sym (mul-rounded (count n) ε false false (n * U) (2 ^ tinyBits) (count-val n (le-trans few (lit≤ tt))) ε-val)) e
-    (rounded-val false (n * U * 2 ^ tinyBits) U U-pos (subst (λ (a : ℕ). a < Top) (sym e) top))
+    let e : near (n * U * 2 ^ epsilonBits) U ≡ n * 2 ^ epsilonBits = ap (λ (z : ℕ). near z U) (mul-right-comm n U (2 ^ epsilonBits)) ∙ near-representable (n * 2 ^ epsilonBits) U U-pos (representable-times n epsilonBits (lt-of-le-of-lt few (lit< tt))) in
+    let ε-val : Val ε false (2 ^ epsilonBits) = unfold U in (refl, refl) in
+    let top : n * 2 ^ epsilonBits < Top = lt-of-le-of-lt (mul-le-mul-right (2 ^ epsilonBits) few) (unfold Top in lit< tt) in
+    subst₂ (λ (z : Float) (a : ℕ). Val z false a) (sym (mul-rounded (count n) ε false false (n * U) (2 ^ epsilonBits) (count-val n (le-trans few (lit≤ tt))) ε-val)) e
+    (rounded-val false (n * U * 2 ^ epsilonBits) U U-pos (subst (λ (a : ℕ). a < Top) (sym e) top))
 
 pub record Positive (n : ℕ) (v : ℕ → Float) : Type 0 where
   pub L : ℕ
@@ -110,10 +111,10 @@ module _ (n : ℕ) (few : suc n ≤ maxSide) (v : ℕ → Float) (fit : (e : ℕ
       bar-is : (s : Bool) → count (suc n) ⊗ ε ⊗ inf s ≡ inf s
       bar-is s = nonzero (count (suc n) ⊗ ε) (tiny (suc n) few)
         where
-          nonzero : (c : Float) → Val c false (suc n * 2 ^ tinyBits) → c ⊗ inf s ≡ inf s
+          nonzero : (c : Float) → Val c false (suc n * 2 ^ epsilonBits) → c ⊗ inf s ≡ inf s
           nonzero nan w = absurd w
           nonzero (inf r) w = absurd w
-          nonzero (fin r zero e) w = absurd (lt-irrefl 0 (subst (λ (a : ℕ). 0 < a) (sym (val-mag (fin r zero e) false (suc n * 2 ^ tinyBits) w .1) ∙ zero-mag r e) (mul-pos (zero-lt-suc n) (pow-pos tinyBits))))
+          nonzero (fin r zero e) w = absurd (lt-irrefl 0 (subst (λ (a : ℕ). 0 < a) (sym (val-mag (fin r zero e) false (suc n * 2 ^ epsilonBits) w .1) ∙ zero-mag r e) (mul-pos (zero-lt-suc n) (pow-pos epsilonBits))))
           nonzero (fin r (suc k) e) w = unfold mul in rw (w .0, eqb·suc-zero k) (same s)
             where
               same : (s : Bool) → inf (unlike false s) ≡ inf s
@@ -131,18 +132,18 @@ module _ (n : ℕ) (few : suc n ≤ maxSide) (v : ℕ → Float) (fit : (e : ℕ
       bar = count (suc n) ⊗ ε ⊗ fin s c e
 
       a : ℕ
-      a = suc n * 2 ^ tinyBits
+      a = suc n * 2 ^ epsilonBits
 
-      a-most : suc n * 2 ^ tinyBits ≤ U
-      a-most = le-trans (mul-le-mul-right (2 ^ tinyBits) few) (unfold U in lit≤ tt)
+      a-most : suc n * 2 ^ epsilonBits ≤ U
+      a-most = le-trans (mul-le-mul-right (2 ^ epsilonBits) few) (unfold U in lit≤ tt)
 
       B : ℕ
-      B = near (suc n * 2 ^ tinyBits * mag (fin s c e)) U
+      B = near (suc n * 2 ^ epsilonBits * mag (fin s c e)) U
 
-      B-most : near (suc n * 2 ^ tinyBits * mag (fin s c e)) U ≤ mag (fin s c e)
-      B-most = near-most (suc n * 2 ^ tinyBits * L) U L U-pos (mag-held Λ t (finite-fin s c e) .0) (le-trans (mul-le-mul-right L a-most) (le-of-eq (mul-comm U L)))
+      B-most : near (suc n * 2 ^ epsilonBits * mag (fin s c e)) U ≤ mag (fin s c e)
+      B-most = near-most (suc n * 2 ^ epsilonBits * L) U L U-pos (mag-representable Λ t (finite-fin s c e) .0) (le-trans (mul-le-mul-right L a-most) (le-of-eq (mul-comm U L)))
 
-      bar-val : Val (count (suc n) ⊗ ε ⊗ fin s c e) (unlike false s) (near (suc n * 2 ^ tinyBits * mag (fin s c e)) U)
+      bar-val : Val (count (suc n) ⊗ ε ⊗ fin s c e) (unlike false s) (near (suc n * 2 ^ epsilonBits * mag (fin s c e)) U)
       bar-val =
           let w = fin-val s c e t in
           subst (λ (z : Float). Val z (unlike false s) B) (sym (mul-rounded (count (suc n) ⊗ ε) Λ false s a L (tiny (suc n) few) w)) (rounded-val (unlike false s) (a * L) U U-pos (lt-of-le-of-lt B-most (fin-under-Top s c e t)))
@@ -164,7 +165,7 @@ module _ (n : ℕ) (few : suc n ≤ maxSide) (v : ℕ → Float) (fit : (e : ℕ
           let k : key (fin s c e) ≡ Top + mag (fin s c e) = unfold key in ap (λ (b : Bool). cond b (Top - L) (Top + L)) i in
           let k' : key (count (suc n) ⊗ ε ⊗ fin s c e) ≡ Top + B = key-val bar (unlike false s) B bar-val ∙ ap (λ (b : Bool). cond (unlike false b) (Top - B) (Top + B)) i in
           let l = fin-under-Top s c e t in
-          let each : (j : ℕ) → j < suc n → T (isFinite (v j)) × (sign (v j) ≡ false) × (key (v j) ≡ Top + mag (v j)) = λ j q. between (v j) (fit j q) (nums j q) (lt-of-le-of-lt (le-add-right Top B) (lt-of-lt-of-le (lt-of-le-of-lt (le-of-eq (sym k')) h) (lo j q))) (lt-of-le-of-lt (le-trans (hi j q) (le-of-eq k)) (under Top L l)) in
+          let each : (j : ℕ) → j < suc n → T (isFinite (v j)) × (sign (v j) ≡ false) × (key (v j) ≡ Top + mag (v j)) = λ j q. between (v j) (nums j q) (lt-of-le-of-lt (le-add-right Top B) (lt-of-lt-of-le (lt-of-le-of-lt (le-of-eq (sym k')) h) (lo j q))) (lt-of-le-of-lt (le-trans (hi j q) (le-of-eq k)) (under Top L l)) in
           let more : (j : ℕ) → j < suc n → B < mag (v j) = λ j q. add-lt-cancel-left Top (lt-of-lt-of-le (lt-of-le-of-lt (le-of-eq (sym k')) h) (le-trans (lo j q) (le-of-eq (each j q .2)))) in
           let most : (j : ℕ) → j < suc n → mag (v j) ≤ L = λ j q. add-le-cancel-left Top (le-trans (le-of-eq (sym (each j q .2))) (le-trans (hi j q) (le-of-eq k))) in
           record {
@@ -174,21 +175,21 @@ module _ (n : ℕ) (few : suc n ≤ maxSide) (v : ℕ → Float) (fit : (e : ℕ
             plus = λ j q. each j q .1;
             above = λ j q. lt-of-le-of-lt zero-le (more j q);
             most = most;
-            least = λ j q. enough L B (mag (v j)) (2 ^ tinyBits) U (suc n * 2 ^ tinyBits) U-wide (le-trans (le-of-eq (sym (one-mul (2 ^ tinyBits)))) (mul-le-mul-right (2 ^ tinyBits) (zero-lt-suc n))) (pow-pos tinyBits) (near-error (suc n * 2 ^ tinyBits * L) U U-pos .halved) (more j q);
+            least = λ j q. enough L B (mag (v j)) (2 ^ epsilonBits) U (suc n * 2 ^ epsilonBits) U-wide (le-trans (le-of-eq (sym (one-mul (2 ^ epsilonBits)))) (mul-le-mul-right (2 ^ epsilonBits) (zero-lt-suc n))) (pow-pos epsilonBits) (near-error (suc n * 2 ^ epsilonBits * L) U U-pos .halved) (more j q);
           }
         where
           under : (t l : ℕ) → l < t → t + l < t + t
           under t l h = omega arith
 
-          U-wide : U ≡ 2 ^ fractionBits * 2 ^ tinyBits
+          U-wide : U ≡ 2 ^ fractionBits * 2 ^ epsilonBits
           U-wide = unfold U in refl
 
-          between : (x : Float) → T (fits binary64 x) → T (number x) → Top < key x → key x < Top + Top → T (isFinite x) × (sign x ≡ false) × (key x ≡ Top + mag x)
-          between nan t p a b = absurd p
-          between (inf true) t p a b = unfold key in absurd (not-suc-le-zero a)
-          between (inf false) t p a b = unfold key in absurd (lt-irrefl (Top + Top) b)
-          between (fin true k d) t p a b = unfold key in absurd (lt-irrefl Top (lt-of-lt-of-le a (sub-le Top (mag (fin true k d)))))
-          between (fin false k d) t p a b = unfold key isFinite sign in (tt, refl, refl)
+          between : (x : Float) → T (number x) → Top < key x → key x < Top + Top → T (isFinite x) × (sign x ≡ false) × (key x ≡ Top + mag x)
+          between nan p a b = absurd p
+          between (inf true) p a b = unfold key in absurd (not-suc-le-zero a)
+          between (inf false) p a b = unfold key in absurd (lt-irrefl (Top + Top) b)
+          between (fin true k d) p a b = unfold key in absurd (lt-irrefl Top (lt-of-lt-of-le a (sub-le Top (mag (fin true k d)))))
+          between (fin false k d) p a b = unfold key isFinite sign in (tt, refl, refl)
 
           enough : (L B M z u a : ℕ) → u ≡ 2 ^ fractionBits * z → z ≤ a → 0 < z → 2 * (a * L) ≤ 4 * (B * u) + u → B < M → L ≤ 2 ^ suc fractionBits * M
           enough L B M z u a i l p h q =
@@ -307,7 +308,7 @@ module _ (n : ℕ) (few : suc n ≤ maxSide) (v : ℕ → Float) (vf : (e : ℕ)
         by-size : (Q : ℕ) → 0 < Q → ((e : ℕ) → e < suc n → T (fits binary64 (p e ⊗ m e ⊘ v e)) × T (isFinite (p e ⊗ m e ⊘ v e)) × (mag (p e ⊗ m e ⊘ v e) ≤ 2 ^ size Q)) → mag N ≤ 2 ^ suc sideBits * Q
         by-size Q q each = elim (le-or-lt (sideBits + size Q) topBits) [
           | inl l ↦ le-trans (sum-most (suc n) (size Q) (λ e. p e ⊗ m e ⊘ v e) few l each) (le-trans (le-of-eq (halves (size Q) some)) (mul-le-mul-left (2 ^ suc sideBits) reach))
-          | inr l ↦ le-trans (le-of-lt (mag-held N (sum-fits (suc n) (λ e. p e ⊗ m e ⊘ v e)) FN .1)) (le-trans top (mul-le-mul-left (2 ^ suc sideBits) (le-trans (pow-mono {i = topBits - sideBits} {j = size Q - 1} (omega arith)) reach)))
+          | inr l ↦ le-trans (le-of-lt (mag-representable N (sum-fits (suc n) (λ e. p e ⊗ m e ⊘ v e)) FN .1)) (le-trans top (mul-le-mul-left (2 ^ suc sideBits) (le-trans (pow-mono {i = topBits - sideBits} {j = size Q - 1} (omega arith)) reach)))
         ]
           where
             some : 0 < size Q

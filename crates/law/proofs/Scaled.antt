@@ -12,7 +12,7 @@ use lib.Pow.{pow-add, pow-pos, pow-mono}
 use lib.Ieee.{Float, binary64, fits}
 use Rattle.leaves.specs.Scaling.{binaryExponent, pow2Scaled}
 use Rattle.leaves.specs.Shift.{shift}
-use Rattle.leaves.proofs.Whole.{over, under, plus, one-side, same, over-neg, under-neg}
+use Rattle.leaves.proofs.Whole.{posPart, negPart, plus, one-side, same, posPart-neg, negPart-neg}
 use Rattle.leaves.proofs.Laws.{pow-back}
 use Rattle.leaves.proofs.Shift.{shift-zero, shift-shift, shift-forth}
 use Rattle.leaves.proofs.Units.{oneBits, topBits, pow-under-Top, sign, mag, fits-shift}
@@ -22,21 +22,25 @@ use Rattle.leaves.proofs.Operations.{Moved}
 use Rattle.leaves.proofs.PowersOfTwo.{fits-move, range-move, scaled-moves, shift-null, lead, exponent-shift, exponent-range, exponent-null, zero-scaled, same-scaled, scaled-copy}
 use Rattle.law.proofs.Ranges.{exponentAbove, exponentBelow, unitOf, scaledBy}
 
+-- a number from -lo to hi
+abbrev pub Within : ℕ → ℕ → ℤ → Type 0
+Within hi lo j = (posPart j ≤ hi) × (negPart j ≤ lo)
+
 -- the exponent of a value in bounds is in theirs
-pub exponent-within : (b : Bounds) (x : Float) → Bounded b x → 0 < mag x → b .least ≤ oneBits → oneBits ≤ b .most → (over (binaryExponent x) ≤ exponentAbove b) × (under (binaryExponent x) ≤ exponentBelow b)
+pub exponent-within : (b : Bounds) (x : Float) → Bounded b x → 0 < mag x → b .least ≤ oneBits → oneBits ≤ b .most → Within (exponentAbove b) (exponentBelow b) (binaryExponent x)
 exponent-within b x r p low high = let e = exponent-range b x r p in (omega (arith, one-side (binaryExponent x)), omega (arith, one-side (binaryExponent x)))
 
 -- a number no larger than A is below the power of two above A
 abbrev pub topOf : Float → ℕ
-topOf A = suc oneBits + over (binaryExponent A) - under (binaryExponent A)
+topOf A = suc oneBits + posPart (binaryExponent A) - negPart (binaryExponent A)
 
-pub under-power : {g L B c M N : ℕ} (A x : Float) → Range c M N A → 0 < mag A → mag x ≤ mag A → Range g L B x → (under (binaryExponent A) ≤ suc oneBits + over (binaryExponent A)) × Range g L (2 ^ topOf A) x
+pub under-power : {g L B c M N : ℕ} (A x : Float) → Range c M N A → 0 < mag A → mag x ≤ mag A → Range g L B x → (negPart (binaryExponent A) ≤ suc oneBits + posPart (binaryExponent A)) × Range g L (2 ^ topOf A) x
 under-power A x a p e r =
-    let u = under (binaryExponent A) in
+    let u = negPart (binaryExponent A) in
     let q = lead A (a .finite) (range-value a) p .1 in
-    let s = le-of-lt (pow-back u (suc oneBits + over (binaryExponent A)) (lt-of-le-of-lt (le-trans (le-of-eq (sym (one-mul (2 ^ u)))) (mul-le-mul-right (2 ^ u) p)) q)) in
+    let s = le-of-lt (pow-back u (suc oneBits + posPart (binaryExponent A)) (lt-of-le-of-lt (le-trans (le-of-eq (sym (one-mul (2 ^ u)))) (mul-le-mul-right (2 ^ u) p)) q)) in
     let most = le-trans e (le-of-mul-le-mul-right {k = 2 ^ u} (le-trans (le-of-lt q) (le-of-eq (ap (λ (z : ℕ). 2 ^ z) (sym (sub-add-cancel s)) ∙ pow-add 2 (topOf A) u))) (pow-pos u)) in
-    (s, record { fit = r .fit; finite = r .finite; count = r .count; grain = r .grain; least = r .least; most = most })
+    (s, record { fit = r .fit; finite = r .finite; multiple = r .multiple; grain = r .grain; least = r .least; most = most })
 
 -- ---- scaled by 2 ^ -b(A)
 pub record Scaling (k : ℕ) (b : Bounds) (A A' : Float) : Type 0 where
@@ -44,7 +48,7 @@ pub record Scaling (k : ℕ) (b : Bounds) (A A' : Float) : Type 0 where
   pub still : ℕ
   pub few : still ≤ k
   pub exponent : binaryExponent A' ≡ binaryExponent A +ℤ pos (k - still)
-  pub small : (over (binaryExponent A) ≤ exponentAbove b) × (under (binaryExponent A) ≤ exponentBelow b)
+  pub small : Within (exponentAbove b) (exponentBelow b) (binaryExponent A)
   pub same : {d d' : Float} → Moved k b d d' → mag d ≤ mag A → pow2Scaled d' (negℤ (binaryExponent A')) ≡ pow2Scaled d (negℤ (binaryExponent A))
   pub moved : {d d' : Float} → Moved k b d d' → mag d ≤ mag A → let u = pow2Scaled d (negℤ (binaryExponent A)) in Moved still (unitOf b) u u
 
@@ -64,26 +68,26 @@ module _ {k : ℕ} {b : Bounds} {A A' : Float} (a : Moved k b A A') (wide : Scal
     none' : binaryExponent A' ≡ pos 0
     none' = ap binaryExponent (a .copy ∙ shift-null (pos k) A (a .range .fit) (a .range .finite) z) ∙ none
 
-    null : {d d' : Float} → Moved k b d d' → mag d ≤ mag A → mag d ≡ 0
-    null {d} m l = le-antisymm (le-trans l (le-of-eq z)) zero-le
+    null : (d : Float) → mag d ≤ mag A → mag d ≡ 0
+    null d l = le-antisymm (le-trans l (le-of-eq z)) zero-le
 
     of-zeros : Scaling k b A A'
-    unfolding over under
+    unfolding posPart negPart
     of-zeros = record {
       still = k;
       few = le-refl k;
       exponent = none' ∙ sym (ap₂ (λ (i : ℤ) (n : ℕ). i +ℤ pos n) none (sub-self k));
       small = rw none (zero-le, zero-le);
-      same = λ {d} {d'} m l. ap₂ (λ (x : Float) (i : ℤ). pow2Scaled x (negℤ i)) (m .copy ∙ shift-null (pos k) d (m .range .fit) (m .range .finite) (null m l)) (none' ∙ sym none);
-      moved = λ {d} m l. let u = unitOf b in rw (zero-scaled d (negℤ (binaryExponent A)) (m .range .fit) (m .range .finite) (null m l)) (record { range = range-null d (m .range .fit) (m .range .finite) (null m l) (u .grain) (2 ^ u .least) (2 ^ u .most); copy = sym (shift-null (pos k) d (m .range .fit) (m .range .finite) (null m l)) });
+      same = λ {d} {d'} m l. ap₂ (λ (x : Float) (i : ℤ). pow2Scaled x (negℤ i)) (m .copy ∙ shift-null (pos k) d (m .range .fit) (m .range .finite) (null d l)) (none' ∙ sym none);
+      moved = λ {d} m l. let u = unitOf b in rw (zero-scaled d (negℤ (binaryExponent A)) (m .range .fit) (m .range .finite) (null d l)) (record { range = range-null d (m .range .fit) (m .range .finite) (null d l) (u .grain) (2 ^ u .least) (2 ^ u .most); copy = sym (shift-null (pos k) d (m .range .fit) (m .range .finite) (null d l)) });
     }
 
   -- of others
   module _ (p : 0 < mag A) where
-    inner : (b .grain + under (binaryExponent A) ≤ over (binaryExponent A) + oneBits) × (over (binaryExponent A) + oneBits ≤ b .most + under (binaryExponent A))
+    inner : (b .grain + negPart (binaryExponent A) ≤ posPart (binaryExponent A) + oneBits) × (posPart (binaryExponent A) + oneBits ≤ b .most + negPart (binaryExponent A))
     inner = exponent-range (multiples (b .grain) (b .most)) A (range-grain (a .range)) p
 
-    bounds : (over (binaryExponent A) ≤ exponentAbove b) × (under (binaryExponent A) ≤ exponentBelow b)
+    bounds : Within (exponentAbove b) (exponentBelow b) (binaryExponent A)
     bounds = exponent-within b A (a .range) p (wide .1) (wide .3)
 
     abbrev top : ℕ
@@ -93,11 +97,11 @@ module _ {k : ℕ} {b : Bounds} {A A' : Float} (a : Moved k b A A') (wide : Scal
     under-top {d} m e = under-power A d (a .range) p e (m .range) .1
 
     module _ {d d' : Float} (m : Moved k b d d') (e : mag d ≤ mag A) where
-      in-low : under (negℤ (binaryExponent A)) ≤ b .grain + over (negℤ (binaryExponent A))
-      in-low = omega (arith, under-neg (binaryExponent A), bounds)
+      in-low : negPart (negℤ (binaryExponent A)) ≤ b .grain + posPart (negℤ (binaryExponent A))
+      in-low = omega (arith, negPart-neg (binaryExponent A), bounds)
 
-      in-high : top + over (negℤ (binaryExponent A)) ≤ topBits + under (negℤ (binaryExponent A))
-      in-high = omega (arith, over-neg (binaryExponent A), under-neg (binaryExponent A), inner)
+      in-high : top + posPart (negℤ (binaryExponent A)) ≤ topBits + negPart (negℤ (binaryExponent A))
+      in-high = omega (arith, posPart-neg (binaryExponent A), negPart-neg (binaryExponent A), inner)
 
       down-fits : T (fits binary64 (shift (negℤ (binaryExponent A)) d))
       down-fits = fits-move top d (under-top m e) (negℤ (binaryExponent A)) in-low in-high
@@ -108,13 +112,13 @@ module _ {k : ℕ} {b : Bounds} {A A' : Float} (a : Moved k b A A') (wide : Scal
       in-range : Bounded (unitOf b) (shift (negℤ (binaryExponent A)) d)
       in-range =
           let q = bounds in
-          let i : over (negℤ (binaryExponent A)) ≡ under (binaryExponent A) = over-neg (binaryExponent A) in
-          let i' : under (negℤ (binaryExponent A)) ≡ over (binaryExponent A) = under-neg (binaryExponent A) in
-          let c = b .grain + under (binaryExponent A) - over (binaryExponent A) in
+          let i : posPart (negℤ (binaryExponent A)) ≡ negPart (binaryExponent A) = posPart-neg (binaryExponent A) in
+          let i' : negPart (negℤ (binaryExponent A)) ≡ posPart (binaryExponent A) = negPart-neg (binaryExponent A) in
+          let c = b .grain + negPart (binaryExponent A) - posPart (binaryExponent A) in
           let s : Bounded (multiples c (suc oneBits)) (shift (negℤ (binaryExponent A)) d) =
           range-move top d (under-top m e) (negℤ (binaryExponent A)) in-low in-high c (2 ^ c) (2 ^ suc oneBits) (omega arith)
-          (le-trans (le-of-eq (sym (pow-add 2 c (under (negℤ (binaryExponent A)))))) (le-trans (pow-mono {i = c + under (negℤ (binaryExponent A))} {j = b .least + over (negℤ (binaryExponent A))} (omega arith)) (le-of-eq (pow-add 2 (b .least) (over (negℤ (binaryExponent A)))))))
-          (le-of-eq (sym (pow-add 2 top (over (negℤ (binaryExponent A)))) ∙ ap (λ (z : ℕ). 2 ^ z) (omega arith) ∙ pow-add 2 (suc oneBits) (under (negℤ (binaryExponent A))))) in
+          (le-trans (le-of-eq (sym (pow-add 2 c (negPart (negℤ (binaryExponent A)))))) (le-trans (pow-mono {i = c + negPart (negℤ (binaryExponent A))} {j = b .least + posPart (negℤ (binaryExponent A))} (omega arith)) (le-of-eq (pow-add 2 (b .least) (posPart (negℤ (binaryExponent A)))))))
+          (le-of-eq (sym (pow-add 2 top (posPart (negℤ (binaryExponent A)))) ∙ ap (λ (z : ℕ). 2 ^ z) (omega arith) ∙ pow-add 2 (suc oneBits) (negPart (negℤ (binaryExponent A))))) in
           finer c s (omega arith)
         where
           finer : (c : ℕ) {x : Float} → Bounded (multiples c (suc oneBits)) x → unitOf b .grain ≤ c → Bounded (unitOf b) x
@@ -138,7 +142,7 @@ module _ {k : ℕ} {b : Bounds} {A A' : Float} (a : Moved k b A A') (wide : Scal
 -- ---- scaled back
 pub scaled-back : {k : ℕ} {b c : Bounds} {A A' y : Float} (s : Scaling k b A A') → Moved (s .still) c y y → exponentBelow b ≤ c .grain → c .most + exponentAbove b + k ≤ topBits
     → pow2Scaled y (binaryExponent A') ≡ shift (pos k) (pow2Scaled y (binaryExponent A))
-unfolding over under
+unfolding posPart negPart
 scaled-back {k} {b} {c} {A} {A'} {y} s m low high =
     let i = binaryExponent A in
     let n = pos (k - s .still) in
@@ -151,17 +155,17 @@ scaled-back {k} {b} {c} {A} {A'} {y} s m low high =
     ∙ sym (shift-shift i (pos k) y) ∙ ap (shift (pos k)) (sym (scaled-moves e y (m .range) i (omega arith) (omega arith)))
 
 -- its range
-pub scaled-range : (b : Bounds) {y : Float} (j : ℤ) (p q : ℕ) → Bounded b y → over j ≤ p → under j ≤ q → q ≤ b .grain → b .most + p ≤ topBits → Bounded (scaledBy p q b) (pow2Scaled y j)
+pub scaled-range : (b : Bounds) {y : Float} (j : ℤ) (p q : ℕ) → Bounded b y → posPart j ≤ p → negPart j ≤ q → q ≤ b .grain → b .most + p ≤ topBits → Bounded (scaledBy p q b) (pow2Scaled y j)
 scaled-range b {y} j p q r above below d o =
     let e = b .most in
     let c = b .grain in
-    let low : under j ≤ c + over j = omega arith in
-    let high : e + over j ≤ topBits + under j = omega arith in
-    let g = c + over j - under j in
+    let low : negPart j ≤ c + posPart j = omega arith in
+    let high : e + posPart j ≤ topBits + negPart j = omega arith in
+    let g = c + posPart j - negPart j in
     rw (scaled-moves e y r j low high)
     (range-finer (c - q) (omega arith) (range-move e y (range-grain r) j low high g (2 ^ (c - q)) (2 ^ (e + p)) (omega arith)
-    (le-trans (le-of-eq (sym (pow-add 2 (c - q) (under j)))) (le-trans (pow-mono {i = c - q + under j} {j = c + over j} (omega arith)) (le-of-eq (pow-add 2 c (over j)))))
-    (le-trans (le-of-eq (sym (pow-add 2 e (over j)))) (le-trans (pow-mono {i = e + over j} {j = e + p + under j} (omega arith)) (le-of-eq (pow-add 2 (e + p) (under j)))))))
+    (le-trans (le-of-eq (sym (pow-add 2 (c - q) (negPart j)))) (le-trans (pow-mono {i = c - q + negPart j} {j = c + posPart j} (omega arith)) (le-of-eq (pow-add 2 c (posPart j)))))
+    (le-trans (le-of-eq (sym (pow-add 2 e (posPart j)))) (le-trans (pow-mono {i = e + posPart j} {j = e + p + negPart j} (omega arith)) (le-of-eq (pow-add 2 (e + p) (negPart j)))))))
 
 -- a number over its own power of two is at least 1
 pub scaled-least : (b : Bounds) (A : Float) → Bounded b A → 0 < mag A → Scalable b → 2 ^ oneBits ≤ mag (pow2Scaled A (negℤ (binaryExponent A)))
@@ -169,17 +173,17 @@ scaled-least b A r p wide =
     let i = binaryExponent A in
     let h = b .most in
     let e = exponent-range b A r p in
-    let u : over (negℤ i) ≡ under i = over-neg i in
-    let u' : under (negℤ i) ≡ over i = under-neg i in
-    let whole : Range (b .grain) (mag A) (2 ^ h) A = record { fit = r .fit; finite = r .finite; count = r .count; grain = r .grain; least = λ p. le-refl (mag A); most = r .most } in
-    let low : under (negℤ i) ≤ b .grain + over (negℤ i) = omega arith in
-    let high : h + over (negℤ i) ≤ topBits + under (negℤ i) = omega arith in
-    let n = h + over (negℤ i) in
-    let c = b .grain + over (negℤ i) - under (negℤ i) in
+    let u : posPart (negℤ i) ≡ negPart i = posPart-neg i in
+    let u' : negPart (negℤ i) ≡ posPart i = negPart-neg i in
+    let whole : Range (b .grain) (mag A) (2 ^ h) A = record { fit = r .fit; finite = r .finite; multiple = r .multiple; grain = r .grain; least = λ p. le-refl (mag A); most = r .most } in
+    let low : negPart (negℤ i) ≤ b .grain + posPart (negℤ i) = omega arith in
+    let high : h + posPart (negℤ i) ≤ topBits + negPart (negℤ i) = omega arith in
+    let n = h + posPart (negℤ i) in
+    let c = b .grain + posPart (negℤ i) - negPart (negℤ i) in
     let s : Range c (2 ^ oneBits) (2 ^ n) (shift (negℤ i) A) =
     range-move h A whole (negℤ i) low high c (2 ^ oneBits) (2 ^ n) (omega arith)
-    (le-trans (le-of-eq (sym (pow-add 2 oneBits (under (negℤ i))) ∙ ap (λ (z : ℕ). 2 ^ (oneBits + z)) u')) (le-trans (lead A (r .finite) (range-value r) p .0) (le-of-eq (ap (λ (z : ℕ). mag A * 2 ^ z) (sym u)))))
-    (le-trans (le-of-eq (sym (pow-add 2 h (over (negℤ i))))) (le-trans (le-of-eq (sym (mul-one (2 ^ n)))) (mul-le-mul-left (2 ^ n) (pow-pos (under (negℤ i)))))) in
+    (le-trans (le-of-eq (sym (pow-add 2 oneBits (negPart (negℤ i))) ∙ ap (λ (z : ℕ). 2 ^ (oneBits + z)) u')) (le-trans (lead A (r .finite) (range-value r) p .0) (le-of-eq (ap (λ (z : ℕ). mag A * 2 ^ z) (sym u)))))
+    (le-trans (le-of-eq (sym (pow-add 2 h (posPart (negℤ i))))) (le-trans (le-of-eq (sym (mul-one (2 ^ n)))) (mul-le-mul-left (2 ^ n) (pow-pos (negPart (negℤ i)))))) in
     rw (scaled-moves h A r (negℤ i) low high) (s .least (some s))
   where
     some : {c B : ℕ} → Range c (2 ^ oneBits) B (shift (negℤ (binaryExponent A)) A) → 0 < mag (shift (negℤ (binaryExponent A)) A)

@@ -7,21 +7,21 @@ use lib.Dec.{T, lit≤, lit<}
 use lib.IntN.{pos}
 use lib.Ieee.{Float, nan, inf, fin, binary64, fits, lt, div}
 use lib.Ieee.Fits.{add-fits, ofInt-fits}
+use borrow.Author.Tests.{le-ltb}
 use Rattle.leaves.specs.Numbers.{_⊕_, _⊘_, zero⁺, one, two, count, isFinite, max0}
-use Rattle.leaves.proofs.Rounding.{near, near-most, held-pow}
+use Rattle.leaves.proofs.Rounding.{near, near-most, representable-pow}
 use Rattle.leaves.proofs.Units.{oneBits, U, U-pos, U-is, Val, sign, mag, val-mag, rounded-val, pow-under-Top, lt-val, one-val}
 use Rattle.leaves.proofs.Arithmetic.{div-rounded}
-use Rattle.leaves.proofs.Range.{Range}
+use Rattle.leaves.proofs.Range.{Range, two-is, two-val}
 use Rattle.leaves.proofs.Operations.{Moved, moved-add}
 use Rattle.leaves.proofs.Bounds.{sumOf}
 use Rattle.leaves.proofs.Signs.{sign-div, sign-add, sign-count, sign-not-below}
-use borrow.Author.Tests.{le-ltb}
-use Rattle.leaves.proofs.Zero.{no, not-above}
+use Rattle.leaves.proofs.Zero.{no, not-above, over-inf}
 use Rattle.matrix.specs.Limits.{maxSide}
 use Rattle.estimators.specs.BayesStein.{intensityAt}
 use Rattle.law.proofs.Bits.{sideBits, side-bits}
 use Rattle.law.proofs.Ranges.{countBounds}
-use Rattle.law.proofs.Sizes.{over-inf, plus-val, two-is, two-val}
+use Rattle.law.proofs.Comparisons.{plus-val}
 use Rattle.law.proofs.Sample.{count-moved}
 use Rattle.law.proofs.Sums.{plus-least}
 
@@ -48,7 +48,7 @@ ratio-unit x y r sx px ty sy = go (x ⊕ y) refl
         let v = plus-val x (r .fit) (r .finite) sx in
         let w = plus-val (x ⊕ y) (add-fits binary64 x y) F (sign-add x y sx sy) in
         let n = mag x * U in
-        let most : near n (mag (x ⊕ y)) ≤ 2 ^ oneBits = near-most n (mag (x ⊕ y)) (2 ^ oneBits) p (held-pow oneBits) (le-trans (mul-le-mul-right U q) (le-of-eq (mul-comm (mag (x ⊕ y)) U ∙ ap (λ (u : ℕ). u * mag (x ⊕ y)) U-is))) in
+        let most : near n (mag (x ⊕ y)) ≤ 2 ^ oneBits = near-most n (mag (x ⊕ y)) (2 ^ oneBits) p (representable-pow oneBits) (le-trans (mul-le-mul-right U q) (le-of-eq (mul-comm (mag (x ⊕ y)) U ∙ ap (λ (u : ℕ). u * mag (x ⊕ y)) U-is))) in
         let z : Val (x ⊘ (x ⊕ y)) false (near n (mag (x ⊕ y))) = subst (λ (z : Float). Val z false (near n (mag (x ⊕ y)))) (sym (div-rounded x (x ⊕ y) false false (mag x) (mag (x ⊕ y)) v w p)) (rounded-val false n (mag (x ⊕ y)) p (lt-of-le-of-lt most (pow-under-Top oneBits (lit≤ tt)))) in
         lt-val one (x ⊘ (x ⊕ y)) false false (2 ^ oneBits) (near n (mag (x ⊕ y))) (unfold U in one-val) z ∙ le-ltb (2 ^ oneBits) (near n (mag (x ⊕ y))) most
 

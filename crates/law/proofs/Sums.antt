@@ -12,7 +12,7 @@ use lib.Ieee.Fits.{add-fits}
 use Rattle.leaves.specs.Numbers.{_⊕_, isFinite}
 use Rattle.leaves.specs.Loops.{loop, sumTo}
 use Rattle.leaves.proofs.Rounding.{near, near-least}
-use Rattle.leaves.proofs.Units.{sign, mag, mag-held, finite-mag, topBits, zero-mag}
+use Rattle.leaves.proofs.Units.{sign, mag, mag-representable, finite-mag, topBits, zero-mag}
 use Rattle.leaves.proofs.Arithmetic.{add-rounded, add-finite}
 use Rattle.leaves.proofs.Operations.{Moved, still, moved-add}
 use Rattle.leaves.proofs.Signs.{sign-sum}
@@ -20,7 +20,7 @@ use Rattle.leaves.proofs.Totals.{moved-sum}
 use Rattle.leaves.proofs.Range.{range-most, range-null}
 use Rattle.leaves.proofs.Bounds.{multiples, sumOf, only-zero}
 use Rattle.matrix.specs.Limits.{maxSide}
-use Rattle.law.proofs.Sizes.{plus-val}
+use Rattle.law.proofs.Comparisons.{plus-val}
 use Rattle.law.proofs.Bits.{sideBits, side-bits}
 use Rattle.law.proofs.Ranges.{zeroBounds}
 
@@ -34,7 +34,7 @@ pub plus-least : (x y : Float) → T (fits binary64 x) → T (fits binary64 y) �
 plus-least x y tx ty sx sy F =
     let q = add-finite x y F in
     let i : mag (x ⊕ y) ≡ near (mag x + mag y) 1 = finite-mag (x ⊕ y) false (mag x + mag y) 1 (lit< tt) (add-rounded x y false false (mag x) (mag y) (plus-val x tx (q .0) sx) (plus-val y ty (q .1) sy)) F in
-    (rw i (near-least (mag x + mag y) 1 (mag x) (lit< tt) (mag-held x tx (q .0) .0) (omega arith)), rw i (near-least (mag x + mag y) 1 (mag y) (lit< tt) (mag-held y ty (q .1) .0) (omega arith)))
+    (rw i (near-least (mag x + mag y) 1 (mag x) (lit< tt) (mag-representable x tx (q .0) .0) (omega arith)), rw i (near-least (mag x + mag y) 1 (mag y) (lit< tt) (mag-representable y ty (q .1) .0) (omega arith)))
 
 pub sum-least : (n : ℕ) (f : ℕ → Float) → ((t : ℕ) → t < n → T (fits binary64 (f t)) × (sign (f t) ≡ false)) → T (isFinite (sumTo n f)) → (t : ℕ) → t < n → mag (f t) ≤ mag (sumTo n f)
 unfolding sumTo loop

@@ -22,7 +22,7 @@ use Rattle.law.proofs.Numbers.{copy-shift, copies-shift, each-back, tim
 use Rattle.law.proofs.Sizes.{all-map, sized-fits}
 use Rattle.law.proofs.Opening.{sized-moved}
 use Rattle.law.proofs.Shrinkage.{Regularized}
-use Rattle.law.proofs.Shrinkage as Shrinking
+use Rattle.law.proofs.Shrinkage as Shrinkages
 use Rattle.law.proofs.LedoitWolf.{intensity-law}
 use Rattle.law.proofs.Weighted.{weighted-law}
 use Rattle.law.proofs.JamesStein.{james-stein-law}
@@ -34,8 +34,8 @@ fits-all : (l : ℕ) (xs : List Float) → All (Sized l) xs → All (λ x. T (fi
 fits-all l xs h = all-map (Sized l) (λ x. T (fits binary64 x)) (sized-fits l) xs h
 
 regularized : (k : ℕ) → k ≤ maxPower → (H H' : Regularization) → CopiedRegularization (pos k) H H' → RegularizationInRange H → RegularizationInRange H' → Regularized (k + k) H H'
-regularized k small H H' unregularized q q' = Shrinking.unregularized (k + k)
-regularized k small H H' (Law.ridge {x = x} {y = y} c) q q' = Shrinking.ridge (k + k) (omega arith) x y (sized-moved (k + k) covarianceRange (lit≤ tt) x y q (copy-shift (k + k) x y (sized-fits covarianceRange x q) (sized-fits covarianceRange y q') c))
+regularized k small H H' unregularized q q' = Shrinkages.unregularized (k + k)
+regularized k small H H' (Law.ridge {x = x} {y = y} c) q q' = Shrinkages.ridge (k + k) (omega arith) x y (sized-moved (k + k) covarianceRange (lit≤ tt) x y q (copy-shift (k + k) x y (sized-fits covarianceRange x q) (sized-fits covarianceRange y q') c))
 
 given-too : (k : ℤ) (E E' : Estimate) → CopiedEstimate k E E' → isGiven E ≡ true → isGiven E' ≡ true
 given-too k E E' sample e = e

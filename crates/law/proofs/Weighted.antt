@@ -28,18 +28,18 @@ use Rattle.leaves.proofs.SqrtNearest.{moved-sqrt}
 use Rattle.leaves.proofs.Totals.{moved-sum}
 use Rattle.matrix.specs.Matrix.{Matrix, at}
 use Rattle.estimators.specs.Sample.{gram, largest}
-use Rattle.estimators.specs.Weighted.{logDecay, accepted, weights, weightedMean, denominator, weightedCovariance}
+use Rattle.estimators.specs.Weighted.{logDecay, accepted, weights, scaledMean, weightedMean, denominator, weightedCovariance}
 use Rattle.estimators.specs.Order.{badHalfLife, weightedOrder, maxPeriods}
 use Rattle.estimators.specs.Calls.{answered, exponentiallyWeightedMean}
 use Rattle.estimators.specs.declared.Field.the-variants.{HalfLifeField}
 use Rattle.estimators.specs.declared.Refusal.the-variants.{BadSetting}
 use Rattle.estimators.specs.declared.Answer.the-variants.{Mean}
-use Rattle.law.specs.Law.{All, Sized, LongHalfLife, Alike, ask, maxPower, returnRange, maxHalfLives}
+use Rattle.law.specs.Law.{All, Sized, LongHalfLife, Alike, ask, maxPower, returnRange, maxHalfLives, parts}
 use Rattle.law.specs.Law as Law
 use Rattle.law.proofs.Bits.{periodBits, period-bits}
 use Rattle.law.proofs.Ranges.{returnBounds, exponentAbove, exponentBelow, weightBounds, totalWeightBounds, denominatorBounds, unitBounds, weightedUnitBounds, weightedMeanBounds, rootWeightBounds, weightedDeviationBounds}
 use Rattle.law.proofs.Numbers.{filled-alike}
-use Rattle.law.proofs.Chain.{Chain, ends, chain-must, chained, parts, settled}
+use Rattle.law.proofs.Chain.{Chain, ends, chain-must, chained, settled}
 use Rattle.law.proofs.Sample.{Returns, largest-above}
 use Rattle.law.proofs.Scaled.{Scaling, scaled-back, scaled-range}
 use Rattle.law.proofs.Opening.{returns, opening-chain, column}
@@ -50,48 +50,44 @@ use Rattle.law.proofs.Sums.{sum-least}
 
 -- ---- the weighted mean of a column
 -- weights w, without a minus sign and not zero
-pub record Weighing (T : ℕ) (w : List Float) : Type 0 where
-  pub range : (t : ℕ) → t < T → Weight (nth w t)
-  pub plus : (t : ℕ) → t < T → sign (nth w t) ≡ false
-  pub above : (t : ℕ) → t < T → 0 < mag (nth w t)
+pub record Weighing (P : ℕ) (w : List Float) : Type 0 where
+  pub range : (t : ℕ) → t < P → Weight (nth w t)
+  pub plus : (t : ℕ) → t < P → sign (nth w t) ≡ false
+  pub above : (t : ℕ) → t < P → 0 < mag (nth w t)
 
-module _ {k n T : ℕ} {x y : Matrix} (small : k ≤ maxPower) (r : Returns k n T returnBounds x y) (w : List Float) (W : Weighing T w) where
-  weight-moved : (t : ℕ) → t < T → Moved 0 weightBounds (nth w t) (nth w t)
+module _ {k n P : ℕ} {x y : Matrix} (small : k ≤ maxPower) (r : Returns k n P returnBounds x y) (w : List Float) (W : Weighing P w) where
+  weight-moved : (t : ℕ) → t < P → Moved 0 weightBounds (nth w t) (nth w t)
   weight-moved t l = still weightBounds (W .range t l)
 
-  all-moved : Moved 0 totalWeightBounds (sumTo T (nth w)) (sumTo T (nth w))
-  all-moved = moved-sum 0 weightBounds T periodBits (period-bits (r .most)) (lit≤ tt) (lit≤ tt) (nth w) (nth w) weight-moved
+  all-moved : Moved 0 totalWeightBounds (sumTo P (nth w)) (sumTo P (nth w))
+  all-moved = moved-sum 0 weightBounds P periodBits (period-bits (r .most)) (lit≤ tt) (lit≤ tt) (nth w) (nth w) weight-moved
 
-  all-above : 0 < mag (sumTo T (nth w))
+  all-above : 0 < mag (sumTo P (nth w))
   all-above =
-      let l : 0 < T = omega arith in
-      lt-of-lt-of-le (W .above 0 l) (sum-least T (nth w) (λ t l. (W .range t l .fit, W .plus t l)) (all-moved .range .finite) 0 l)
+      let l : 0 < P = omega arith in
+      lt-of-lt-of-le (W .above 0 l) (sum-least P (nth w) (λ t l. (W .range t l .fit, W .plus t l)) (all-moved .range .finite) 0 l)
 
   module _ (i : ℕ) (a : i < n) where
     abbrev e : ℤ
-    e = binaryExponent (largest T x i)
+    e = binaryExponent (largest P x i)
 
-    abbrev common : Scaling k returnBounds (largest T x i) (largest T y i)
+    abbrev common : Scaling k returnBounds (largest P x i) (largest P y i)
     common = column small r i a
 
-    average : Float
-    average = sumTo T (λ t. nth w t ⊗ pow2Scaled (x t i) (negℤ (binaryExponent (largest T x i)))) ⊘ sumTo T (nth w)
-
-    average-moved : Moved (common .still) weightedUnitBounds average average
-    unfolding average
+    average-moved : Moved (common .still) weightedUnitBounds (scaledMean P w x i e) (scaledMean P w x i e)
     average-moved =
         let j = common .still in
-        let terms : (t : ℕ) → t < T → Moved j (productOf weightBounds unitBounds) (nth w t ⊗ pow2Scaled (x t i) (negℤ e)) (nth w t ⊗ pow2Scaled (x t i) (negℤ e)) =
+        let terms : (t : ℕ) → t < P → Moved j (productOf weightBounds unitBounds) (nth w t ⊗ pow2Scaled (x t i) (negℤ e)) (nth w t ⊗ pow2Scaled (x t i) (negℤ e)) =
         λ t l. rw (zero-add j) at (moved-mul (weight-moved t l) (common .moved (r .entries t i l a) (largest-above r t i l a)) (lit≤ tt) (omega (arith, common .few))) in
-        moved-over (moved-sum j (productOf weightBounds unitBounds) T periodBits (period-bits (r .most)) (lit≤ tt) (omega (arith, common .few)) (λ t. nth w t ⊗ pow2Scaled (x t i) (negℤ e)) (λ t. nth w t ⊗ pow2Scaled (x t i) (negℤ e)) terms)
+        moved-over (moved-sum j (productOf weightBounds unitBounds) P periodBits (period-bits (r .most)) (lit≤ tt) (omega (arith, common .few)) (λ t. nth w t ⊗ pow2Scaled (x t i) (negℤ e)) (λ t. nth w t ⊗ pow2Scaled (x t i) (negℤ e)) terms)
         all-moved all-above (lit≤ tt) (omega (arith, common .few))
 
-    pub mean-moved : Moved k weightedMeanBounds (weightedMean T w x i) (weightedMean T w y i)
-    unfolding weightedMean average
+    mean-moved : Moved k weightedMeanBounds (weightedMean P w x i) (weightedMean P w y i)
+    unfolding weightedMean
     mean-moved = record {
       range = scaled-range weightedUnitBounds e (exponentAbove returnBounds) (exponentBelow returnBounds) (average-moved .range) (common .small .0) (common .small .1) (lit≤ tt) (lit≤ tt);
-      copy = ap (λ (s : Float). pow2Scaled (s ⊘ sumTo T (nth w)) (binaryExponent (largest T y i)))
-          (sum-ext T (λ t. nth w t ⊗ pow2Scaled (y t i) (negℤ (binaryExponent (largest T y i)))) (λ t. nth w t ⊗ pow2Scaled (x t i) (negℤ e)) (λ t l. ap (λ (z : Float). nth w t ⊗ z) (common .same (r .entries t i l a) (largest-above r t i l a))))
+      copy = ap (λ (s : Float). pow2Scaled (s ⊘ sumTo P (nth w)) (binaryExponent (largest P y i)))
+          (sum-ext P (λ t. nth w t ⊗ pow2Scaled (y t i) (negℤ (binaryExponent (largest P y i)))) (λ t. nth w t ⊗ pow2Scaled (x t i) (negℤ e)) (λ t l. ap (λ (z : Float). nth w t ⊗ z) (common .same (r .entries t i l a) (largest-above r t i l a))))
           ∙ scaled-back common average-moved (lit≤ tt) (omega arith);
     }
 
@@ -118,38 +114,38 @@ long-enough P two h t =
     go (suc P) two b t = is-true b (rw (ne-eqb (suc P) 0 (λ e. absurd (omega arith))) at t)
 
 -- ---- the weighted covariance
-pub covariance-moved : {k n T : ℕ} {x y : Matrix} → k ≤ maxPower → Returns k n T returnBounds x y → (h : Float) → LongHalfLife T h → accepted (logDecay h) ≡ true
-    → (i j : ℕ) → i < n → j < n → Estimated (k + k) (weightedCovariance T (logDecay h) x i j) (weightedCovariance T (logDecay h) y i j)
+pub covariance-moved : {k n P : ℕ} {x y : Matrix} → k ≤ maxPower → Returns k n P returnBounds x y → (h : Float) → LongHalfLife P h → accepted (logDecay h) ≡ true
+    → (i j : ℕ) → i < n → j < n → Estimated (k + k) (weightedCovariance P (logDecay h) x i j) (weightedCovariance P (logDecay h) y i j)
 unfolding weightedCovariance gram
-covariance-moved {k} {n} {T} {x} {y} small r h long ok i j a b =
-    let q = long-enough T (r .periods) h long in
-    let w = weights T (logDecay h) in
-    let W = weighing T (r .periods) (r .most) h (q .0) ok (q .1) in
-    let D = denominator-range T (r .periods) (r .most) h (q .0) ok (q .1) in
-    let d = denominator T (logDecay h) in
-    let root : (t : ℕ) → t < T → Moved 0 rootWeightBounds (sqrt (nth w t ⊘ d)) (sqrt (nth w t ⊘ d)) =
+covariance-moved {k} {n} {P} {x} {y} small r h long ok i j a b =
+    let q = long-enough P (r .periods) h long in
+    let w = weights P (logDecay h) in
+    let W = weighing P (r .periods) (r .most) h (q .0) ok (q .1) in
+    let D = denominator-range P (r .periods) (r .most) h (q .0) ok (q .1) in
+    let d = denominator P (logDecay h) in
+    let root : (t : ℕ) → t < P → Moved 0 rootWeightBounds (sqrt (nth w t ⊘ d)) (sqrt (nth w t ⊘ d)) =
     λ t l. moved-sqrt {k = 0} (moved-over (still weightBounds (W .range t l)) (still denominatorBounds (D .0)) (D .2) (lit≤ tt) (lit≤ tt)) (sign-not-below (nth w t ⊘ d) (sign-div (nth w t) d (W .plus t l ∙ sym (D .1)))) in
-    let term : (c : ℕ) → c < n → (t : ℕ) → t < T → Moved k weightedDeviationBounds ((x t c ⊖ weightedMean T w x c) ⊗ sqrt (nth w t ⊘ d)) ((y t c ⊖ weightedMean T w y c) ⊗ sqrt (nth w t ⊘ d)) =
+    let term : (c : ℕ) → c < n → (t : ℕ) → t < P → Moved k weightedDeviationBounds ((x t c ⊖ weightedMean P w x c) ⊗ sqrt (nth w t ⊘ d)) ((y t c ⊖ weightedMean P w y c) ⊗ sqrt (nth w t ⊘ d)) =
     λ c l t m. rw (add-zero k) at (moved-mul (moved-sub weightedMeanBounds tt tt (r .entries t c m l) (mean-moved small r w W c l) (omega arith)) (root t m) (lit≤ tt) (omega arith)) in
-    moved-sum (k + k) (productOf weightedDeviationBounds weightedDeviationBounds) T periodBits (period-bits (r .most)) (lit≤ tt) (omega arith) (λ t. (x t i ⊖ weightedMean T w x i) ⊗ sqrt (nth w t ⊘ d) ⊗ ((x t j ⊖ weightedMean T w x j) ⊗ sqrt (nth w t ⊘ d)))
-    (λ t. (y t i ⊖ weightedMean T w y i) ⊗ sqrt (nth w t ⊘ d) ⊗ ((y t j ⊖ weightedMean T w y j) ⊗ sqrt (nth w t ⊘ d)))
+    moved-sum (k + k) (productOf weightedDeviationBounds weightedDeviationBounds) P periodBits (period-bits (r .most)) (lit≤ tt) (omega arith) (λ t. (x t i ⊖ weightedMean P w x i) ⊗ sqrt (nth w t ⊘ d) ⊗ ((x t j ⊖ weightedMean P w x j) ⊗ sqrt (nth w t ⊘ d)))
+    (λ t. (y t i ⊖ weightedMean P w y i) ⊗ sqrt (nth w t ⊘ d) ⊗ ((y t j ⊖ weightedMean P w y j) ⊗ sqrt (nth w t ⊘ d)))
     (λ t l. moved-mul (term i a t l) (term j b t l) (lit≤ tt) (omega arith))
 
 -- ---- the call
-module _ (k : ℕ) (small : k ≤ maxPower) (r : List Float) (sizes : All (Sized returnRange) r) (n T : ℕ) (h : Float) (long : LongHalfLife T h) where
+module _ (k : ℕ) (small : k ≤ maxPower) (r : List Float) (sizes : All (Sized returnRange) r) (n P : ℕ) (h : Float) (long : LongHalfLife P h) where
   abbrev mean : List Float → ℕ → Float
-  mean r = weightedMean T (weights T (logDecay h)) (at r n)
+  mean r = weightedMean P (weights P (logDecay h)) (at r n)
 
-  pub weighted-law : (slice slice' : List Float) → length slice' ≡ length slice → Alike (pos k) (parts n (ask r n T (Law.weightedMean h) slice)) (parts n (ask (map (shift (pos k)) r) n T (Law.weightedMean h) slice'))
+  pub weighted-law : (slice slice' : List Float) → length slice' ≡ length slice → Alike (pos k) (parts n (ask r n P (Law.weightedMean h) slice)) (parts n (ask (map (shift (pos k)) r) n P (Law.weightedMean h) slice'))
   unfolding exponentiallyWeightedMean
   weighted-law slice slice' e =
       let r' = map (shift (pos k)) r in
       settled (chained chain) (pos k) n slice slice' (answered Mean (fill n (mean r) slice)) (answered Mean (fill n (mean r') slice'))
       (λ p p' same. record { refusal = refl; entries = tt; meansAndTarget = filled-alike k n (mean r) (mean r') slice slice' same; intensity = tt; sweepsAndRotations = refl })
     where
-      chain : Chain ((i : ℕ) → i < n → lib.Dec.T (fits binary64 (mean r i)) × (mean (map (shift (pos k)) r) i ≡ shift (pos k) (mean r i))) (weightedOrder r n T h slice) (weightedOrder (map (shift (pos k)) r) n T h slice')
+      chain : Chain ((i : ℕ) → i < n → T (fits binary64 (mean r i)) × (mean (map (shift (pos k)) r) i ≡ shift (pos k) (mean r i))) (weightedOrder r n P h slice) (weightedOrder (map (shift (pos k)) r) n P h slice')
       chain = unfold weightedOrder badHalfLife in
-          opening-chain k small r sizes n T n slice slice' e (λ s opens. chain-must (accepted (logDecay h)) (BadSetting HalfLifeField) refl (λ ok. ends (λ i l.
-          let q = long-enough T (s .2) h long in
-          let m = mean-moved small (returns k small r sizes n T s) (weights T (logDecay h)) (weighing T (s .2) (s .3) h (q .0) ok (q .1)) i l in
+          opening-chain k small r sizes n P n slice slice' e (λ s opens. chain-must (accepted (logDecay h)) (BadSetting HalfLifeField) refl (λ ok. ends (λ i l.
+          let q = long-enough P (s .2) h long in
+          let m = mean-moved small (returns k small r sizes n P s) (weights P (logDecay h)) (weighing P (s .2) (s .3) h (q .0) ok (q .1)) i l in
           (m .range .fit, m .copy))))

@@ -15,17 +15,17 @@ use lib.Ieee.Fits.{div-fits}
 use borrow.Author.Tests.{ltb-true}
 use Rattle.leaves.specs.Numbers.{_⊗_, _⊘_, zero⁺, two, count, isFinite}
 use Rattle.leaves.specs.Exp.{ln2, exp, expM1}
-use Rattle.leaves.proofs.Rounding.{near, Held, near-most, near-least, near-error, near-held, held-pow, held-up}
-use Rattle.leaves.proofs.Units.{U, U-pos, Top, pow-under-Top, Val, sign, mag, zero-mag, val-mag, val-pos, val-finite, mag-val, mag-held, zero-val, neg-val, finite-mag, rounded-val, rounded-cases, lt-val}
+use Rattle.leaves.proofs.Rounding.{near, Representable, near-most, near-least, near-error, near-representable, representable-pow, representable-up}
+use Rattle.leaves.proofs.Units.{U, U-pos, Top, pow-under-Top, Val, sign, mag, zero-mag, val-mag, val-pos, val-finite, mag-val, mag-representable, zero-val, neg-val, finite-mag, rounded-val, rounded-cases, lt-val}
 use Rattle.leaves.proofs.Arithmetic.{mul-rounded, div-rounded}
-use Rattle.leaves.proofs.Range.{count-val, range-size}
+use Rattle.leaves.proofs.Range.{count-val, range-size, two-val}
 use Rattle.leaves.proofs.Bounds.{Bounded}
 use Rattle.leaves.proofs.Whole.{le-or-lt}
 use Rattle.leaves.proofs.Signs.{sign-round}
 use Rattle.estimators.specs.Weighted.{minLogDecay, logDecay, accepted, denominator}
 use Rattle.estimators.specs.Order.{maxPeriods}
 use Rattle.law.specs.Law.{maxHalfLives}
-use Rattle.law.proofs.Sizes.{le-yes, two-val}
+use Rattle.law.proofs.Comparisons.{le-yes}
 use Rattle.law.proofs.Exponential.{W, ageMost, argumentMost, U-W, W-pos, W-large, N, N-is, ln2-val, near-above, mul-most, Exp, exp-within, product-least, product-most, ExpM1, expM1-within, exp-above, Weight, exp-val}
 use Rattle.law.proofs.Bits.{periodBits, period-bits, halfLifeBits}
 use Rattle.law.proofs.Ranges.{weightBounds, denominatorBounds}
@@ -51,21 +51,21 @@ module _ (h : Float) (fit : T (fits binary64 h)) (ok : accepted (logDecay h) ≡
   abbrev a : ℕ
   a = mag (logDecay h)
 
-  log-held : Held (mag (logDecay h))
-  log-held = mag-held (logDecay h) (unfold logDecay in div-fits binary64 (neg ln2) h) (val-finite (logDecay h) true a (log-val .0)) .0
+  log-held : Representable (mag (logDecay h))
+  log-held = mag-representable (logDecay h) (unfold logDecay in div-fits binary64 (neg ln2) h) (val-finite (logDecay h) true a (log-val .0)) .0
 
   -- h itself
-  half-life : (H : ℕ) × Val h false H × (0 < H) × Held H × (mag (logDecay h) ≡ near (N * U) H)
+  half-life : (H : ℕ) × Val h false H × (0 < H) × Representable H × (mag (logDecay h) ≡ near (N * U) H)
   half-life = go h fit (log-val .0) (log-val .1)
     where
       log-is : (h : Float) → logDecay h ≡ neg ln2 ⊘ h
       log-is h = unfold logDecay in refl
 
-      go : (h : Float) → T (fits binary64 h) → Val (logDecay h) true (mag (logDecay h)) → 0 < mag (logDecay h) → (H : ℕ) × Val h false H × (0 < H) × Held H × (mag (logDecay h) ≡ near (N * U) H)
+      go : (h : Float) → T (fits binary64 h) → Val (logDecay h) true (mag (logDecay h)) → 0 < mag (logDecay h) → (H : ℕ) × Val h false H × (0 < H) × Representable H × (mag (logDecay h) ≡ near (N * U) H)
       go nan t v p = unfold logDecay div neg ofBits in absurd v
       go (inf s) t v p = absurd (lt-irrefl 0 (subst (λ (n : ℕ). 0 < n) (ap mag (log-is (inf s)) ∙ unfold div neg ofBits in zero-mag (unlike true s) (pos 0)) p))
       go (fin s zero e) t v p = unfold logDecay div neg ofBits in absurd v
-      go (fin s (suc m) e) t v p = signed (mag-val (fin s (suc m) e) t (unfold isFinite in tt)) (mag-held (fin s (suc m) e) t (unfold isFinite in tt) .0)
+      go (fin s (suc m) e) t v p = signed (mag-val (fin s (suc m) e) t (unfold isFinite in tt)) (mag-representable (fin s (suc m) e) t (unfold isFinite in tt) .0)
         where
           H : ℕ
           H = mag (fin s (suc m) e)
@@ -73,7 +73,7 @@ module _ (h : Float) (fit : T (fits binary64 h)) (ok : accepted (logDecay h) ≡
           above : 0 < H
           above = val-pos s m e (sign (fin s (suc m) e)) H (mag-val (fin s (suc m) e) t (unfold isFinite in tt))
 
-          signed : Val (fin s (suc m) e) (sign (fin s (suc m) e)) H → Held H → (H : ℕ) × Val (fin s (suc m) e) false H × (0 < H) × Held H × (mag (logDecay (fin s (suc m) e)) ≡ near (N * U) H)
+          signed : Val (fin s (suc m) e) (sign (fin s (suc m) e)) H → Representable H → (H : ℕ) × Val (fin s (suc m) e) false H × (0 < H) × Representable H × (mag (logDecay (fin s (suc m) e)) ≡ near (N * U) H)
           signed w k =
               let x = fin s (suc m) e in
               let n = neg-val ln2 false N ln2-val in
@@ -104,7 +104,7 @@ module _ (P : ℕ) (periods : 2 ≤ P) (most : P ≤ maxPeriods) (h : Float) (fi
   granted =
       let q = half-life h fit ok in
       let H = q .0 in
-      let e : near (maxHalfLives * U * H) U ≡ maxHalfLives * H = ap (λ (n : ℕ). near n U) (mul-right-comm maxHalfLives U H) ∙ near-held (maxHalfLives * H) U U-pos (subst Held (mul-comm H maxHalfLives) (held-up H halfLifeBits (q .3))) in
+      let e : near (maxHalfLives * U * H) U ≡ maxHalfLives * H = ap (λ (n : ℕ). near n U) (mul-right-comm maxHalfLives U H) ∙ near-representable (maxHalfLives * H) U U-pos (subst Representable (mul-comm H maxHalfLives) (representable-up H halfLifeBits (q .3))) in
       let x = mul-rounded (count maxHalfLives) h false false (maxHalfLives * U) H (count-val maxHalfLives (lit≤ tt)) (q .1) in
       elim (rounded-cases false (maxHalfLives * U * H) U U-pos) [
         | inl under ↦
@@ -152,7 +152,7 @@ module _ (P : ℕ) (periods : 2 ≤ P) (most : P ≤ maxPeriods) (h : Float) (fi
       let n = (P - 1) * U * m in
       let k = log-held h fit ok in (
         near-least n U m U-pos k (le-trans (le-of-eq (mul-comm m U)) (mul-le-mul-right m (le-trans (le-of-eq (sym (one-mul U))) (mul-le-mul-right U (omega arith))))),
-        near-most n U (2 ^ periodBits * m) U-pos (subst Held (mul-comm m (2 ^ periodBits)) (held-up m periodBits k)) (le-trans (mul-le-mul-right m (mul-le-mul-right U (period-bits (le-trans (omega arith) most)))) (le-of-eq (mul-right-comm (2 ^ periodBits) U m))),
+        near-most n U (2 ^ periodBits * m) U-pos (subst Representable (mul-comm m (2 ^ periodBits)) (representable-up m periodBits k)) (le-trans (mul-le-mul-right m (mul-le-mul-right U (period-bits (le-trans (omega arith) most)))) (le-of-eq (mul-right-comm (2 ^ periodBits) U m))),
       )
 
   above : ExpM1 (count (P - 1) ⊗ logDecay h) span
@@ -163,7 +163,7 @@ module _ (P : ℕ) (periods : 2 ≤ P) (most : P ≤ maxPeriods) (h : Float) (fi
 
   twice-val : Val (two ⊗ logDecay h) true (2 * mag (logDecay h))
   twice-val =
-      let e : near (2 * U * m) U ≡ 2 * m = ap (λ (n : ℕ). near n U) (mul-right-comm 2 U m) ∙ near-held (2 * m) U U-pos (subst Held (mul-comm m 2) (held-up m 1 (log-held h fit ok))) in
+      let e : near (2 * U * m) U ≡ 2 * m = ap (λ (n : ℕ). near n U) (mul-right-comm 2 U m) ∙ near-representable (2 * m) U U-pos (subst Representable (mul-comm m 2) (representable-up m 1 (log-held h fit ok))) in
       subst (Val (two ⊗ logDecay h) true) e (mul-most argumentMost (lit≤ tt) two (logDecay h) false true (2 * U) m two-val (log-val h fit ok .0)
       (le-trans (le-of-eq (mul-right-comm 2 U m)) (mul-le-mul-right U (let b = log-bound in omega arith))) .0)
 
@@ -171,7 +171,7 @@ module _ (P : ℕ) (periods : 2 ≤ P) (most : P ≤ maxPeriods) (h : Float) (fi
   below = expM1-within (two ⊗ logDecay h) (2 * m) twice-val (let p = log-val h fit ok .1 in omega arith) (let b = log-bound in omega arith)
 
   -- 2 λ
-  pub factor : ℕ
+  factor : ℕ
   factor = 2 * mag (exp (logDecay h))
 
   exp-most : mag (exp (logDecay h)) ≤ 54 * W
@@ -182,10 +182,10 @@ module _ (P : ℕ) (periods : 2 ≤ P) (most : P ≤ maxPeriods) (h : Float) (fi
   factor-val =
       let x = log-exp in
       let b = mag (exp (logDecay h)) in
-      let e : near (2 * U * b) U ≡ 2 * b = ap (λ (n : ℕ). near n U) (mul-right-comm 2 U b) ∙ near-held (2 * b) U U-pos (subst Held (mul-comm b 2) (held-up b 1 (mag-held (exp (logDecay h)) (x .fit) (x .finite) .0))) in
+      let e : near (2 * U * b) U ≡ 2 * b = ap (λ (n : ℕ). near n U) (mul-right-comm 2 U b) ∙ near-representable (2 * b) U U-pos (subst Representable (mul-comm b 2) (representable-up b 1 (mag-representable (exp (logDecay h)) (x .fit) (x .finite) .0))) in
       subst (Val (two ⊗ exp (logDecay h)) false) e (mul-most 108 (lit≤ tt) two (exp (logDecay h)) false false (2 * U) b two-val (exp-val x) (le-trans (le-of-eq (mul-right-comm 2 U b)) (mul-le-mul-right U (let l = exp-most in omega arith))) .0)
 
-  -- the dividend
+  -- the two exp_m1, and the dividend
   E₁ : ℕ
   E₁ = above .E
 
@@ -212,7 +212,7 @@ module _ (P : ℕ) (periods : 2 ≤ P) (most : P ≤ maxPeriods) (h : Float) (fi
   unfolding E₂ dividend E₁ factor
   close c =
       let x = log-exp in
-      let k : mag (exp (logDecay h)) ≡ x .P = sym (mul-one (mag (exp (logDecay h)))) ∙ ap (λ (n : ℕ). mag (exp (logDecay h)) * 2 ^ n) (sym (x .power .none c)) ∙ x .is in
+      let k : mag (exp (logDecay h)) ≡ x .numerator = sym (mul-one (mag (exp (logDecay h)))) ∙ ap (λ (n : ℕ). mag (exp (logDecay h)) * 2 ^ n) (sym (x .power .none c)) ∙ x .is in
       let n = near-error (2 * mag (exp (logDecay h)) * above .E) U U-pos in
       let b = below .near-zero (omega arith) in
       let s = span-within in
@@ -238,7 +238,7 @@ module _ (P : ℕ) (periods : 2 ≤ P) (most : P ≤ maxPeriods) (h : Float) (fi
       let e : 1 * W ≤ 2 * above .E = elim (le-or-lt span (16 * W)) [ inl q ↦ (let z = above .near-zero q .0 in omega arith) | inr q ↦ (let z = above .far q .0 in omega arith) ] in (
         b .0,
         b .1,
-        near-least (2 * mag (exp (logDecay h)) * above .E) U (2 ^ denominatorBounds .least) U-pos (held-pow (denominatorBounds .least))
+        near-least (2 * mag (exp (logDecay h)) * above .E) U (2 ^ denominatorBounds .least) U-pos (representable-pow (denominatorBounds .least))
             (le-trans powers (le-trans (mul-le-mul (r .least (exp-above log-exp)) e) (le-of-eq (regroup (mag (exp (logDecay h))) (above .E))))),
       )
     where
@@ -279,8 +279,8 @@ module _ (P : ℕ) (periods : 2 ≤ P) (most : P ≤ maxPeriods) (h : Float) (fi
       let x = two ⊗ exp (logDecay h) ⊗ neg (expM1 (count (P - 1) ⊗ logDecay h)) in
       let y = neg (expM1 (two ⊗ logDecay h)) in
       let q = quotient-bounds in
-      let least = near-least (dividend * U) E₂ (2 ^ denominatorBounds .least) (q .0) (held-pow (denominatorBounds .least)) (q .1) in
-      let most = near-most (dividend * U) E₂ (2 ^ denominatorBounds .most) (q .0) (held-pow (denominatorBounds .most)) (q .2) in
+      let least = near-least (dividend * U) E₂ (2 ^ denominatorBounds .least) (q .0) (representable-pow (denominatorBounds .least)) (q .1) in
+      let most = near-most (dividend * U) E₂ (2 ^ denominatorBounds .most) (q .0) (representable-pow (denominatorBounds .most)) (q .2) in
       let v : Val (x ⊘ y) false (near (dividend * U) E₂) = subst (λ (z : Float). Val z false (near (dividend * U) E₂)) (sym (div-rounded x y false false dividend E₂ (dividend-val .0) (neg-val (expM1 (two ⊗ logDecay h)) true (below .E) (below .val)) (q .0)))
       (rounded-val false (dividend * U) E₂ (q .0) (lt-of-le-of-lt most (pow-under-Top (denominatorBounds .most) (lit≤ tt)))) in
       let i = val-mag (x ⊘ y) false (near (dividend * U) E₂) v in

@@ -1,30 +1,28 @@
 -- Zeros of either sign, which sums, products and quotients keep, and numbers that are not below zero, infinity among them, which stay so and are not below a zero. Assumes nothing.
 use mathlib.Core.Path.{_≡_, refl, sym, ap, ap₂, _∙_, subst}
 use Prim.Native.Nat.{ℕ, zero, suc, _+_, _*_, _^_, _<_, zero-le}
-use native.Mathlib.Nat.{le-antisymm, lt-of-le-of-lt}
+use native.Mathlib.Nat.{le-antisymm, lt-of-le-of-lt, zero-mul}
 use native.Mathlib.Omega.{arith}
 use mathlib.Core.Bool.{Bool, true, false, cond}
 use lib.Dec.{T, ltb, lit≤, lit<}
 use lib.Pow.{pow-pos}
 use lib.IntN.{ℤ, pos, negsuc}
 use lib.Ieee.{Float, nan, inf, fin, binary64, up, down, unlike, odd, units, round, sum, add, mul, lt, le, eq, fits, isNan}
-use lib.Ieee.Fits.{div-fits, round-is}
+use lib.Ieee.Fits.{mul-fits, div-fits, round-is}
 use Rattle.leaves.specs.Numbers.{_⊕_, _⊗_, _⊘_, zero⁺, half, two, ε, isFinite}
 use Rattle.leaves.specs.Root.{sqrt}
 use Rattle.leaves.specs.Shift.{shift}
 use Rattle.leaves.proofs.Laws.{zero-exp}
-use Rattle.leaves.proofs.Zero.{no, zero-is-zero, other-is-not}
-use Rattle.leaves.proofs.Rounding.{near, near-most, held-small}
-use Rattle.leaves.proofs.Units.{oneBits, topBits, U, Top, sign, mag, Val, mag-val, zero-val, val-unique, rounded, rounded-val, pow-under-Top}
-use Rattle.leaves.proofs.Arithmetic.{div-rounded}
+use Rattle.leaves.proofs.Commutative.{⊗-comm}
+use Rattle.leaves.proofs.Zero.{Zero, no, zero-is-zero, other-is-not}
+use Rattle.leaves.proofs.Rounding.{near, near-most, representable-small}
+use Rattle.leaves.proofs.Units.{oneBits, topBits, U, U-pos, sign, mag, Val, mag-val, zero-val, zero-finite, val-unique, rounded, rounded-val, pow-under-Top}
+use Rattle.leaves.proofs.Arithmetic.{mul-rounded, div-rounded}
 use Rattle.leaves.proofs.Signs.{sign-add, sign-mul, sign-sqrt, sign-not-below}
 use Rattle.leaves.proofs.Keys.{number}
-use Rattle.law.proofs.Sizes.{not-lt}
+use Rattle.law.proofs.Comparisons.{not-lt}
 
 -- ---- zeros of either sign
-abbrev pub Zero : Float → Type 0
-Zero x = (s : Bool) × (x ≡ fin s zero (pos 0))
-
 pub zero-is : (x : Float) → T (fits binary64 x) → eq x zero⁺ ≡ true → Zero x
 zero-is nan t e = absurd (unfold eq in subst T (sym e) tt)
 zero-is (inf s) t e = absurd (unfold eq in subst T (sym e) tt)
@@ -40,56 +38,37 @@ zero-add x y p q = let w = go (p .0) (q .0) in (w .0, ap₂ (λ (x y : Float). x
     go false true = unfold add sum round in (false, refl)
     go false false = unfold add sum round in (false, refl)
 
--- what computes to a zero of either zero makes a zero of each
-zero-by : (f : Float → Float) → ((s : Bool) → Zero (f (fin s zero (pos 0)))) → (x : Float) → Zero x → Zero (f x)
-zero-by f each x p = let w = each (p .0) in (w .0, ap f (p .1) ∙ w .1)
-
-pub zero-square : (x : Float) → Zero x → Zero (x ⊗ x)
-zero-square = zero-by (λ x. x ⊗ x) go
-  where
-    go : (s : Bool) → Zero (fin s zero (pos 0) ⊗ fin s zero (pos 0))
-    go true = unfold mul round in (false, refl)
-    go false = unfold mul round in (false, refl)
-
-pub zero-half : (x : Float) → Zero x → Zero (x ⊗ half)
-zero-half = zero-by (λ x. x ⊗ half) go
-  where
-    go : (s : Bool) → Zero (fin s zero (pos 0) ⊗ half)
-    go true = unfold mul round in (true, refl)
-    go false = unfold mul round in (false, refl)
-
-pub zero-double : (x : Float) → Zero x → Zero (two ⊗ x)
-zero-double = zero-by (λ x. two ⊗ x) go
-  where
-    go : (s : Bool) → Zero (two ⊗ fin s zero (pos 0))
-    go true = unfold mul round in (true, refl)
-    go false = unfold mul round in (false, refl)
-
 pub is-zero : (x : Float) → Zero x → eq x zero⁺ ≡ true
 is-zero x p = ap (λ (x : Float). eq x zero⁺) (p .1) ∙ zero-is-zero (p .0) (pos 0)
 
-zero-fits : (s : Bool) → T (fits binary64 (fin s zero (pos 0)))
-unfolding fits
-zero-fits s = tt
-
--- over a number that is not zero
-pub zero-over : (x y : Float) → Zero x → T (fits binary64 y) → T (isFinite y) → 0 < mag y → Zero (x ⊘ y)
-zero-over x y p t f h = (u, ap (λ (z : Float). z ⊘ y) (p .1) ∙ val-unique (z ⊘ y) (fin u zero (pos 0)) u 0 (div-fits binary64 z y) (zero-fits u) v (zero-val u (pos 0)))
+-- what rounds 0 is a zero
+zero-rounded : (x : Float) (u : Bool) (d : ℕ) → T (fits binary64 x) → 0 < d → x ≡ rounded u 0 d → Zero x
+zero-rounded x u d t h e = (u, val-unique x (fin u zero (pos 0)) u 0 t (zero-finite u .0) (subst (λ (w : Float). Val w u 0) (sym e) v) (zero-val u (pos 0)))
   where
-    z : Float
-    z = fin (p .0) zero (pos 0)
+    nothing : near 0 d ≡ 0
+    nothing = le-antisymm (near-most 0 d 0 h (representable-small 0 (pow-pos 53)) (omega arith)) zero-le
 
-    u : Bool
-    u = unlike (p .0) (sign y)
+    v : Val (rounded u 0 d) u 0
+    v = subst (Val (rounded u 0 d) u) nothing (rounded-val u 0 d h (rw nothing (lt-of-le-of-lt zero-le (pow-under-Top 0 (lit≤ tt)))))
 
-    nothing : near (0 * U) (mag y) ≡ 0
-    nothing = le-antisymm (near-most (0 * U) (mag y) 0 h (held-small 0 (pow-pos 53)) (omega arith)) zero-le
+-- times a number, and over one that is not zero
+module _ (x y : Float) (p : Zero x) (t : T (fits binary64 y)) (f : T (isFinite y)) where
+  zero-times : Zero (x ⊗ y)
+  zero-times = zero-rounded (x ⊗ y) (unlike (p .0) (sign y)) U (mul-fits binary64 x y) U-pos
+      (ap (λ (z : Float). z ⊗ y) (p .1) ∙ mul-rounded (fin (p .0) zero (pos 0)) y (p .0) (sign y) 0 (mag y) (zero-val (p .0) (pos 0)) (mag-val y t f) ∙ ap (λ (n : ℕ). rounded (unlike (p .0) (sign y)) n U) (zero-mul (mag y)))
 
-    v : Val (fin (p .0) zero (pos 0) ⊘ y) (unlike (p .0) (sign y)) 0
-    v = subst (λ (w : Float). Val w u 0) (sym (div-rounded z y (p .0) (sign y) 0 (mag y) (zero-val (p .0) (pos 0)) (mag-val y t f) h)) (subst (Val (rounded u (0 * U) (mag y)) u) nothing (rounded-val u (0 * U) (mag y) h (rw nothing Top-pos)))
-      where
-        Top-pos : 0 < Top
-        Top-pos = lt-of-le-of-lt zero-le (pow-under-Top 0 (lit≤ tt))
+  pub zero-over : 0 < mag y → Zero (x ⊘ y)
+  zero-over h = zero-rounded (x ⊘ y) (unlike (p .0) (sign y)) (mag y) (div-fits binary64 x y) h
+      (ap (λ (z : Float). z ⊘ y) (p .1) ∙ div-rounded (fin (p .0) zero (pos 0)) y (p .0) (sign y) 0 (mag y) (zero-val (p .0) (pos 0)) (mag-val y t f) h ∙ ap (λ (n : ℕ). rounded (unlike (p .0) (sign y)) n (mag y)) (zero-mul U))
+
+pub zero-square : (x : Float) → Zero x → Zero (x ⊗ x)
+zero-square x p = let q = zero-finite (p .0) in zero-times x x p (rw (p .1) (q .0)) (rw (p .1) (q .1))
+
+pub zero-half : (x : Float) → Zero x → Zero (x ⊗ half)
+zero-half x p = zero-times x half p (unfold fits in tt) (unfold isFinite in tt)
+
+pub zero-double : (x : Float) → Zero x → Zero (two ⊗ x)
+zero-double x p = subst Zero (⊗-comm x two) (zero-times x two p (unfold fits in tt) (unfold isFinite in tt))
 
 pub zero-average : (x : Float) → Zero x → Zero (x ⊘ two)
 zero-average x p = zero-over x two p (unfold fits in tt) (unfold isFinite in tt) (unfold mag U in lit< tt)

@@ -105,8 +105,11 @@ answerParts n (Intensity δ) x = record { refusal = none; entries = []; meansAnd
 answerParts n Mean x = record { refusal = none; entries = []; meansAndTarget = take n x; intensity = []; sweepsAndRotations = [] }
 answerParts n (Shrunk α μ₀ s r) x = record { refusal = none; entries = []; meansAndTarget = μ₀ ∷ take n x; intensity = α ∷ []; sweepsAndRotations = s ∷ r ∷ [] }
 
+abbrev pub parts : ℕ → Answered → AnswerParts
+parts n w = answerParts n (w .answer) (w .slice)
+
 abbrev pub answer : Input → AnswerParts
-answer a = let w = ask (a .returns) (a .assets) (a .periods) (a .question) (a .slice) in answerParts (a .assets) (w .answer) (w .slice)
+answer a = parts (a .assets) (ask (a .returns) (a .assets) (a .periods) (a .question) (a .slice))
 
 -- ---- the ranges of one input
 
@@ -170,13 +173,17 @@ pub record SettingsInRange (a : Input) (s : Settings) (g : List Float) : Type 0 
   -- "A fixed or Ledoit-Wolf intensity is 0 or at least 2^−40"
   pub shrinkage : ShrinkageInRange (s .shrinkage) (isSample (s .estimate)) (a .returns) (a .assets) (a .periods)
 
--- and of the answer, where it is a mean: "In mean answers, every nonzero number, intensity and target included, has size at least 2^−400"
+-- "In mean answers, every nonzero number, intensity and target included, has size at least 2^−400"
+abbrev pub Large : AnswerParts → Type 0
+Large w = All (AtLeast meanRange) (w .meansAndTarget ++ w .intensity)
+
+-- the settings, and of a mean the answer
 abbrev pub QuestionInRange : Input → Question → Type 0
 QuestionInRange a (adjusted s given side) = SettingsInRange a s given
 QuestionInRange a (intensity F) = Unit {0}
 QuestionInRange a (weightedMean halfLife) = LongHalfLife (a .periods) halfLife × All (AtLeast meanRange) (answer a .meansAndTarget)
-QuestionInRange a (jamesStein limit) = All (AtLeast meanRange) (answer a .meansAndTarget ++ answer a .intensity)
-QuestionInRange a (bayesStein limit) = All (AtLeast meanRange) (answer a .meansAndTarget ++ answer a .intensity)
+QuestionInRange a (jamesStein limit) = Large (answer a)
+QuestionInRange a (bayesStein limit) = Large (answer a)
 
 pub record InRange (a : Input) : Type 0 where
   pub returns : All (Sized returnRange) (a .returns)

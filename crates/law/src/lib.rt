@@ -1,1 +1,1 @@
-// The power-of-two law over the definitions of the five calls: specs/Law.antt states it, proofs/Theorem.antt proves it. No code.
+// Laws of the five calls: the power-of-two law (specs/Law.antt states it, proofs/Theorem.antt proves it) and others of docs/LAWS.md. No code.

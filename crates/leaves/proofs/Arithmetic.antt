@@ -26,10 +26,10 @@ sumSign s a t b = cond (Bool·beq s t) s (cond (ltb a b) t (s && ltb b a))
 abbrev pub distance : ℕ → ℕ → ℕ
 distance a b = a - b + (b - a)
 
-abbrev pub total : Bool → ℕ → Bool → ℕ → ℕ
-total s a t b = cond (Bool·beq s t) (a + b) (distance a b)
+abbrev pub sumSize : Bool → ℕ → Bool → ℕ → ℕ
+sumSize s a t b = cond (Bool·beq s t) (a + b) (distance a b)
 
-sum-is : (s : Bool) (a : ℕ) (t : Bool) (b c : ℕ) → sum binary64 s a t b c ≡ round binary64 (sumSign s a t b) (total s a t b) c
+sum-is : (s : Bool) (a : ℕ) (t : Bool) (b c : ℕ) → sum binary64 s a t b c ≡ round binary64 (sumSign s a t b) (sumSize s a t b) c
 unfolding sum
 sum-is s a t b c = go (Bool·beq s t) (ltb a b) refl
   where
@@ -47,8 +47,8 @@ module _ (s t : Bool) (x y p q a b : ℕ) (P : 0 < p) (Q : 0 < q) (e : x * p ≡
   sumSign-scaled : sumSign s x t y ≡ sumSign s a t b
   sumSign-scaled = ap₂ (λ (u v : Bool). cond (Bool·beq s t) s (cond u t (s && v))) (ltb-scaled x y p q a b P Q e g) (ltb-scaled y x p q b a P Q g e)
 
-  total-scaled : total s x t y * p ≡ total s a t b * q
-  total-scaled = go (Bool·beq s t)
+  sumSize-scaled : sumSize s x t y * p ≡ sumSize s a t b * q
+  sumSize-scaled = go (Bool·beq s t)
     where
       go : (u : Bool) → cond u (x + y) (distance x y) * p ≡ cond u (a + b) (distance a b) * q
       go true = add-mul x y p ∙ ap₂ (λ (u v : ℕ). u + v) e g ∙ sym (add-mul a b q)
@@ -59,17 +59,17 @@ module _ (s t : Bool) (x y p q a b : ℕ) (P : 0 < p) (Q : 0 < q) (e : x * p ≡
 pub sumSign-times : (s t : Bool) (a b k : ℕ) → 0 < k → sumSign s (a * k) t (b * k) ≡ sumSign s a t b
 sumSign-times s t a b k K = sumSign-scaled s t (a * k) (b * k) 1 k a b (zero-lt-suc 0) K (mul-one (a * k)) (mul-one (b * k))
 
-pub total-times : (s t : Bool) (a b k : ℕ) → 0 < k → total s (a * k) t (b * k) ≡ total s a t b * k
-total-times s t a b k K = sym (mul-one (total s (a * k) t (b * k))) ∙ total-scaled s t (a * k) (b * k) 1 k a b (zero-lt-suc 0) K (mul-one (a * k)) (mul-one (b * k))
+pub sumSize-times : (s t : Bool) (a b k : ℕ) → 0 < k → sumSize s (a * k) t (b * k) ≡ sumSize s a t b * k
+sumSize-times s t a b k K = sym (mul-one (sumSize s (a * k) t (b * k))) ∙ sumSize-scaled s t (a * k) (b * k) 1 k a b (zero-lt-suc 0) K (mul-one (a * k)) (mul-one (b * k))
 
-pub total-le : (s t : Bool) (a b : ℕ) → total s a t b ≤ a + b
-total-le s t a b = go (Bool·beq s t)
+pub sumSize-le : (s t : Bool) (a b : ℕ) → sumSize s a t b ≤ a + b
+sumSize-le s t a b = go (Bool·beq s t)
   where
     go : (u : Bool) → cond u (a + b) (distance a b) ≤ a + b
     go true = omega arith
     go false = omega arith
 
-pub add-rounded : (x y : Float) (s t : Bool) (a b : ℕ) → Val x s a → Val y t b → x ⊕ y ≡ rounded (sumSign s a t b) (total s a t b) 1
+pub add-rounded : (x y : Float) (s t : Bool) (a b : ℕ) → Val x s a → Val y t b → x ⊕ y ≡ rounded (sumSign s a t b) (sumSize s a t b) 1
 unfolding add
 add-rounded nan y s t a b v w = absurd v
 add-rounded (inf u) y s t a b v w = absurd v
@@ -83,8 +83,8 @@ add-rounded (fin u m e) (fin r n h) s t a b v w =
     let p = one-side-of m e h a (v .1) in
     let q = other-side-of n e h b (w .1) in
     ap₂ (λ (y z : Bool). sum binary64 y X z Y D) (v .0) (w .0) ∙ sum-is s X t Y D
-    ∙ ap (λ (z : Bool). round binary64 z (total s X t Y) D) (sumSign-scaled s t X Y U D a b U-pos D-pos p q)
-    ∙ round-same binary64 (sumSign s a t b) (total s X t Y) D (total s a t b) (1 * U) D-pos (rw (one-mul U) U-pos) (rw (one-mul U) (total-scaled s t X Y U D a b U-pos D-pos p q))
+    ∙ ap (λ (z : Bool). round binary64 z (sumSize s X t Y) D) (sumSign-scaled s t X Y U D a b U-pos D-pos p q)
+    ∙ round-same binary64 (sumSign s a t b) (sumSize s X t Y) D (sumSize s a t b) (1 * U) D-pos (rw (one-mul U) U-pos) (rw (one-mul U) (sumSize-scaled s t X Y U D a b U-pos D-pos p q))
 
 -- ---- the product
 pub mul-rounded : (x y : Float) (s t : Bool) (a b : ℕ) → Val x s a → Val y t b → x ⊗ y ≡ rounded (unlike s t) (a * b) U

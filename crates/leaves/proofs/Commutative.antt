@@ -18,17 +18,17 @@ unlike-comm true false = refl
 unlike-comm false true = refl
 unlike-comm false false = refl
 
-pub product-comm : (x y : Float) → x ⊗ y ≡ y ⊗ x
+pub ⊗-comm : (x y : Float) → x ⊗ y ≡ y ⊗ x
 unfolding mul
-product-comm nan nan = refl
-product-comm nan (inf t) = refl
-product-comm nan (fin t n d) = refl
-product-comm (inf s) nan = refl
-product-comm (inf s) (inf t) = ap inf (unlike-comm s t)
-product-comm (inf s) (fin t n d) = ap (λ (z : Bool). cond (eqb n 0) nan (inf z)) (unlike-comm s t)
-product-comm (fin s m e) nan = refl
-product-comm (fin s m e) (inf t) = ap (λ (z : Bool). cond (eqb m 0) nan (inf z)) (unlike-comm s t)
-product-comm (fin s m e) (fin t n d) =
+⊗-comm nan nan = refl
+⊗-comm nan (inf t) = refl
+⊗-comm nan (fin t n d) = refl
+⊗-comm (inf s) nan = refl
+⊗-comm (inf s) (inf t) = ap inf (unlike-comm s t)
+⊗-comm (inf s) (fin t n d) = ap (λ (z : Bool). cond (eqb n 0) nan (inf z)) (unlike-comm s t)
+⊗-comm (fin s m e) nan = refl
+⊗-comm (fin s m e) (inf t) = ap (λ (z : Bool). cond (eqb m 0) nan (inf z)) (unlike-comm s t)
+⊗-comm (fin s m e) (fin t n d) =
     ap (λ (z : Bool). round binary64 z (m * up e * (n * up d)) (down e * down d)) (unlike-comm s t)
     ∙ ap₂ (λ (a c : ℕ). round binary64 (unlike t s) a c) (mul-comm (m * up e) (n * up d)) (mul-comm (down e) (down d))
 
@@ -51,17 +51,17 @@ sum-comm false false x y d e h = λ i. round binary64 false (add-comm x y i) (h 
 sum-comm true false x y d e h = difference-comm true false x y d e h
 sum-comm false true x y d e h = difference-comm false true x y d e h
 
-pub plus-comm : (x y : Float) → x ⊕ y ≡ y ⊕ x
+pub ⊕-comm : (x y : Float) → x ⊕ y ≡ y ⊕ x
 unfolding add
-plus-comm nan nan = refl
-plus-comm nan (inf t) = refl
-plus-comm nan (fin t n d) = refl
-plus-comm (inf s) nan = refl
-plus-comm (inf true) (inf true) = refl
-plus-comm (inf true) (inf false) = refl
-plus-comm (inf false) (inf true) = refl
-plus-comm (inf false) (inf false) = refl
-plus-comm (inf s) (fin t n d) = refl
-plus-comm (fin s m e) nan = refl
-plus-comm (fin s m e) (inf t) = refl
-plus-comm (fin s m e) (fin t n d) = sum-comm s t (m * up e * down d) (n * up d * down e) (down e * down d) (down d * down e) (mul-comm (down e) (down d))
+⊕-comm nan nan = refl
+⊕-comm nan (inf t) = refl
+⊕-comm nan (fin t n d) = refl
+⊕-comm (inf s) nan = refl
+⊕-comm (inf true) (inf true) = refl
+⊕-comm (inf true) (inf false) = refl
+⊕-comm (inf false) (inf true) = refl
+⊕-comm (inf false) (inf false) = refl
+⊕-comm (inf s) (fin t n d) = refl
+⊕-comm (fin s m e) nan = refl
+⊕-comm (fin s m e) (inf t) = refl
+⊕-comm (fin s m e) (fin t n d) = sum-comm s t (m * up e * down d) (n * up d * down e) (down e * down d) (down d * down e) (mul-comm (down e) (down d))

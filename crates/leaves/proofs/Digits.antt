@@ -1,19 +1,17 @@
--- How the code finds the whole part of a square root: digit by digit in a loop, which keeps `Digits`, and whose root is known by what is left over (`exact`, `inexact`). And how it finds what is
--- left over a root that it has guessed, in two steps (`rest-is`). Assumes nothing.
+-- How the code finds the whole part of a square root: digit by digit in a loop, which keeps `Digits`, and whose root is known by what is left over (`exact`, `inexact`). Assumes nothing.
 use mathlib.Core.Path.{_≡_}
 use Prim.Native.Nat.{ℕ, _+_, _-_, _*_, _/_, _%_, _^_, _≤_, _<_}
-use native.Mathlib.Nat.{lt-of-le-of-lt, mul-assoc, mul-le-mul, le-antisymm, lt-of-lt-of-le, pow-suc}
+use native.Mathlib.Nat.{mul-assoc, le-antisymm, lt-of-lt-of-le, pow-suc}
 use native.Mathlib.Numerals.{add-one}
 use native.Mathlib.Omega.{arith}
-use lib.Dec.{lit<}
 use lib.Pow.{pow-mono}
 use borrow.Author.Tests.{eq-eqb, ne-eqb}
-use Rattle.leaves.specs.Root as Roots
+use Rattle.leaves.specs.Root as Root
 use Rattle.leaves.specs.Root.{sticky}
-use Rattle.leaves.proofs.Roots.{Whole, root-over, root-below}
+use Rattle.leaves.proofs.Roots.{IntegerRoot, root-over, root-below}
 
 -- there is one root only
-root-unique : (n r q : ℕ) → Whole n r → Whole n q → r ≡ q
+root-unique : (n r q : ℕ) → IntegerRoot n r → IntegerRoot n q → r ≡ q
 root-unique n r q a b = le-antisymm (root-over n q r b (a .low)) (root-over n r q a (b .low))
 
 -- ---- the loop: i digits of the root are found, and the 2 i digits passed of n's 54 and the zeros after them are root * root + rem
@@ -60,8 +58,8 @@ all-passed n rest root rem i d done =
 
 -- ---- a root is known by what is left over: n * 2 ^ 56 less its square, at most twice the root
 module _ (n root rest : ℕ) (small : n < 2 ^ 54) (all : rest + root * root ≡ n * 2 ^ 56) (few : rest ≤ root * 2) where
-  found : Roots.root 55 (n * 2 ^ 56) ≡ root
-  found = root-unique (n * 2 ^ 56) (Roots.root 55 (n * 2 ^ 56)) root
+  found : Root.root 55 (n * 2 ^ 56) ≡ root
+  found = root-unique (n * 2 ^ 56) (Root.root 55 (n * 2 ^ 56)) root
       (root-below 55 (n * 2 ^ 56) (omega arith))
       (record { low = omega arith; high = omega arith })
 
@@ -72,18 +70,3 @@ module _ (n root rest : ℕ) (small : n < 2 ^ 54) (all : rest + root * root ≡ 
   pub inexact : (rest ≡ 0 → ⊥) → root * 2 + 1 ≡ sticky (n * 2 ^ 56)
   unfolding sticky
   inexact h = rw (found, ne-eqb (root * root) (n * 2 ^ 56) (λ (e : root * root ≡ n * 2 ^ 56). h (omega arith)))
-
--- ---- that rest, in two steps of 28 digits each
--- what the machine's words hold
-pub product-fits : (a b : ℕ) → a < 2 ^ 29 → b < 2 ^ 29 → a * b < 2 ^ 58
-product-fits a b p q =
-    let l : a ≤ 2 ^ 29 - 1 = omega arith in
-    let r : b ≤ 2 ^ 29 - 1 = omega arith in
-    lt-of-le-of-lt (mul-le-mul l r) (lit< tt)
-
-pub cross-fits : (a b : ℕ) → a < 2 ^ 29 → b < 2 ^ 29 → 2 * a * b ≤ 2 ^ 59
-cross-fits a b p q = omega (arith, product-fits a b p q)
-
-pub rest-is : (n h l : ℕ) → h * h ≤ n → 2 * h * l ≤ (n - h * h) * 2 ^ 28 → l * l ≤ ((n - h * h) * 2 ^ 28 - 2 * h * l) * 2 ^ 28
-    → ((n - h * h) * 2 ^ 28 - 2 * h * l) * 2 ^ 28 - l * l + (h * 2 ^ 28 + l) * (h * 2 ^ 28 + l) ≡ n * 2 ^ 56
-rest-is n h l a b c = omega arith

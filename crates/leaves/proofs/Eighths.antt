@@ -13,7 +13,7 @@ use lib.Ieee.Nearest.{closest, closest-same}
 use lib.Ieee.Fits.{core, round-is, round-fits, down-pos}
 use lib.Ieee.Exact.{HasValue, units-val}
 use lib.Ieee.Digits.{size-le, size-lt}
-use Rattle.leaves.proofs.Whole.{over, under, up-is, down-is}
+use Rattle.leaves.proofs.Whole.{posPart, negPart, up-is, down-is}
 use Rattle.leaves.proofs.Laws.{fits→room, Room, pow-back, value-same, digits-in, digits-out}
 use Rattle.leaves.proofs.Zero.{no}
 use Rattle.leaves.proofs.Rounding.{closest-error}
@@ -59,8 +59,8 @@ pub record Rounded (x : Float) : Type 0 where
   pub e : ℤ
   pub is : x ≡ fin false (suc m) e
   pub room : Room (suc m) e
-  pub low : 55 + under e < size (suc m) + over e
-  pub high : size (suc m) + over e ≤ 57 + under e
+  pub low : 55 + negPart e < size (suc m) + posPart e
+  pub high : size (suc m) + posPart e ≤ 57 + negPart e
 
 to-rounded : (x : Float) (v : ℕ) → T (fits binary64 x) → HasValue x false v 1 → 2 ^ 55 ≤ v → v ≤ 2 ^ 56 → Rounded x
 to-rounded nan v t h a b = absurd h
@@ -70,15 +70,15 @@ to-rounded (fin false zero e) v t h a b = absurd (let l : 0 < v * down e = mul-p
 to-rounded (fin false (suc m) e) v t h a b =
     let l = mul-le-mul-right (down e) a in
     let u = mul-le-mul-right (down e) b in
-    let lo : 2 ^ (55 + under e) ≤ suc m * 2 ^ over e = rw (pow-add 2 55 (under e), ← down-is, ← up-is) (omega arith) in
-    let hi : suc m * 2 ^ over e ≤ 2 ^ (56 + under e) = rw (pow-add 2 56 (under e), ← down-is, ← up-is) (omega arith) in
+    let lo : 2 ^ (55 + negPart e) ≤ suc m * 2 ^ posPart e = rw (pow-add 2 55 (negPart e), ← down-is, ← up-is) (omega arith) in
+    let hi : suc m * 2 ^ posPart e ≤ 2 ^ (56 + negPart e) = rw (pow-add 2 56 (negPart e), ← down-is, ← up-is) (omega arith) in
     record {
       m = m;
       e = e;
       is = refl;
       room = fits→room false m e t;
-      low = pow-back (55 + under e) (size (suc m) + over e) (lt-of-le-of-lt lo (digits-out (suc m) (over e) (size (suc m) + over e) (le-refl (size (suc m) + over e))));
-      high = digits-in m (over e) (57 + under e) (lt-of-le-of-lt hi (pow-lt {i = 56 + under e} {j = 57 + under e} (omega arith)));
+      low = pow-back (55 + negPart e) (size (suc m) + posPart e) (lt-of-le-of-lt lo (digits-out (suc m) (posPart e) (size (suc m) + posPart e) (le-refl (size (suc m) + posPart e))));
+      high = digits-in m (posPart e) (57 + negPart e) (lt-of-le-of-lt hi (pow-lt {i = 56 + negPart e} {j = 57 + negPart e} (omega arith)));
     }
 
 pub rounded : (s : ℕ) → 2 ^ 55 ≤ s → s < 2 ^ 56 → Rounded (round binary64 false s 1)

@@ -1,4 +1,4 @@
--- Signed whole numbers as the code has them: the test a ≤ b, `lib.Ieee`'s difference of two naturals, and what an i32 holds, by the two sides of a number (`over`, `under` of Whole). Assumes nothing.
+-- Signed whole numbers as the code has them: the test a ≤ b, `lib.Ieee`'s difference of two naturals, and what an i32 holds, by the positive and the negative part of a number (`posPart`, `negPart` of Whole). Assumes nothing.
 use mathlib.Core.Path.{_≡_, refl}
 use Prim.Native.Nat.{ℕ, suc, _+_, _-_, _^_, _≤_, _<_}
 use native.Mathlib.Omega.{arith}
@@ -11,54 +11,57 @@ use mir.Syntax.{w32}
 use mir.Val.{SFits, toZ, ofZ}
 use mir.Facts.{toZ-ofZ}
 use borrow.Author.Tests.{leb-true, leb-false}
-use Rattle.leaves.proofs.Whole.{over, under}
+use Rattle.leaves.proofs.Whole.{posPart, negPart}
 
-pub le-yes : (a b : ℤ) → T (leZ a b) → over a + under b ≤ over b + under a
-unfolding over under
+pub le-yes : (a b : ℤ) → T (leZ a b) → posPart a + negPart b ≤ posPart b + negPart a
+unfolding posPart negPart
 le-yes (pos a) (pos b) h = omega (arith, leb→le a b h)
 le-yes (pos a) (negsuc b) h = absurd h
 le-yes (negsuc a) (pos b) h = omega arith
 le-yes (negsuc a) (negsuc b) h = omega (arith, leb→le b a h)
 
-pub yes-le : (a b : ℤ) → over a + under b ≤ over b + under a → T (leZ a b)
-unfolding over under
+pub yes-le : (a b : ℤ) → posPart a + negPart b ≤ posPart b + negPart a → T (leZ a b)
+unfolding posPart negPart
 yes-le (pos a) (pos b) h = le→leb a b (omega arith)
 yes-le (pos a) (negsuc b) h = absurd (omega arith)
 yes-le (negsuc a) (pos b) h = tt
 yes-le (negsuc a) (negsuc b) h = le→leb b a (omega arith)
 
 -- lib.Ieee's a - b
-pub minus-is : (a b : ℕ) → over (Ieee.minus a b) + b ≡ a + under (Ieee.minus a b)
-unfolding over under
+pub minus-is : (a b : ℕ) → posPart (Ieee.minus a b) + b ≡ a + negPart (Ieee.minus a b)
+unfolding posPart negPart
 minus-is a b = go (leb b a) refl
   where
-    go : (t : Bool) → leb b a ≡ t → over (cond t (pos (a - b)) (negsuc (b - suc a))) + b ≡ a + under (cond t (pos (a - b)) (negsuc (b - suc a)))
+    go : (t : Bool) → leb b a ≡ t → posPart (cond t (pos (a - b)) (negsuc (b - suc a))) + b ≡ a + negPart (cond t (pos (a - b)) (negsuc (b - suc a)))
     go true e = omega (arith, leb-true b a e)
     go false e = omega (arith, leb-false b a e)
 
 -- a number that is not negative
-pub is-pos : (z : ℤ) → under z ≡ 0 → z ≡ pos (over z)
-unfolding over under
+pub is-pos : (z : ℤ) → negPart z ≡ 0 → z ≡ pos (posPart z)
+unfolding posPart negPart
 is-pos (pos n) h = refl
 is-pos (negsuc n) h = absurd (omega arith)
 
-mag-lt : (z : ℤ) (n : ℕ) → over z < n → under z ≤ n → mag z < n
-unfolding over under
+mag-lt : (z : ℤ) (n : ℕ) → posPart z < n → negPart z ≤ n → mag z < n
+unfolding posPart negPart
 mag-lt (pos a) n h k = h
 mag-lt (negsuc a) n h k = k
 
-mag-over : (z : ℤ) (n : ℕ) → mag z < n → (over z < n) × (under z ≤ n)
-unfolding over under
+mag-over : (z : ℤ) (n : ℕ) → mag z < n → (posPart z < n) × (negPart z ≤ n)
+unfolding posPart negPart
 mag-over (pos a) n h = omega arith
 mag-over (negsuc a) n h = omega arith
 
 -- in the range of an i32
-pub fits-i32 : (z : ℤ) → (over z < 2 ^ 31) × (under z ≤ 2 ^ 31) → SFits w32 z
+pub fits-i32 : (z : ℤ) → (posPart z < 2 ^ 31) × (negPart z ≤ 2 ^ 31) → SFits w32 z
 fits-i32 z h = record { sfits = mag-lt z (2 ^ 31) (h .0) (h .1) }
 
-pub i32-fits : (z : ℤ) → SFits w32 z → (over z < 2 ^ 31) × (under z ≤ 2 ^ 31)
+pub i32-fits : (z : ℤ) → SFits w32 z → (posPart z < 2 ^ 31) × (negPart z ≤ 2 ^ 31)
 i32-fits z h = mag-over z (2 ^ 31) (h .sfits)
 
--- what the machine reads back from an i32's bits
-pub back-i32 : (z : ℤ) → mag z < 2 ^ 31 → toZ w32 (ofZ w32 z) ≡ z
+-- what the machine reads back from a number's 32 bits: the number, of an i32
+abbrev pub readBack : ℤ → ℤ
+readBack z = toZ w32 (ofZ w32 z)
+
+pub back-i32 : (z : ℤ) → mag z < 2 ^ 31 → readBack z ≡ z
 back-i32 z h = toZ-ofZ (record { sfits = h })

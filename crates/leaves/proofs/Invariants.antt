@@ -9,14 +9,15 @@ use lib.ListN.{length, getD, set, length-set}
 use lib.Ieee.{Float}
 use Rattle.leaves.specs.Numbers.{_⊕_, zero⁺, abs, larger}
 use Rattle.leaves.specs.Loops.{loop, sumTo, amaxTo, tab, fill}
-use Rattle.leaves.proofs.Loops.{loop-more, loop-ext, fill-whole}
+use Rattle.leaves.proofs.Loops.{loop-more, loop-ext}
+use Rattle.leaves.proofs.Fill.{fill-whole}
 use Rattle.leaves.proofs.Cells.{at-cell}
 
 -- what is kept of i, at the end
 pub at-end : {A : Type 0} (g : ℕ → A) (i n : ℕ) (s : A) → s ≡ g i → i ≤ n → n ≤ i → s ≡ g n
 at-end g i n s e h k = e ∙ ap g (le-antisymm h k)
 
--- a loop's invariant s ≡ loop step i s₀, after a turn and at the end
+-- a loop's invariant s ≡ loop i step s₀, after a turn and at the end
 pub loop-turn : {S : Type 0} (step : ℕ → S → S) (i : ℕ) (s₀ s s′ : S) → s ≡ loop i step s₀ → s′ ≡ step i s → s′ ≡ loop (i + 1) step s₀
 loop-turn step i s₀ s s′ e e′ = e′ ∙ ap (step i) e ∙ sym (loop-more step i s₀)
 

@@ -1,15 +1,15 @@
 -- Laws of `specs/Loops.antt`'s loops, sums and tables. Assumes nothing.
 use mathlib.Core.Path.{_≡_, refl, sym, ap, _∙_}
 use mathlib.Core.List.{[], List, _∷_, _++_, append-nil}
-use Prim.Native.Nat.{ℕ, zero, suc, _+_, _≤_, _<_, zero-le, suc-le-suc}
+use Prim.Native.Nat.{ℕ, zero, suc, _+_, _<_, zero-le, suc-le-suc}
 use native.Mathlib.Nat.{lt-suc-self, lt-trans, not-suc-le-zero, le-of-suc-le-suc}
 use native.Mathlib.Numerals.{add-one}
 use native.Mathlib.Omega.{arith}
-use lib.ListN.{length, getD, drop, length-append, length-drop, drop-of-length-le}
+use lib.ListN.{length, getD}
 use lib.Seq.{ext-getD}
 use lib.Ieee.{Float}
 use Rattle.leaves.specs.Numbers.{_⊕_, zero⁺, abs, larger}
-use Rattle.leaves.specs.Loops.{loop, sumTo, amaxTo, tab, fill}
+use Rattle.leaves.specs.Loops.{loop, sumTo, amaxTo, tab}
 
 -- one step more
 pub loop-more : {S : Type 0} (step : ℕ → S → S) (n : ℕ) (s : S) → loop (n + 1) step s ≡ step n (loop n step s)
@@ -37,11 +37,7 @@ module _ {A : Type 0} where
   length-tab f zero = refl
   length-tab f (suc n) = ap suc (length-tab (λ k. f (suc k)) n)
 
-  pub length-fill : (f : ℕ → A) (n : ℕ) (old : List A) → n ≤ length old → length (fill n f old) ≡ length old
-  unfolding fill
-  length-fill f n old h = omega (arith, length-append (tab n f) (drop n old), length-tab f n, length-drop n old)
-
-  tab-at : (f : ℕ → A) (n : ℕ) (l : List A) (k : ℕ) (d : A) → k < n → getD (tab n f ++ l) k d ≡ f k
+  pub tab-at : (f : ℕ → A) (n : ℕ) (l : List A) (k : ℕ) (d : A) → k < n → getD (tab n f ++ l) k d ≡ f k
   unfolding tab
   tab-at f zero l k d h = absurd (not-suc-le-zero h)
   tab-at f (suc n) l zero d h = refl
@@ -53,16 +49,6 @@ module _ {A : Type 0} where
   -- a list is f's where its numbers are
   pub tab-is : (d : A) (l : List A) (n : ℕ) (f : ℕ → A) → length l ≡ n → ((k : ℕ) → k < n → getD l k d ≡ f k) → l ≡ tab n f
   tab-is d l n f e h = ext-getD d l (tab n f) (e ∙ sym (length-tab f n)) (λ k b. let b′ : k < n = omega arith in h k b′ ∙ sym (getD-tab n f k d b′))
-
-  -- a list no longer than n is replaced whole
-  pub fill-whole : (f : ℕ → A) (n : ℕ) (old : List A) → length old ≤ n → fill n f old ≡ tab n f
-  unfolding fill
-  fill-whole f n old h = ap (λ (r : List A). tab n f ++ r) (drop-of-length-le old h) ∙ append-nil (tab n f)
-
-  -- the first n elements are f's
-  pub fill-at : (f : ℕ → A) (n : ℕ) (old : List A) (k : ℕ) (d : A) → k < n → getD (fill n f old) k d ≡ f k
-  unfolding fill
-  fill-at f n old k d h = tab-at f n (drop n old) k d h
 
   pub tab-ext : (f g : ℕ → A) (n : ℕ) → ((k : ℕ) → k < n → f k ≡ g k) → tab n f ≡ tab n g
   unfolding tab

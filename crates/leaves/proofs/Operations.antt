@@ -17,9 +17,9 @@ use lib.Ieee.Positive.{first-pos}
 use Rattle.leaves.specs.Numbers.{_⊕_, _⊖_, _⊗_, _⊘_, zero⁺, abs}
 use Rattle.leaves.specs.Shift.{shift}
 use Rattle.leaves.proofs.Shift.{shift-zero, shift-shift, shift-zero⁺, neg-shift, abs-shift}
-use Rattle.leaves.proofs.Rounding.{near, Held, Grained, whole, normal, near-most, held-pow, grained-finer}
+use Rattle.leaves.proofs.Rounding.{near, Representable, Grained, whole, normal, near-most, representable-pow, grained-finer}
 use Rattle.leaves.proofs.Units.{oneBits, topBits, fractionBits, U, U-pos, Top, pow-under-Top, Val, rounded, sign, mag, val-shift, rounded-shift}
-use Rattle.leaves.proofs.Arithmetic.{sumSign, total, sumSign-times, total-times, total-le, add-rounded, mul-rounded, div-rounded, div-alike}
+use Rattle.leaves.proofs.Arithmetic.{sumSign, sumSize, sumSign-times, sumSize-times, sumSize-le, add-rounded, mul-rounded, div-rounded, div-alike}
 use Rattle.leaves.proofs.Range.{Range, range-value, range-grain, range-neg, range-abs, range-rounded}
 use Rattle.leaves.proofs.Bounds.{Bounds, Bounded, zero-bounded, multiples, sumOf, productOf, normalProductOf, quotientOf, covers, within, bounded-coarse, bounded-within}
 
@@ -35,15 +35,15 @@ U-le-pow a b c h = le-trans (le-of-eq (sym (pow-add 2 a 1074))) (le-trans (pow-m
 -- a fraction of 2 ^ h units at most, shifted by k, does not overflow
 no-overflow : (n d h k : ℕ) → 0 < d → n ≤ 2 ^ h * d → h + k ≤ topBits → near (n * 2 ^ k) d < Top
 no-overflow n d h k D l o =
-    lt-of-le-of-lt (near-most (n * 2 ^ k) d (2 ^ (h + k)) D (held-pow (h + k)) (le-trans (mul-le-mul-right (2 ^ k) l) (le-of-eq (mul-right-comm (2 ^ h) d (2 ^ k) ∙ ap (λ (z : ℕ). z * d) (sym (pow-add 2 h k)))))) (pow-under-Top (h + k) o)
+    lt-of-le-of-lt (near-most (n * 2 ^ k) d (2 ^ (h + k)) D (representable-pow (h + k)) (le-trans (mul-le-mul-right (2 ^ k) l) (le-of-eq (mul-right-comm (2 ^ h) d (2 ^ k) ∙ ap (λ (z : ℕ). z * d) (sym (pow-add 2 h k)))))) (pow-under-Top (h + k) o)
 
 -- ---- exact scaling
 module _ (x y : Float) (s t : Bool) (a b : ℕ) (v : Val x s a) (w : Val y t b) where
-  add-shift : (k : ℕ) → near (total s a t b * 2 ^ k) 1 < Top → shift (pos k) x ⊕ shift (pos k) y ≡ shift (pos k) (x ⊕ y)
+  add-shift : (k : ℕ) → near (sumSize s a t b * 2 ^ k) 1 < Top → shift (pos k) x ⊕ shift (pos k) y ≡ shift (pos k) (x ⊕ y)
   add-shift k o =
-      let n = total s a t b in
+      let n = sumSize s a t b in
       add-rounded (shift (pos k) x) (shift (pos k) y) s t (a * 2 ^ k) (b * 2 ^ k) (val-shift k x s a v) (val-shift k y t b w)
-      ∙ ap₂ (λ (r : Bool) (n : ℕ). rounded r n 1) (sumSign-times s t a b (2 ^ k) (pow-pos k)) (total-times s t a b (2 ^ k) (pow-pos k))
+      ∙ ap₂ (λ (r : Bool) (n : ℕ). rounded r n 1) (sumSign-times s t a b (2 ^ k) (pow-pos k)) (sumSize-times s t a b (2 ^ k) (pow-pos k))
       ∙ rounded-shift (sumSign s a t b) n 1 k (zero-lt-suc 0) (whole n (sym (mul-one (n * 1) ∙ mul-one n))) o ∙ ap (shift (pos k)) (sym (add-rounded x y s t a b v w))
 
   mul-shift : (i j : ℕ) → Grained 0 (a * b) U → near (a * b * 2 ^ (i + j)) U < Top → shift (pos i) x ⊗ shift (pos j) y ≡ shift (pos (i + j)) (x ⊗ y)
@@ -59,21 +59,21 @@ module _ (x y : Float) (s t : Bool) (a b : ℕ) (v : Val x s a) (w : Val y t b) 
 
 -- ---- ranges
 module _ {g L₁ B₁ L₂ B₂ : ℕ} {x y : Float} (r : Range g L₁ B₁ x) (p : Range g L₂ B₂ y) where
-  sum-at-most : total (sign x) (mag x) (sign y) (mag y) ≤ B₁ + B₂
-  sum-at-most = le-trans (total-le (sign x) (sign y) (mag x) (mag y)) (add-le-add (r .most) (p .most))
+  sum-at-most : sumSize (sign x) (mag x) (sign y) (mag y) ≤ B₁ + B₂
+  sum-at-most = le-trans (sumSize-le (sign x) (sign y) (mag x) (mag y)) (add-le-add (r .most) (p .most))
 
-  pub range-add : (B : ℕ) → B₁ + B₂ ≤ B → Held B → B < Top → Range g (2 ^ g) B (x ⊕ y)
+  pub range-add : (B : ℕ) → B₁ + B₂ ≤ B → Representable B → B < Top → Range g (2 ^ g) B (x ⊕ y)
   range-add B h H o =
-      let q = total (sign x) (r .count) (sign y) (p .count) in
-      let n = total (sign x) (mag x) (sign y) (mag y) in
-      let e : n ≡ q * 2 ^ g = ap₂ (λ (u v : ℕ). total (sign x) u (sign y) v) (r .grain) (p .grain) ∙ total-times (sign x) (sign y) (r .count) (p .count) (2 ^ g) (pow-pos g) in
+      let q = sumSize (sign x) (r .multiple) (sign y) (p .multiple) in
+      let n = sumSize (sign x) (mag x) (sign y) (mag y) in
+      let e : n ≡ q * 2 ^ g = ap₂ (λ (u v : ℕ). sumSize (sign x) u (sign y) v) (r .grain) (p .grain) ∙ sumSize-times (sign x) (sign y) (r .multiple) (p .multiple) (2 ^ g) (pow-pos g) in
       subst (Range g (2 ^ g) B) (sym (add-rounded x y (sign x) (sign y) (mag x) (mag y) (range-value r) (range-value p)))
-      (range-grain (range-rounded (sumSign (sign x) (mag x) (sign y) (mag y)) n 1 g 1 B (zero-lt-suc 0) (whole q (e ∙ sym (mul-one (q * 2 ^ g)))) (held-pow 0) (λ l. l) H
+      (range-grain (range-rounded (sumSign (sign x) (mag x) (sign y) (mag y)) n 1 g 1 B (zero-lt-suc 0) (whole q (e ∙ sym (mul-one (q * 2 ^ g)))) (representable-pow 0) (λ l. l) H
       (le-trans sum-at-most (le-trans h (le-of-eq (sym (mul-one B))))) o))
 
-  pub add-copy : (k B : ℕ) → (B₁ + B₂) * 2 ^ k ≤ B → Held B → B < Top → shift (pos k) x ⊕ shift (pos k) y ≡ shift (pos k) (x ⊕ y)
+  pub add-copy : (k B : ℕ) → (B₁ + B₂) * 2 ^ k ≤ B → Representable B → B < Top → shift (pos k) x ⊕ shift (pos k) y ≡ shift (pos k) (x ⊕ y)
   add-copy k B h H o =
-      let n = total (sign x) (mag x) (sign y) (mag y) in
+      let n = sumSize (sign x) (mag x) (sign y) (mag y) in
       add-shift x y (sign x) (sign y) (mag x) (mag y) (range-value r) (range-value p) k
       (lt-of-le-of-lt (near-most (n * 2 ^ k) 1 B (zero-lt-suc 0) H (le-trans (mul-le-mul-right (2 ^ k) sum-at-most) (le-trans h (le-of-eq (sym (mul-one B)))))) o)
 
@@ -93,14 +93,14 @@ module _ {g₁ L₁ B₁ g₂ L₂ B₂ : ℕ} {x y : Float} (r : Range g₁ L�
   unfolding U
   by-grains h =
       let g = g₁ + g₂ - oneBits in
-      let q = r .count * p .count in
+      let q = r .multiple * p .multiple in
       let e : 2 ^ g₁ * 2 ^ g₂ ≡ 2 ^ g * 2 ^ oneBits = sym (pow-add 2 g₁ g₂) ∙ ap (λ (z : ℕ). 2 ^ z) (sym (sub-add-cancel h)) ∙ pow-add 2 g oneBits in
-      whole q (ap₂ (λ (a b : ℕ). a * b) (r .grain) (p .grain) ∙ mul-mul-mul-comm (r .count) (2 ^ g₁) (p .count) (2 ^ g₂) ∙ ap (λ (z : ℕ). q * z) e ∙ sym (mul-assoc q (2 ^ g) (2 ^ oneBits)))
+      whole q (ap₂ (λ (a b : ℕ). a * b) (r .grain) (p .grain) ∙ mul-mul-mul-comm (r .multiple) (2 ^ g₁) (p .multiple) (2 ^ g₂) ∙ ap (λ (z : ℕ). q * z) e ∙ sym (mul-assoc q (2 ^ g) (2 ^ oneBits)))
 
   by-sizes : (l : ℕ) → fractionBits ≤ l → 2 ^ l * U ≤ L₁ * L₂ → Grained (l - fractionBits) (mag x * mag y) U
   by-sizes l e h = zero-or-large l (mag x * mag y) U e (λ q. le-trans h (product-least q))
 
-  range-mul : (g L B : ℕ) → Grained g (mag x * mag y) U → Held L → L * U ≤ L₁ * L₂ → Held B → B₁ * B₂ ≤ B * U → B < Top → Range g L B (x ⊗ y)
+  range-mul : (g L B : ℕ) → Grained g (mag x * mag y) U → Representable L → L * U ≤ L₁ * L₂ → Representable B → B₁ * B₂ ≤ B * U → B < Top → Range g L B (x ⊗ y)
   range-mul g L B G HL l HB h o =
       subst (Range g L B) (sym (mul-rounded x y (sign x) (sign y) (mag x) (mag y) (range-value r) (range-value p)))
       (range-rounded (unlike (sign x) (sign y)) (mag x * mag y) U g L B U-pos G HL (λ q. le-trans l (product-least q)) HB (le-trans product-most h) o)
@@ -115,10 +115,10 @@ module _ {g₁ L₁ B₁ g₂ L₂ B₂ : ℕ} {x y : Float} (r : Range g₁ L�
   quotient-grain : (l : ℕ) → fractionBits ≤ l → 2 ^ l * B₂ ≤ L₁ * U → Grained (l - fractionBits) (mag x * U) (mag y)
   quotient-grain l e h = zero-or-large l (mag x * U) (mag y) e (quotient-least (2 ^ l) h)
 
-  range-div : (l B : ℕ) → fractionBits ≤ l → 0 < mag y → 2 ^ l * B₂ ≤ L₁ * U → Held B → B₁ * U ≤ B * L₂ → B < Top → Range (l - fractionBits) (2 ^ l) B (x ⊘ y)
+  range-div : (l B : ℕ) → fractionBits ≤ l → 0 < mag y → 2 ^ l * B₂ ≤ L₁ * U → Representable B → B₁ * U ≤ B * L₂ → B < Top → Range (l - fractionBits) (2 ^ l) B (x ⊘ y)
   range-div l B e N h HB b o =
       subst (Range (l - fractionBits) (2 ^ l) B) (sym (div-rounded x y (sign x) (sign y) (mag x) (mag y) (range-value r) (range-value p) N))
-      (range-rounded (unlike (sign x) (sign y)) (mag x * U) (mag y) (l - fractionBits) (2 ^ l) B N (quotient-grain l e h) (held-pow l) (quotient-least (2 ^ l) h) HB (quotient-most B N b) o)
+      (range-rounded (unlike (sign x) (sign y)) (mag x * U) (mag y) (l - fractionBits) (2 ^ l) B N (quotient-grain l e h) (representable-pow l) (quotient-least (2 ^ l) h) HB (quotient-most B N b) o)
 
 -- ---- a value and its copy
 pub record Moved (k : ℕ) (b : Bounds) (x x' : Float) : Type 0 where
@@ -149,8 +149,8 @@ moved-add {k} {b} {c} d s t r p o =
     let u = bounded-coarse b d s (r .range) in
     let v = bounded-coarse c d t (p .range) in
     record {
-      range = range-add u v (2 ^ h) (le-of-eq both) (held-pow h) (pow-under-Top h (omega arith));
-      copy = ap₂ _⊕_ (r .copy) (p .copy) ∙ add-copy u v k (2 ^ (h + k)) (le-of-eq (ap (λ (z : ℕ). z * 2 ^ k) both ∙ sym (pow-add 2 h k))) (held-pow (h + k)) (pow-under-Top (h + k) o);
+      range = range-add u v (2 ^ h) (le-of-eq both) (representable-pow h) (pow-under-Top h (omega arith));
+      copy = ap₂ _⊕_ (r .copy) (p .copy) ∙ add-copy u v k (2 ^ (h + k)) (le-of-eq (ap (λ (z : ℕ). z * 2 ^ k) both ∙ sym (pow-add 2 h k))) (representable-pow (h + k)) (pow-under-Top (h + k) o);
     }
 
 pub moved-sub : {k : ℕ} {b c : Bounds} {x x' y y' : Float} (d : Bounds) → T (covers d b) → T (covers d c) → Moved k b x x' → Moved k c y y' → sumOf 1 d .most + k ≤ topBits → Moved k (sumOf 1 d) (x ⊖ y) (x' ⊖ y')
@@ -162,7 +162,7 @@ product-moved : {i j : ℕ} {b c : Bounds} {x x' y y' : Float} → Moved i b x x
 product-moved {i} {j} {b} {c} {x} {x'} {y} {y'} r p d G el eh o =
     let most = pow-le-U (b .most) (c .most) (d .most) eh in
     record {
-      range = range-mul (r .range) (p .range) (d .grain) (2 ^ d .least) (2 ^ d .most) G (held-pow (d .least)) (U-le-pow (d .least) (b .least) (c .least) el) (held-pow (d .most)) most (pow-under-Top (d .most) (omega arith));
+      range = range-mul (r .range) (p .range) (d .grain) (2 ^ d .least) (2 ^ d .most) G (representable-pow (d .least)) (U-le-pow (d .least) (b .least) (c .least) el) (representable-pow (d .most)) most (pow-under-Top (d .most) (omega arith));
       copy = ap₂ _⊗_ (r .copy) (p .copy) ∙ mul-shift x y (sign x) (sign y) (mag x) (mag y) (range-value (r .range)) (range-value (p .range)) i j (grained-finer 0 (d .grain) (mag x * mag y) U zero-le G)
           (no-overflow (mag x * mag y) U (d .most) (i + j) U-pos (le-trans (product-most (r .range) (p .range)) most) o);
     }
@@ -190,7 +190,7 @@ moved-div {i} {j} {b} {c} {x} {x'} {y} {y'} r p N e o =
     let least = pow-le-U l (c .most) (b .least) (omega arith) in
     let most = U-le-pow (b .most) h (c .least) (omega arith) in
     record {
-      range = range-div (r .range) (p .range) l (2 ^ h) (omega arith) N least (held-pow h) most (pow-under-Top h (omega arith));
+      range = range-div (r .range) (p .range) l (2 ^ h) (omega arith) N least (representable-pow h) most (pow-under-Top h (omega arith));
       copy = ap₂ _⊘_ (r .copy ∙ sym (shift-shift (pos i) (pos j) x)) (p .copy) ∙ div-alike (pos j) (shift (pos i) x) y
           ∙ div-shift x y (sign x) (sign y) (mag x) (mag y) (range-value (r .range)) (range-value (p .range)) i N (grained-finer 0 (d .grain) (mag x * U) (mag y) zero-le (quotient-grain (r .range) (p .range) l (omega arith) least))
           (no-overflow (mag x * U) (mag y) h i N (quotient-most (r .range) (p .range) (2 ^ h) N most) o);

@@ -11,9 +11,9 @@ use lib.IntN.{ℤ, pos, _+ℤ_, _-ℤ_}
 use lib.Ieee.{Float, nan, inf, fin, binary64, fits, lt, size, up, down, toBits, ofBits, ofInt, round}
 use lib.Ieee.Bits.{ofBits-toBits}
 use lib.Ieee.Exact.{HasValue}
-use Rattle.leaves.specs.Numbers.{zero⁺}
+use Rattle.leaves.specs.Numbers.{zero⁺, count}
 use Rattle.leaves.specs.Root.{sticky, halfExponent, radicand, sqrt}
-use Rattle.leaves.proofs.Whole.{over, under, one-side, plus, minus, up-is, down-is}
+use Rattle.leaves.proofs.Whole.{posPart, negPart, one-side, plus, minus, up-is, down-is}
 use Rattle.leaves.proofs.Laws.{Room, fits→room, room→fits, bits-at, place, digits-in, digits-out, size-pos, leading}
 use Rattle.leaves.proofs.Zero.{no, zero-not-above}
 use Rattle.leaves.proofs.Exponent.{units-are, size-shift}
@@ -90,8 +90,8 @@ module _ (m : ℕ) (e : ℤ) (r : Room (suc m) e) (b : ℕ) (is-b : b ≡ toBits
   halves : (F ≡ size (suc m) + place e - 52) × (b % 2 ^ 52 + 2 ^ 52 ≡ Q m e r)
   halves = let q = Q-in m e r in parted b (size (suc m) + place e) (Q m e r) tall (q .0) (q .1) (is-b ∙ bits-normal m e r tall)
 
-  shift-is : over (g m e r) ≡ 53 - size (suc m) + (1 - F % 2)
-  unfolding over under
+  shift-is : posPart (g m e r) ≡ 53 - size (suc m) + (1 - F % 2)
+  unfolding posPart negPart
   shift-is =
       omega (arith, halves .0, halved m e r, minus (pos 52) h, minus (pos 52 -ℤ h) h, plus e (pos 52 -ℤ h -ℤ h), one-side (g m e r))
 
@@ -106,7 +106,7 @@ module _ (m : ℕ) (e : ℤ) (r : Room (suc m) e) (b : ℕ) (is-b : b ≡ toBits
       ∙ mul-assoc (suc m) (2 ^ j) (2 ^ t) ∙ ap (λ (x : ℕ). suc m * x) (sym (pow-add 2 j t)) ∙ ap (λ (i : ℕ). suc m * 2 ^ i) (sym shift-is)
 
   -- ---- the root of x, by a p of 53 digits that is its rounded digits
-  module _ (p : ℕ) (digits : (2 ^ 52 ≤ p) × (p < 2 ^ 53)) (same : ofInt binary64 (pos (8 * p)) ≡ ofInt binary64 (pos (sticky (N * 2 ^ 56)))) where
+  module _ (p : ℕ) (digits : (2 ^ 52 ≤ p) × (p < 2 ^ 53)) (same : count (8 * p) ≡ count (sticky (N * 2 ^ 56))) where
     abbrev d : Rounded (round binary64 false (sticky (radicand (suc m) e)) 1)
     d = digits-of m e r
 
@@ -117,28 +117,28 @@ module _ (m : ℕ) (e : ℤ) (r : Room (suc m) e) (b : ℕ) (is-b : b ≡ toBits
     unfolding ofInt
     eight-is = same ∙ ap (λ (k : ℕ). round binary64 false (sticky k) 1) (ap (λ (k : ℕ). k * 2 ^ 56) radicand-bits ∙ sym (radicand-is m e r)) ∙ d .is
 
-    under-0 : under (d .e) ≡ 0
+    under-0 : negPart (d .e) ≡ 0
     under-0 = omega (arith, d .low, d .room .digits, one-side (d .e))
 
-    product : suc (d .m) * 2 ^ over (d .e) ≡ p * 8
+    product : suc (d .m) * 2 ^ posPart (d .e) ≡ p * 8
     product =
         let v : suc (d .m) * up (d .e) * 1 ≡ p * 8 * down (d .e) = subst (λ (x : Float). HasValue x false (p * 8) 1) eight-is (eights-value p digits) .1 in
         let o : down (d .e) ≡ 1 = down-is (d .e) ∙ ap (λ (k : ℕ). 2 ^ k) under-0 in
-        let w : suc (d .m) * 2 ^ over (d .e) * 1 ≡ p * 8 * 1 = rw (← up-is (d .e)) (v ∙ ap (λ (k : ℕ). p * 8 * k) o) in
+        let w : suc (d .m) * 2 ^ posPart (d .e) * 1 ≡ p * 8 * 1 = rw (← up-is (d .e)) (v ∙ ap (λ (k : ℕ). p * 8 * k) o) in
         omega arith
 
-    size-is : size (suc (d .m)) + over (d .e) ≡ 56
-    size-is = let a = digits-in (d .m) (over (d .e)) 56 (rw product (omega arith)) in omega (arith, d .low)
+    size-is : size (suc (d .m)) + posPart (d .e) ≡ 56
+    size-is = let a = digits-in (d .m) (posPart (d .e)) 56 (rw product (omega arith)) in omega (arith, d .low)
 
     Q-is : suc (d .m) * 2 ^ (53 - size (suc (d .m))) ≡ p
     Q-is =
         let j = 53 - size (suc (d .m)) in
-        let i : over (d .e) ≡ j + 3 = omega (arith, size-is, d .room .digits) in
+        let i : posPart (d .e) ≡ j + 3 = omega (arith, size-is, d .room .digits) in
         let a : suc (d .m) * 2 ^ j * 8 ≡ p * 8 = mul-assoc (suc (d .m)) (2 ^ j) 8 ∙ ap (λ (x : ℕ). suc (d .m) * x) (sym (pow-add 2 j 3)) ∙ ap (λ (k : ℕ). suc (d .m) * 2 ^ k) (sym i) ∙ product in
         omega arith
 
     field-of-root : size (suc (d .m)) + place E ≡ (F + 1023) / 2 + 52
-    unfolding over under
+    unfolding posPart negPart
     field-of-root = omega (arith, halves .0, halved m e r, size-is, under-0, plus (d .e) (h -ℤ pos 55), minus h (pos 55))
 
     root-bits : toBits binary64 (fin false (suc (d .m)) E) ≡ ((F + 1023) / 2 - 1) * 2 ^ 52 + p

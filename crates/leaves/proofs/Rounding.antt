@@ -26,7 +26,7 @@ abbrev pub near : ℕ → ℕ → ℕ
 near n d = kept 53 n d * 2 ^ drop 53 n d
 
 -- a number of 53 digits and zeros after them
-pub record Held (n : ℕ) : Type 0 where
+pub record Representable (n : ℕ) : Type 0 where
   pub digits : ℕ
   pub zeros : ℕ
   pub few : digits < 2 ^ 53
@@ -108,7 +108,7 @@ module _ (n d k q j : ℕ) (D : 0 < d) (large : 0 < k → 2 ^ (52 + k) * d ≤ n
           let p : 2 ^ 52 * (d * 2 ^ k) ≤ n = le-trans (le-of-eq (ap (λ (z : ℕ). 2 ^ 52 * z) (mul-comm d (2 ^ k)) ∙ sym (mul-assoc (2 ^ 52) (2 ^ k) d) ∙ ap (λ (z : ℕ). z * d) (sym (pow-add 2 52 k)))) (large (lt-of-le-of-lt zero-le l)) in
           le-of-lt (lt-of-lt-of-le (short q j k few l) (le-trans (le-of-eq (pow-add 2 52 k)) (mul-le-mul-right (2 ^ k) (closest-least n (d * 2 ^ k) (2 ^ 52) steps-pos p))))
 
-module _ (n d b : ℕ) (D : 0 < d) (H : Held b) where
+module _ (n d b : ℕ) (D : 0 < d) (H : Representable b) where
   pub near-most : n ≤ b * d → near n d ≤ b
   near-most h = rw (H .is) (most-at n d (drop 53 n d) (H .digits) (H .zeros) D (dropped n d D) (H .few) (rw (H .is) at h))
 
@@ -116,21 +116,21 @@ module _ (n d b : ℕ) (D : 0 < d) (H : Held b) where
   near-least h = rw (H .is) (least-at n d (drop 53 n d) (H .digits) (H .zeros) D (dropped n d D) (H .few) (rw (H .is) at h))
 
 -- ---- numbers that are held
-pub held-times : (q j : ℕ) → q < 2 ^ 53 → Held (q * 2 ^ j)
-held-times q j h = record { digits = q; zeros = j; few = h; is = refl }
+pub representable-times : (q j : ℕ) → q < 2 ^ 53 → Representable (q * 2 ^ j)
+representable-times q j h = record { digits = q; zeros = j; few = h; is = refl }
 
-pub held-small : (q : ℕ) → q < 2 ^ 53 → Held q
-held-small q h = record { digits = q; zeros = 0; few = h; is = sym (mul-one q) }
+pub representable-small : (q : ℕ) → q < 2 ^ 53 → Representable q
+representable-small q h = record { digits = q; zeros = 0; few = h; is = sym (mul-one q) }
 
-pub held-pow : (j : ℕ) → Held (2 ^ j)
-held-pow j = record { digits = 1; zeros = j; few = lit< tt; is = sym (one-mul (2 ^ j)) }
+pub representable-pow : (j : ℕ) → Representable (2 ^ j)
+representable-pow j = record { digits = 1; zeros = j; few = lit< tt; is = sym (one-mul (2 ^ j)) }
 
-pub held-up : (b t : ℕ) → Held b → Held (b * 2 ^ t)
-held-up b t H = record { digits = H .digits; zeros = H .zeros + t; few = H .few; is = ap (λ (z : ℕ). z * 2 ^ t) (H .is) ∙ mul-assoc (H .digits) (2 ^ H .zeros) (2 ^ t) ∙ ap (λ (z : ℕ). H .digits * z) (sym (pow-add 2 (H .zeros) t)) }
+pub representable-up : (b t : ℕ) → Representable b → Representable (b * 2 ^ t)
+representable-up b t H = record { digits = H .digits; zeros = H .zeros + t; few = H .few; is = ap (λ (z : ℕ). z * 2 ^ t) (H .is) ∙ mul-assoc (H .digits) (2 ^ H .zeros) (2 ^ t) ∙ ap (λ (z : ℕ). H .digits * z) (sym (pow-add 2 (H .zeros) t)) }
 
 -- rounding gives them back
-pub near-held : (b d : ℕ) → 0 < d → Held b → near (b * d) d ≡ b
-near-held b d D H = le-antisymm (near-most (b * d) d b D H (le-refl (b * d))) (near-least (b * d) d b D H (le-refl (b * d)))
+pub near-representable : (b d : ℕ) → 0 < d → Representable b → near (b * d) d ≡ b
+near-representable b d D H = le-antisymm (near-most (b * d) d b D H (le-refl (b * d))) (near-least (b * d) d b D H (le-refl (b * d)))
 
 -- ---- the error
 doubled-fine : (g n d : ℕ) → 2 * (g * d) ≤ 2 * n + d → g * d ≤ 2 * n
@@ -183,7 +183,7 @@ near-whole q d t D = go (le-or-lt (2 ^ 53) q)
   where
     go : (2 ^ 53 ≤ q) ⊎ (q < 2 ^ 53) → near (q * d * 2 ^ t) d ≡ near (q * d) d * 2 ^ t
     go (inl l) = near-normal (q * d) d t D (mul-le-mul-right d (le-trans (lit≤ tt) l))
-    go (inr l) = ap (λ (z : ℕ). near z d) (mul-right-comm q d (2 ^ t)) ∙ near-held (q * 2 ^ t) d D (held-times q t l) ∙ ap (λ (z : ℕ). z * 2 ^ t) (sym (near-held q d D (held-small q l)))
+    go (inr l) = ap (λ (z : ℕ). near z d) (mul-right-comm q d (2 ^ t)) ∙ near-representable (q * 2 ^ t) d D (representable-times q t l) ∙ ap (λ (z : ℕ). z * 2 ^ t) (sym (near-representable q d D (representable-small q l)))
 
 pub near-scale : (n d t : ℕ) → 0 < d → Grained 0 n d → near (n * 2 ^ t) d ≡ near n d * 2 ^ t
 near-scale n d t D (whole q e) = let f : n ≡ q * d = e ∙ ap (λ (z : ℕ). z * d) (mul-one q) in subst (λ (z : ℕ). near (z * 2 ^ t) d ≡ near z d * 2 ^ t) (sym f) (near-whole q d t D)
@@ -202,8 +202,8 @@ grained-finer g j n d h (whole q e) = whole (q * 2 ^ (j - g)) (e ∙ ap (λ (z :
 grained-finer g j n d h (normal l) = normal (le-trans (mul-le-mul-right d (pow-mono {i = g + 52} {j = j + 52} (omega arith))) l)
 
 -- a number that is held, and so large, is a multiple of 2 ^ g
-pub held-grain : (g b : ℕ) → Held b → 2 ^ (g + 52) ≤ b → (c : ℕ) × (b ≡ c * 2 ^ g)
-held-grain g b H h =
+pub representable-grain : (g b : ℕ) → Representable b → 2 ^ (g + 52) ≤ b → (c : ℕ) × (b ≡ c * 2 ^ g)
+representable-grain g b H h =
     let l : g ≤ H .zeros = go (le-or-lt g (H .zeros)) in
     (H .digits * 2 ^ (H .zeros - g), H .is ∙ sym (in-place (H .digits) (H .zeros) g l))
   where

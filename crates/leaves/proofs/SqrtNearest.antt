@@ -18,15 +18,15 @@ use lib.Ieee.Fits.{down-pos}
 use Rattle.leaves.specs.Numbers.{zero⁺, isFinite}
 use Rattle.leaves.specs.Shift.{shift}
 use Rattle.leaves.specs.Root.{sticky, halfExponent, radicand, sqrt}
-use Rattle.leaves.proofs.Whole.{le-or-lt, over, under, plus, minus, up-is, down-is}
+use Rattle.leaves.proofs.Whole.{le-or-lt, posPart, negPart, plus, minus, up-is, down-is}
 use Rattle.leaves.proofs.Laws.{fits→room, Room, size-under}
 use Rattle.leaves.proofs.Zero.{no, is-below, not-above, zero-not-above}
 use Rattle.leaves.proofs.Shift.{shift-value}
 use Rattle.leaves.proofs.Sqrts.{halved, whole, g, radicand-is, radicand-in, places, sqrt-fits}
 use Rattle.leaves.proofs.Eighths.{eighth}
 use Rattle.leaves.proofs.SqrtLaws.{sqrt-near, sqrt-shift}
-use Rattle.leaves.proofs.Rounding.{Held, held-pow, held-grain}
-use Rattle.leaves.proofs.Units.{fractionBits, U, zero-mag, Val, sign, mag, val-mag, val-pos, val-finite, fin-val, mag-held, val-of}
+use Rattle.leaves.proofs.Rounding.{Representable, representable-pow, representable-grain}
+use Rattle.leaves.proofs.Units.{fractionBits, U, zero-mag, Val, sign, mag, val-mag, val-pos, val-finite, fin-val, mag-representable, val-of}
 use Rattle.leaves.proofs.Range.{Range, range-size, range-value}
 use Rattle.leaves.proofs.Bounds.{Bounds, rootOf}
 use Rattle.leaves.proofs.Operations.{Moved, pow-le-U, U-le-pow}
@@ -51,7 +51,7 @@ no-tie m (suc (suc E)) r o h l e = go (even-power E)
     go (inl z) = let f : m * 1 ≡ (2 * r + 1) * (2 * r + 1) = subst (λ (j : ℕ). m * 2 ^ j ≡ (2 * r + 1) * (2 * r + 1)) z same in let k = square in omega arith
     go (inr (a, f)) = let k : m * (2 * a) ≡ (2 * r + 1) * (2 * r + 1) = subst (λ (j : ℕ). m * j ≡ (2 * r + 1) * (2 * r + 1)) f same in omega arith
 
--- ---- in whole numbers: n is the radicand, q its root to the nearest in units of 4, t = 2 ^ p
+-- ---- in whole numbers: n is the radicand, q its root to the nearest in units of 4, and n * 4 ^ p is 16 w
 module _ (n q p w : ℕ) (least : 2 ^ 52 ≤ q) (large : 2 ^ 108 ≤ n)
     (lo : 4 * ((2 * q - 1) * (2 * q - 1)) < n) (hi : n < 4 * ((2 * q + 1) * (2 * q + 1))) (e : n * (2 ^ p * 2 ^ p) ≡ 16 * w) where
   squares-pos : 0 < 2 ^ p * 2 ^ p
@@ -72,12 +72,12 @@ module _ (n q p w : ℕ) (least : 2 ^ 52 ≤ q) (large : 2 ^ 108 ≤ n)
   squared : (a b : ℕ) → a ≤ b → b * b < 4 * w → a * a < 4 * w
   squared a b h k = lt-of-le-of-lt (mul-le-mul h h) k
 
-  under-nearest : (u : ℕ) → Held u → u < q * 2 ^ p → (u + q * 2 ^ p) * (u + q * 2 ^ p) < 4 * w
+  under-nearest : (u : ℕ) → Representable u → u < q * 2 ^ p → (u + q * 2 ^ p) * (u + q * 2 ^ p) < 4 * w
   under-nearest u H h = go (le-or-lt (2 ^ (p + 52)) u) (eq-or-lt-of-le least)
     where
       go : (2 ^ (p + 52) ≤ u) ⊎ (u < 2 ^ (p + 52)) → (2 ^ 52 ≡ q) ⊎ (2 ^ 52 < q) → (u + q * 2 ^ p) * (u + q * 2 ^ p) < 4 * w
       go (inl l) z =
-          let c = held-grain p u H l in
+          let c = representable-grain p u H l in
           let m : c .0 < q = lt-of-mul-lt-mul-right (2 ^ p) (lt-of-le-of-lt (le-of-eq (sym (c .1))) h) in
           squared (u + q * 2 ^ p) ((c .0 + q) * 2 ^ p) (le-of-eq (let f = c .1 in omega arith)) (below-root (c .0 + q) (omega arith))
       go (inr l) (inr z) =
@@ -91,10 +91,10 @@ module _ (n q p w : ℕ) (least : 2 ^ 52 ≤ q) (large : 2 ^ 108 ≤ n)
           strict : (a b : ℕ) → a + 1 ≤ b → a * a < b * b
           strict a b h = let f = mul-le-mul h h in omega arith
 
-  over-nearest : (u : ℕ) → Held u → q * 2 ^ p < u → 4 * w < (u + q * 2 ^ p) * (u + q * 2 ^ p)
+  over-nearest : (u : ℕ) → Representable u → q * 2 ^ p < u → 4 * w < (u + q * 2 ^ p) * (u + q * 2 ^ p)
   over-nearest u H h =
       let l : 2 ^ (p + 52) ≤ u = le-trans (le-of-eq (pow-add 2 p 52 ∙ mul-comm (2 ^ p) (2 ^ 52))) (le-trans (mul-le-mul-right (2 ^ p) least) (le-of-lt h)) in
-      let c = held-grain p u H l in
+      let c = representable-grain p u H l in
       let m : q < c .0 = lt-of-mul-lt-mul-right (2 ^ p) (lt-of-lt-of-le h (le-of-eq (c .1))) in
       lt-of-lt-of-le (above-root (c .0 + q) (omega arith)) (le-of-eq (let f = c .1 in ap (λ (a : ℕ). a * a) (omega arith)))
 
@@ -120,8 +120,8 @@ pub record Nearest (x : Float) : Type 0 where
   pub fit : T (fits binary64 (sqrt x))
   pub finite : T (isFinite (sqrt x))
   pub plus : sign (sqrt x) ≡ false
-  pub above : (u : ℕ) → Held u → u < mag (sqrt x) → (u + mag (sqrt x)) * (u + mag (sqrt x)) < 4 * (mag x * U)
-  pub below : (u : ℕ) → Held u → mag (sqrt x) < u → 4 * (mag x * U) < (u + mag (sqrt x)) * (u + mag (sqrt x))
+  pub above : (u : ℕ) → Representable u → u < mag (sqrt x) → (u + mag (sqrt x)) * (u + mag (sqrt x)) < 4 * (mag x * U)
+  pub below : (u : ℕ) → Representable u → mag (sqrt x) < u → 4 * (mag x * U) < (u + mag (sqrt x)) * (u + mag (sqrt x))
   pub at-most : mag (sqrt x) * (2 ^ 53 - 1) * (mag (sqrt x) * (2 ^ 53 - 1)) ≤ mag x * U * 2 ^ 106
   pub at-least : mag x * U * 2 ^ 106 ≤ mag (sqrt x) * (2 ^ 53 + 1) * (mag (sqrt x) * (2 ^ 53 + 1))
 
@@ -160,10 +160,10 @@ module _ (m : ℕ) (e : ℤ) (t : T (fits binary64 (fin false (suc m) e))) where
   q = eighth (sticky n)
 
   abbrev p : ℕ
-  p = over k + 1077 - under k
+  p = posPart k + 1077 - negPart k
 
-  exponents : over (g m e room) + 56 + under e + (p + p) ≡ 4 + (over e + 1074 + 1074)
-  unfolding over under
+  exponents : posPart (g m e room) + 56 + negPart e + (p + p) ≡ 4 + (posPart e + 1074 + 1074)
+  unfolding posPart negPart
   exponents =
       let h = halfExponent (suc m) e in
       omega (arith, whole m e room, halved m e room, minus h (pos 55), minus (pos 52) h, minus (pos 52 -ℤ h) h, plus e (pos 52 -ℤ h -ℤ h))
@@ -173,12 +173,12 @@ module _ (m : ℕ) (e : ℤ) (t : T (fits binary64 (fin false (suc m) e))) where
   unfolding sqrt U
   root-val =
       let x = round binary64 false (sticky n) 1 in
-      let f : 2 ^ over k * 2 ^ 1077 ≡ 2 ^ p * 2 ^ under k = sym (pow-add 2 (over k) 1077) ∙ ap (λ (z : ℕ). 2 ^ z) deep ∙ pow-add 2 p (under k) in
+      let f : 2 ^ posPart k * 2 ^ 1077 ≡ 2 ^ p * 2 ^ negPart k = sym (pow-add 2 (posPart k) 1077) ∙ ap (λ (z : ℕ). 2 ^ z) deep ∙ pow-add 2 p (negPart k) in
       val-of (shift k x) false (q * 8 * up k) (1 * down k) (q * 2 ^ p) (mul-pos (lit< tt) (down-pos k)) (shift-value k x false (q * 8) 1 (sqrt-near m e t .value))
-      (ap (λ (z : ℕ). q * 8 * z * 2 ^ 1074) (up-is k) ∙ regroup q (2 ^ over k) (2 ^ 1074) ∙ ap (λ (z : ℕ). q * z) f ∙ sym (mul-assoc q (2 ^ p) (2 ^ under k)) ∙ ap (λ (z : ℕ). q * 2 ^ p * z) (sym (down-is k) ∙ sym (one-mul (down k))))
+      (ap (λ (z : ℕ). q * 8 * z * 2 ^ 1074) (up-is k) ∙ regroup q (2 ^ posPart k) (2 ^ 1074) ∙ ap (λ (z : ℕ). q * z) f ∙ sym (mul-assoc q (2 ^ p) (2 ^ negPart k)) ∙ ap (λ (z : ℕ). q * 2 ^ p * z) (sym (down-is k) ∙ sym (one-mul (down k))))
     where
-      deep : over k + 1077 ≡ p + under k
-      deep = unfold over under in omega (arith, halved m e room, minus (halfExponent (suc m) e) (pos 55))
+      deep : posPart k + 1077 ≡ p + negPart k
+      deep = unfold posPart negPart in omega (arith, halved m e room, minus (halfExponent (suc m) e) (pos 55))
 
       regroup : (q o l : ℕ) → q * 8 * o * l ≡ q * (o * (8 * l))
       regroup q o l = omega arith
@@ -186,21 +186,21 @@ module _ (m : ℕ) (e : ℤ) (t : T (fits binary64 (fin false (suc m) e))) where
   -- and R is the root of n, in units of 2 ^ p / 4
   root-of : (w : ℕ) → Val (fin false (suc m) e) false w → n * (2 ^ p * 2 ^ p) ≡ 16 * (w * U)
   root-of w v =
-      gathered n (suc m) (2 ^ over (g m e room)) (2 ^ 56) (2 ^ under e) (2 ^ p * 2 ^ p) (2 ^ over e) w U (pow-pos (under e)) (radicand-is m e room) (rw (up-is e, down-is e) at (v .1))
-      (sym (twos (over (g m e room)) (under e) p) ∙ ap (λ (z : ℕ). 2 ^ z) exponents ∙ tops (over e))
+      gathered n (suc m) (2 ^ posPart (g m e room)) (2 ^ 56) (2 ^ negPart e) (2 ^ p * 2 ^ p) (2 ^ posPart e) w U (pow-pos (negPart e)) (radicand-is m e room) (rw (up-is e, down-is e) at (v .1))
+      (sym (twos (posPart (g m e room)) (negPart e) p) ∙ ap (λ (z : ℕ). 2 ^ z) exponents ∙ tops (posPart e))
 
   few : suc m < 2 ^ 53
   few = size-under (suc m) 53 (room .digits)
 
-  odd-times : n ≡ suc m * 2 ^ (over (g m e room) + 56)
-  odd-times = radicand-is m e room ∙ mul-assoc (suc m) (2 ^ over (g m e room)) (2 ^ 56) ∙ ap (λ (z : ℕ). suc m * z) (sym (pow-add 2 (over (g m e room)) 56))
+  odd-times : n ≡ suc m * 2 ^ (posPart (g m e room) + 56)
+  odd-times = radicand-is m e room ∙ mul-assoc (suc m) (2 ^ posPart (g m e room)) (2 ^ 56) ∙ ap (λ (z : ℕ). suc m * z) (sym (pow-add 2 (posPart (g m e room)) 56))
 
   low-side : 4 * ((2 * q - 1) * (2 * q - 1)) < n
   low-side =
       let c = sqrt-near m e t in
       let l : 4 * ((2 * q - 1) * (2 * q - 1)) ≤ n = let f = middle-below q (lt-of-lt-of-le (lit< tt) (c .digits .0)) in omega arith in
       elim (eq-or-lt-of-le l) [
-        | inl z ↦ absurd (no-tie (suc m) (over (g m e room) + 56) (q - 1) (room .odd) few (omega arith) (sym odd-times ∙ sym z ∙ ap (λ (z : ℕ). 4 * (z * z)) (omega arith)))
+        | inl z ↦ absurd (no-tie (suc m) (posPart (g m e room) + 56) (q - 1) (room .odd) few (omega arith) (sym odd-times ∙ sym z ∙ ap (λ (z : ℕ). 4 * (z * z)) (omega arith)))
         | inr h ↦ h
       ]
 
@@ -209,7 +209,7 @@ module _ (m : ℕ) (e : ℤ) (t : T (fits binary64 (fin false (suc m) e))) where
       let c = sqrt-near m e t in
       let l : n ≤ 4 * ((2 * q + 1) * (2 * q + 1)) = omega arith in
       elim (eq-or-lt-of-le l) [
-        | inl z ↦ absurd (no-tie (suc m) (over (g m e room) + 56) q (room .odd) few (omega arith) (sym odd-times ∙ z))
+        | inl z ↦ absurd (no-tie (suc m) (posPart (g m e room) + 56) q (room .odd) few (omega arith) (sym odd-times ∙ z))
         | inr h ↦ h
       ]
 
@@ -244,13 +244,13 @@ nearest-of (fin false (suc m) e) t f h = root-nearest m e t
 -- every other value y of the format is farther from the root
 pub sqrt-nearest : (x y : Float) → T (fits binary64 x) → T (fits binary64 y) → T (isFinite x) → T (isFinite y) → lt zero⁺ x ≡ true
     → (mag y < mag (sqrt x) → (mag y + mag (sqrt x)) * (mag y + mag (sqrt x)) < 4 * (mag x * U)) × (mag (sqrt x) < mag y → 4 * (mag x * U) < (mag y + mag (sqrt x)) * (mag y + mag (sqrt x)))
-sqrt-nearest x y tx ty fx fy h = let r = nearest-of x tx fx h in let u = mag-held y ty fy .0 in (r .above (mag y) u, r .below (mag y) u)
+sqrt-nearest x y tx ty fx fy h = let r = nearest-of x tx fx h in let u = mag-representable y ty fy .0 in (r .above (mag y) u, r .below (mag y) u)
 
 -- ---- the root does not pass a number that is held
 doubled : (a b : ℕ) → a < b → (b + a) * (b + a) < 4 * (b * b)
 doubled a b h = let k : b + a + 1 ≤ 2 * b = omega arith in let f = mul-le-mul k k in omega arith
 
-module _ {x : Float} (r : Nearest x) (u : ℕ) (H : Held u) where
+module _ {x : Float} (r : Nearest x) (u : ℕ) (H : Representable u) where
   root-least : u * u ≤ mag x * U → u ≤ mag (sqrt x)
   root-least h = elim (le-or-lt u (mag (sqrt x))) [ inl l ↦ l | inr l ↦ absurd (let a = r .below u H l in let b = doubled (mag (sqrt x)) u l in omega arith) ]
 
@@ -269,8 +269,8 @@ range-sqrt (fin false (suc m) i) r n l h e a b =
     let x = fin false (suc m) i in
     let q = root-nearest m i (r .fit) in
     let p : 0 < mag x = val-pos false m i (sign x) (mag x) (range-value r) in
-    range-size l (2 ^ h) (sqrt x) e (q .fit) (q .finite) (inr (root-least q (2 ^ l) (held-pow l) (le-trans a (mul-le-mul-right U (r .least p)))))
-    (root-most q (2 ^ h) (held-pow h) (le-trans (mul-le-mul-right U (r .most)) b))
+    range-size l (2 ^ h) (sqrt x) e (q .fit) (q .finite) (inr (root-least q (2 ^ l) (representable-pow l) (le-trans a (mul-le-mul-right U (r .least p)))))
+    (root-most q (2 ^ h) (representable-pow h) (le-trans (mul-le-mul-right U (r .most)) b))
 
 pub moved-sqrt : {k : ℕ} {b : Bounds} {x x' : Float} → Moved (k + k) b x x' → lt x zero⁺ ≡ false → Moved k (rootOf b) (sqrt x) (sqrt x')
 moved-sqrt {k} {b} {x} r n =

@@ -10,7 +10,7 @@ use lib.Ieee.{fin, binary64, lt, round, up, down, toUnsigned}
 use lib.Ieee.Fits.{down-pos}
 use Rattle.leaves.specs.Scaling.{pow2Scaled}
 use Rattle.leaves.specs.Root.{sticky, halfExponent, radicand, sqrt}
-use Rattle.leaves.proofs.Whole.{over, up-is, down-is}
+use Rattle.leaves.proofs.Whole.{posPart, up-is, down-is}
 use Rattle.leaves.proofs.Laws.{Room}
 use Rattle.leaves.proofs.ScaleSteps.{scaled-fin}
 use Rattle.leaves.proofs.Sqrts.{whole, g, M, M-lt, digits-of, places, root-room, sqrt-is}
@@ -35,7 +35,7 @@ module _ (m : ℕ) (e : ℤ) (r : Room (suc m) e) where
 
   pub below64 : T (lt (fin false (suc m) (g m e r)) (fin false 1 (pos 64)))
   unfolding lt
-  below64 = rw (down-g, up-is) (lt→ltb (suc m * 2 ^ over (g m e r) * 1) (1 * 2 ^ 64 * 1) (omega (arith, M-lt m e r)))
+  below64 = rw (down-g, up-is) (lt→ltb (suc m * 2 ^ posPart (g m e r) * 1) (1 * 2 ^ 64 * 1) (omega (arith, M-lt m e r)))
 
   pub last : pow2Scaled (round binary64 false (sticky (radicand (suc m) e)) 1) (halfExponent (suc m) e -ℤ pos 55) ≡ sqrt (fin false (suc m) e)
   last =

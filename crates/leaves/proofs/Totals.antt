@@ -14,7 +14,7 @@ use Rattle.leaves.specs.Loops.{loop, sumTo, amaxTo}
 use Rattle.leaves.specs.Shift.{shift}
 use Rattle.leaves.proofs.Shift.{shift-zero⁺, abs-shift, larger-shift}
 use Rattle.leaves.proofs.Loops.{kept-loop, amax-ext}
-use Rattle.leaves.proofs.Rounding.{Held, held-times, held-up}
+use Rattle.leaves.proofs.Rounding.{Representable, representable-times, representable-up}
 use Rattle.leaves.proofs.Units.{topBits, fractionBits, Finite, zero-val, zero-mag, Top, pow-under-Top, Val, mag, mag-val, mag-abs, abs-val, lt-val}
 use Rattle.leaves.proofs.Keys.{larger-by, picked}
 use Rattle.leaves.proofs.Range.{Range, range-weaken, range-abs, range-zero}
@@ -30,8 +30,8 @@ module _ (k : ℕ) (b : Bounds) (M c : ℕ) (S : M ≤ 2 ^ c) (C : c ≤ fractio
   abbrev h : ℕ
   h = b .most
 
-  held : (m : ℕ) → m ≤ M → Held (m * 2 ^ h)
-  held m e = held-times m h (lt-of-le-of-lt (le-trans e (le-trans S (pow-mono C))) (pow-lt {i = fractionBits} {j = 53} (le-refl 53)))
+  held : (m : ℕ) → m ≤ M → Representable (m * 2 ^ h)
+  held m e = representable-times m h (lt-of-le-of-lt (le-trans e (le-trans S (pow-mono C))) (pow-lt {i = fractionBits} {j = 53} (le-refl 53)))
 
   most : (m : ℕ) → m ≤ M → m * 2 ^ h ≤ 2 ^ (c + h)
   most m e = le-trans (mul-le-mul-right (2 ^ h) (le-trans e S)) (le-of-eq (sym (pow-add 2 c h)))
@@ -49,7 +49,7 @@ module _ (k : ℕ) (b : Bounds) (M c : ℕ) (S : M ≤ 2 ^ c) (C : c ≤ fractio
       let r : m * 2 ^ h + 2 ^ h ≤ B = le-of-eq (sym (suc-mul m (2 ^ h))) in
       record {
         range = range-add (p .range) (u .range) B r (held (suc m) e) (lt-of-le-of-lt (le-mul-of-pos-right B (pow-pos k)) o);
-        copy = ap₂ _⊕_ (p .copy) (u .copy) ∙ add-copy (p .range) (u .range) k (B * 2 ^ k) (mul-le-mul-right (2 ^ k) r) (held-up B k (held (suc m) e)) o;
+        copy = ap₂ _⊕_ (p .copy) (u .copy) ∙ add-copy (p .range) (u .range) k (B * 2 ^ k) (mul-le-mul-right (2 ^ k) r) (representable-up B k (held (suc m) e)) o;
       }
 
   -- a turn that adds nothing

@@ -18,10 +18,10 @@ use lib.Ieee.Positive.{first-pos}
 use borrow.Author.Tests.{ltb-true, ltb-false, eqb-false}
 use Rattle.leaves.specs.Numbers.{zero⁺, one, isFinite, abs}
 use Rattle.leaves.specs.Shift.{shift}
-use Rattle.leaves.proofs.Whole.{over, under, up-is, down-is}
+use Rattle.leaves.proofs.Whole.{posPart, negPart, up-is, down-is}
 use Rattle.leaves.proofs.Laws.{value-same, fits→room, room→fits, place, in-units, size-under, digits-in, digits-out, value-unique, room-move}
 use Rattle.leaves.proofs.Shift.{shift-value, below-scaled, level-scaled}
-use Rattle.leaves.proofs.Rounding.{near, Held, Grained, held-small, held-times, near-scale, round-near}
+use Rattle.leaves.proofs.Rounding.{near, Representable, Grained, representable-small, representable-times, near-scale, round-near}
 
 -- ---- definitions
 -- the format in units: 1 is 2 ^ oneBits of them, and the largest power of two 2 ^ topBits; behind a leading bit stand fractionBits more
@@ -94,6 +94,9 @@ zero-mag s e = val-mag (fin s zero e) s 0 (zero-val s e) .1
 pub val-pos : (s : Bool) (m : ℕ) (e : ℤ) (t : Bool) (u : ℕ) → Val (fin s (suc m) e) t u → 0 < u
 val-pos s m e t u v = first-pos u (down e) (subst (λ (n : ℕ). 0 < n) (v .1) (mul-pos (mul-pos (zero-lt-suc m) (up-pos e)) U-pos))
 
+pub zero-finite : (s : Bool) → Finite (fin s zero (pos 0))
+zero-finite s = unfold fits isFinite in (tt, tt)
+
 pub val-finite : (x : Float) (s : Bool) (u : ℕ) → Val x s u → T (isFinite x)
 unfolding isFinite
 val-finite nan s u v = v
@@ -111,29 +114,29 @@ val-unique x y s u p q v w = value-unique binary64 x y s u U U-pos p q v w
 record Units (x : Float) : Type 0 where
   count : ℕ
   val : Val x (sign x) count
-  held : Held count
+  held : Representable count
   below : count < Top
 
 units-of : (x : Float) → T (fits binary64 x) → T (isFinite x) → Units x
 unfolding sign isFinite Top U
 units-of nan t f = absurd f
 units-of (inf s) t f = absurd f
-units-of (fin s zero e) t f = record { count = 0; val = zero-val s e; held = held-small 0 (lit< tt); below = lit< tt }
+units-of (fin s zero e) t f = record { count = 0; val = zero-val s e; held = representable-small 0 (lit< tt); below = lit< tt }
 units-of (fin s (suc m) e) t f =
     let r = fits→room s m e t in
     let j = place e in
     record {
       count = suc m * 2 ^ j;
       val = (refl, in-units (suc m) e (r .low));
-      held = held-times (suc m) j (size-under (suc m) 53 (r .digits));
+      held = representable-times (suc m) j (size-under (suc m) 53 (r .digits));
       below = digits-out (suc m) j 2098 (omega arith);
     }
 
 pub mag-val : (x : Float) → T (fits binary64 x) → T (isFinite x) → Val x (sign x) (mag x)
 mag-val x t f = let u = units-of x t f in rw (val-mag x (sign x) (u .count) (u .val) .1) (u .val)
 
-pub mag-held : (x : Float) → T (fits binary64 x) → T (isFinite x) → Held (mag x) × (mag x < Top)
-mag-held x t f = let u = units-of x t f in rw (val-mag x (sign x) (u .count) (u .val) .1) (u .held, u .below)
+pub mag-representable : (x : Float) → T (fits binary64 x) → T (isFinite x) → Representable (mag x) × (mag x < Top)
+mag-representable x t f = let u = units-of x t f in rw (val-mag x (sign x) (u .count) (u .val) .1) (u .held, u .below)
 
 -- a value that has digits is finite
 pub finite-fin : (s : Bool) (m : ℕ) (e : ℤ) → T (isFinite (fin s m e))
@@ -145,7 +148,7 @@ unfolding sign
 fin-val s m e t = mag-val (fin s m e) t (finite-fin s m e)
 
 pub fin-under-Top : (s : Bool) (m : ℕ) (e : ℤ) → T (fits binary64 (fin s m e)) → mag (fin s m e) < Top
-fin-under-Top s m e t = mag-held (fin s m e) t (finite-fin s m e) .1
+fin-under-Top s m e t = mag-representable (fin s m e) t (finite-fin s m e) .1
 
 pub mag-neg : (x : Float) → mag (neg x) ≡ mag x
 unfolding mag neg
@@ -222,16 +225,16 @@ raised : (m u k d o w : ℕ) → m * o * w ≡ u * d → u * k < w * 2 ^ 1024 �
 raised m u k d o w e h D = lt-of-le-of-lt (le-of-eq (let f = ap (λ (z : ℕ). z * k) e in omega arith)) (mul-lt-mul-of-pos-right h D)
 
 pub fits-shift : (k : ℕ) (x : Float) (s : Bool) (u : ℕ) → T (fits binary64 x) → Val x s u → u * 2 ^ k < Top → T (fits binary64 (shift (pos k) x))
-unfolding shift Top U over under
+unfolding shift Top U posPart negPart
 fits-shift k nan s u t v h = absurd v
 fits-shift k (inf r) s u t v h = absurd v
 fits-shift k (fin r zero e) s u t v h = t
 fits-shift k (fin r (suc m) e) s u t v h =
     let q = fits→room r m e t in
-    let l : suc m * 2 ^ (over e + 1074 + k) < 2 ^ (2098 + under e) =
-    rw (pow-add 2 (over e + 1074) k, pow-add 2 (over e) 1074, pow-add 2 2098 (under e), ← up-is e, ← down-is e)
+    let l : suc m * 2 ^ (posPart e + 1074 + k) < 2 ^ (2098 + negPart e) =
+    rw (pow-add 2 (posPart e + 1074) k, pow-add 2 (posPart e) 1074, pow-add 2 2098 (negPart e), ← up-is e, ← down-is e)
     (raised (suc m) u (2 ^ k) (down e) (up e) (2 ^ 1074) (v .1) h (down-pos e)) in
-    let g = digits-in m (over e + 1074 + k) (2098 + under e) l in
+    let g = digits-in m (posPart e + 1074 + k) (2098 + negPart e) l in
     room→fits r m (e +ℤ pos k) (room-move e (pos k) q (omega arith) (omega arith))
 
 -- ---- n / d units, rounded

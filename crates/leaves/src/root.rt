@@ -2,9 +2,8 @@
 ghost use mathlib.Core.Path.{_≡_};
 ghost use mathlib.Core.Bool.{true, false};
 ghost use Prim.Native.Nat.{_+_, _≤_, _<_, _*_, _^_};
-ghost use lib.IntN.{pos};
-ghost use lib.Ieee.{binary64, inf, lt, ofInt};
-ghost use Rattle.leaves.specs.Numbers.{zero⁺};
+ghost use lib.Ieee.{inf, lt};
+ghost use Rattle.leaves.specs.Numbers.{zero⁺, count};
 ghost use Rattle.leaves.specs.Root as Root;
 use crate::scaling::binary_exponent;
 use crate::scaling::pow2_scaled;
@@ -82,7 +81,7 @@ fn rest_over(n: u64, high: u64, low: u64) -> Rest
 // p - 1 and p + 1 lie the roots of what has something over the square of 4 * p - 2, and less than 32 * p.
 fn is_nearest(n: u64, p: u64) -> bool
     requires { ⌜ (2 ^ 52 ≤ n) × (n < 2 ^ 54) ⌝ }
-    ensures { λ r. ⌜ (r ≡ true → (2 ^ 52 ≤ p) × (p < 2 ^ 53) × (ofInt binary64 (pos (8 * p)) ≡ ofInt binary64 (pos (Root.sticky (n * 2 ^ 56))))) ⌝ }
+    ensures { λ r. ⌜ (r ≡ true → (2 ^ 52 ≤ p) × (p < 2 ^ 53) × (count (8 * p) ≡ count (Root.sticky (n * 2 ^ 56)))) ⌝ }
 {
     if p < TWO_52 {
         return false;

@@ -1,20 +1,19 @@
--- Two matrices with the same entries, within m rows and n columns, are alike in all that is looked for, summed or decomposed. And the entries of a matrix that is finite. Assumes nothing.
-use mathlib.Core.Path.{_≡_, refl, sym, ap, _∙_}
-use mathlib.Core.Bool.{Bool, true, false, not, true≢false}
+-- Two matrices with the same entries, within m rows and n columns, are alike in all that is looked for, multiplied, summed or decomposed. Assumes nothing.
+use mathlib.Core.Path.{_≡_, refl, ap, _∙_}
+use mathlib.Core.Bool.{Bool, true, false, not}
 use mathlib.Core.List.{List}
 use mathlib.Core.Option.{Option, none, some}
-use Prim.Native.Nat.{ℕ, _+_, _*_, _/_, _%_, _<_}
-use lib.Arith.{digits-lt}
+use Prim.Native.Nat.{ℕ, _*_, _/_, _%_, _<_}
 use lib.Ieee.{Float, eq}
-use borrow.Author.Tests.{not-false}
-use Rattle.leaves.specs.Numbers.{_⊘_, zero⁺, isFinite}
-use Rattle.leaves.specs.Loops.{firstTo}
+use Rattle.leaves.specs.Numbers.{_⊗_, _⊘_, zero⁺, isFinite}
 use Rattle.leaves.proofs.Loops.{sum-ext, amax-ext}
-use Rattle.leaves.proofs.Cells.{at-cell}
-use Rattle.leaves.proofs.First.{first-ext, first-all}
+use Rattle.leaves.proofs.First.{first-ext}
 use Rattle.matrix.specs.Matrix.{Matrix, at, rows, identity, product, transpose, symmetrized, divided, trace, amax, firstEntry, allFinite}
 use Rattle.matrix.specs.Jacobi.{start, decomposedBy, decompose}
-use Rattle.matrix.proofs.Stored.{cell-ext, rows-ext, product-ext}
+use Rattle.matrix.proofs.Stored.{cell-ext, rows-ext}
+
+pub product-ext : (n : ℕ) (f f′ g g′ : Matrix) (i j : ℕ) → ((k : ℕ) → k < n → f i k ≡ f′ i k) → ((k : ℕ) → k < n → g k j ≡ g′ k j) → product n f g i j ≡ product n f′ g′ i j
+product-ext n f f′ g g′ i j hf hg = sum-ext n (λ k. f i k ⊗ g k j) (λ k. f′ i k ⊗ g′ k j) (λ k h t. hf k h t ⊗ hg k h t)
 
 pub first-entry-alike : (m n : ℕ) (f g : ℕ → ℕ → Bool) → ((i j : ℕ) → i < m → j < n → f i j ≡ g i j) → firstEntry m n f ≡ firstEntry m n g
 unfolding firstEntry
@@ -32,20 +31,6 @@ module _ (m n : ℕ) (f g : Matrix) (h : (i j : ℕ) → i < m → j < n → f i
 
   pub finite-alike : allFinite m n f ≡ allFinite m n g
   finite-alike = finite-same m n f g (λ i j a b. ap isFinite (h i j a b))
-
--- a matrix all of whose entries are finite
-pub finite-all : (m n : ℕ) (a : Matrix) → allFinite m n a ≡ true → (i j : ℕ) → i < m → j < n → isFinite (a i j) ≡ true
-unfolding allFinite firstEntry
-finite-all m n a h i j hi hj =
-    not-false (isFinite (a i j))
-    (sym (at-cell bad i n j hj) ∙ first-all (λ k. bad (k / n) (k % n)) (m * n) (none-there (firstTo (m * n) (λ k. bad (k / n) (k % n))) h) (i * n + j) (digits-lt hi hj))
-  where
-    bad : ℕ → ℕ → Bool
-    bad i j = not (isFinite (a i j))
-
-    none-there : (o : Option ℕ) → elim (elim o as (λ z. Option (ℕ × ℕ)) [ none ↦ none | some k ↦ some (k / n, k % n) ]) as (λ z. Bool) [ none ↦ true | some k ↦ false ] ≡ true → o ≡ none
-    none-there none e = refl
-    none-there (some k) e = absurd (true≢false (sym e))
 
 module _ (n : ℕ) (f g : Matrix) (h : (i j : ℕ) → i < n → j < n → f i j ≡ g i j) where
   pub trace-alike : trace n f ≡ trace n g

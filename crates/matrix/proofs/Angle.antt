@@ -3,12 +3,13 @@ use mathlib.Core.Path.{_≡_, refl, sym, ap, _∙_, subst}
 use mathlib.Core.Logic.{_⊎_, inl, inr}
 use mathlib.Core.Bool.{Bool, true, false}
 use Prim.Native.Nat.{ℕ, _+_, _-_, _*_, _^_, _≤_, _<_}
-use native.Mathlib.Nat.{le-trans, le-of-lt, lt-of-le-of-lt, mul-le-mul, mul-le-mul-left, mul-le-mul-right, le-of-mul-le-mul-right, lt-of-mul-lt-mul-right, mul-lt-mul-of-pos-right, mul-pos, mul-zero, mul-comm, mul-mul-mul-comm, le-of-eq}
+use native.Mathlib.Nat.{le-trans, le-of-lt, lt-of-le-of-lt, mul-le-mul, mul-le-mul-left, mul-le-mul-right, le-of-mul-le-mul-right, lt-of-mul-lt-mul-right, mul-lt-mul-of-pos-right, mul-pos, mul-zero, mul-mul-mul-comm, le-of-eq}
 use native.Mathlib.Omega.{arith}
 use lib.Dec.{T, lit≤, lit<}
 use lib.IntN.{pos}
 use lib.Ieee.{Float, nan, inf, fin, binary64, unlike, add, mul, div, fits}
 use lib.Ieee.Fits.{add-fits}
+use lib.Ieee.Positive.{through}
 use borrow.Author.Tests.{lt-ltb}
 use Rattle.leaves.specs.Numbers.{_⊕_, _⊗_, _⊘_, zero⁺, one}
 use Rattle.leaves.specs.Root.{sqrt}
@@ -41,10 +42,6 @@ Top-big = lit< tt
 Top-small : Top * U * 2 ^ 42 ≤ U * U * (U * U)
 unfolding U Top
 Top-small = lit≤ tt
-
--- two bounds in one
-ratio : (x y a p j k : ℕ) → x * p ≤ y * a → a * j ≤ p * k → 0 < p → x * j ≤ y * k
-ratio x y a p j k h g P = le-of-mul-le-mul-right {m = x * j} {n = y * k} {k = p} (let f = mul-le-mul-right j h in let e = mul-le-mul-left y g in omega arith) P
 
 -- ---- the cosine and the sine, finite
 pub record Circle (c s : Float) : Type 0 where
@@ -95,15 +92,14 @@ module _ (t : Float) (σ : Bool) (n : ℕ) (v : Val t σ n) where
     unfolding R
     cu =
         let r = mag (sqrt w) in
-        let a = le-trans (rw mag-w at (root .at-least)) (le-of-eq (mul-mul-mul-comm r (2 ^ 53 + 1) r (2 ^ 53 + 1))) in
-        ratio (U * W) (r * r) ((2 ^ 53 + 1) * (2 ^ 53 + 1)) (2 ^ 106) (2 ^ 16) (2 ^ 16 + 1) (le-trans (le-of-eq (ap (λ (z : ℕ). z * 2 ^ 106) (mul-comm U W))) a) (lit≤ tt) (lit< tt)
+        let a = through (U * W) ((2 ^ 53 + 1) * (2 ^ 53 + 1)) (2 ^ 16 + 1) (r * r) (2 ^ 106) (2 ^ 16) (lit< tt) (let b = le-trans (rw mag-w at (root .at-least)) (le-of-eq (mul-mul-mul-comm r (2 ^ 53 + 1) r (2 ^ 53 + 1))) in omega arith) (lit≤ tt) in
+        omega arith
 
     small : R * 2 ^ 20 ≤ U * U
     unfolding R
     small =
         let r = mag (sqrt w) in
-        let b : r * r * 1 ≤ W * U * 2 =
-        ratio (r * r) (W * U) (2 ^ 106) ((2 ^ 53 - 1) * (2 ^ 53 - 1)) 1 2 (le-trans (le-of-eq (mul-mul-mul-comm r r (2 ^ 53 - 1) (2 ^ 53 - 1))) (rw mag-w at (root .at-most))) (lit≤ tt) (lit< tt) in
+        let a = through (r * r) (2 ^ 106) 2 (W * U) ((2 ^ 53 - 1) * (2 ^ 53 - 1)) 1 (lit< tt) (let b = le-trans (le-of-eq (mul-mul-mul-comm r r (2 ^ 53 - 1) (2 ^ 53 - 1))) (rw mag-w at (root .at-most)) in omega arith) (lit≤ tt) in
         square-back (r * 2 ^ 20) (U * U) (let c = mul-le-mul-right U (le-of-lt under) in omega (arith, Top-small))
 
     half : U ≤ 2 * R

@@ -13,8 +13,8 @@ use Rattle.matrix.specs.Matrix.{at, rows, identity, transpose}
 use Rattle.matrix.specs.Rotation.{turnColumns, turnRows}
 use Rattle.matrix.specs.Inner.{byColumns}
 use Rattle.matrix.proofs.Stored.{length-rows, rows-at, rows-ext, rows-is}
-use Rattle.matrix.proofs.Cells.{length-columns, columns-at, turned-same}
-use Rattle.matrix.proofs.CellRows.{turned-rows-at}
+use Rattle.matrix.proofs.Lines.{length-columns, columns-at, turned-same}
+use Rattle.matrix.proofs.TurnedRows.{turned-rows-at}
 
 pub flip-rows : (c s : Float) (n p q : ℕ) (w : List Float) → p < q → q < n → length w ≡ n * n → byColumns n (turnRows n p q c s w) ≡ turnColumns n p q c s (byColumns n w)
 flip-rows c s n p q w pq qn e =

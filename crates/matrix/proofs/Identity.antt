@@ -1,45 +1,41 @@
 -- A matrix of finite numbers times the identity: each entry is added to +0, which turns -0 into +0 and changes no other number. So what the sweeps begin with
--- needs no product (`start-is`). Over its largest size a finite matrix, not zero, is finite (`quotients-finite`). Assumes nothing.
+-- needs no product (`start-is`). Assumes nothing.
 use mathlib.Core.Path.{_≡_, refl, sym, ap, _∙_, subst}
 use mathlib.Core.Logic.{_⊎_, inl, inr, _≢_}
 use mathlib.Core.List.{List}
 use mathlib.Core.Bool.{Bool, true, false, cond, true≢false}
 use Prim.Native.Nat.{ℕ, zero, suc, _*_, _≤_, _<_}
-use native.Mathlib.Nat.{mul-comm, zero-mul, eq-zero-or-pos, eq-or-lt-of-le, le-of-suc-le-suc, le-refl, le-of-eq, le-trans, lt-of-le-of-lt, mul-le-mul-right}
+use native.Mathlib.Nat.{zero-mul, eq-zero-or-pos, eq-or-lt-of-le, le-of-suc-le-suc, le-refl}
 use native.Mathlib.Omega.{arith}
-use lib.Dec.{T, ltb, eqb, lit≤}
+use lib.Dec.{T, ltb, eqb}
 use lib.IntN.{pos}
-use lib.Ieee.{Float, fin, eq, binary64, unlike, fits}
-use lib.Ieee.Fits.{add-fits, mul-fits, div-fits}
+use lib.Ieee.{Float, fin, binary64, unlike, fits}
+use lib.Ieee.Fits.{add-fits, mul-fits}
 use borrow.Author.Tests.{lt-ltb, le-ltb, eqb-true, eqb-false}
-use Rattle.leaves.proofs.Whole.{le-or-lt}
-use Rattle.leaves.specs.Numbers.{_⊕_, _⊗_, _⊘_, zero⁺, half, one, isFinite}
+use Rattle.leaves.specs.Numbers.{_⊕_, _⊗_, _⊘_, zero⁺, half, one}
 use Rattle.leaves.specs.Loops.{loop, sumTo}
-use Rattle.leaves.proofs.Commutative.{product-comm}
+use Rattle.leaves.proofs.Whole.{le-or-lt}
+use Rattle.leaves.proofs.Commutative.{⊗-comm}
 use Rattle.leaves.proofs.Scale.{times-one}
-use Rattle.leaves.proofs.Rounding.{near, Held, held-pow, near-held, near-most}
-use Rattle.leaves.proofs.Units.{Finite, nonzero-pos, U, U-pos, U-is, Top, pow-under-Top, Val, sign, mag, rounded, zero-val, zero-mag, val-finite, val-unique, mag-val, mag-held, rounded-val}
-use Rattle.leaves.proofs.Arithmetic.{sumSign, total, add-rounded, mul-rounded, div-rounded}
+use Rattle.leaves.proofs.Rounding.{near, near-representable}
+use Rattle.leaves.proofs.Units.{Finite, U, U-pos, Val, sign, mag, rounded, zero-val, zero-mag, val-unique, mag-val, mag-representable, rounded-val, zero-finite}
+use Rattle.leaves.proofs.Arithmetic.{sumSign, sumSize, add-rounded, mul-rounded}
 use Rattle.leaves.proofs.Loops.{sum-ext}
-use Rattle.matrix.specs.Matrix.{Matrix, at, rows, identity, product, transpose, symmetrized, divided, amax, allFinite}
+use Rattle.matrix.specs.Matrix.{Matrix, at, rows, identity, product, transpose, symmetrized, divided}
 use Rattle.matrix.specs.Jacobi.{start}
-use Rattle.matrix.proofs.Alike.{finite-all}
-use Rattle.matrix.proofs.Stored.{rows-ext, rows-at, amax-finite, amax-entry}
+use Rattle.matrix.proofs.Stored.{rows-ext, rows-at}
 
 -- a result that is x's units, rounded, is x
 by-units : (r x : Float) (s : Bool) (n d : ℕ) → T (fits binary64 r) → Finite x → 0 < d → r ≡ rounded s n d → s ≡ sign x → n ≡ mag x * d → r ≡ x
 by-units r x s n d fr t D e es en =
-    let h = mag-held x (t .0) (t .1) in
-    let whole : near (mag x * d) d ≡ mag x = near-held (mag x) d D (h .0) in
+    let h = mag-representable x (t .0) (t .1) in
+    let whole : near (mag x * d) d ≡ mag x = near-representable (mag x) d D (h .0) in
     let v : Val (rounded (sign x) (mag x * d) d) (sign x) (mag x) = rw whole at (rounded-val (sign x) (mag x * d) d D (rw whole (h .1))) in
     val-unique r x (sign x) (mag x) fr (t .0) (rw (e, es, en) v) (mag-val x (t .0) (t .1))
 
 -- ---- one times a number, zero times a number, and a number plus zero
-zero-finite : (s : Bool) → Finite (fin s 0 (pos 0))
-zero-finite s = unfold fits isFinite in (tt, tt)
-
 one-times : (x : Float) → Finite x → one ⊗ x ≡ x
-one-times x t = product-comm one x ∙ times-one x (t .0)
+one-times x t = ⊗-comm one x ∙ times-one x (t .0)
 
 zero-times : (x : Float) → Finite x → (s : Bool) × (zero⁺ ⊗ x ≡ fin s 0 (pos 0))
 zero-times x t =
@@ -55,7 +51,7 @@ Plain x = Finite x × ((sign x ≡ false) ⊎ (0 < mag x))
 
 plus-zero : (x : Float) (s : Bool) → Plain x → x ⊕ fin s 0 (pos 0) ≡ x
 plus-zero x s t =
-    by-units (x ⊕ fin s 0 (pos 0)) x (sumSign (sign x) (mag x) s 0) (total (sign x) (mag x) s 0) 1 (add-fits binary64 x (fin s 0 (pos 0))) (t .0) (omega arith)
+    by-units (x ⊕ fin s 0 (pos 0)) x (sumSign (sign x) (mag x) s 0) (sumSize (sign x) (mag x) s 0) 1 (add-fits binary64 x (fin s 0 (pos 0))) (t .0) (omega arith)
     (add-rounded x (fin s 0 (pos 0)) (sign x) s (mag x) 0 (mag-val x (t .0 .0) (t .0 .1)) (zero-val s (pos 0))) (same-sign (sign x) s (mag x) (t .1)) (same-size (sign x) s (mag x))
   where
     same-sign : (i s : Bool) (m : ℕ) → (i ≡ false) ⊎ (0 < m) → sumSign i m s 0 ≡ i
@@ -65,7 +61,7 @@ plus-zero x s t =
     same-sign true false m (inr h) = rw (le-ltb m 0 (omega arith), lt-ltb 0 m h)
     same-sign false true m h = rw (le-ltb m 0 (omega arith))
 
-    same-size : (i s : Bool) (m : ℕ) → total i m s 0 ≡ m * 1
+    same-size : (i s : Bool) (m : ℕ) → sumSize i m s 0 ≡ m * 1
     same-size true true m = omega arith
     same-size false false m = omega arith
     same-size true false m = omega arith
@@ -75,17 +71,17 @@ plus-zero x s t =
 zero-plus : (y : Float) → Finite y → (Plain y × (zero⁺ ⊕ y ≡ y)) ⊎ (zero⁺ ⊕ y ≡ zero⁺)
 zero-plus y t = go (sign y) (mag y) refl refl (eq-zero-or-pos (mag y))
   where
-    sum-is : zero⁺ ⊕ y ≡ rounded (sumSign false 0 (sign y) (mag y)) (total false 0 (sign y) (mag y)) 1
+    sum-is : zero⁺ ⊕ y ≡ rounded (sumSign false 0 (sign y) (mag y)) (sumSize false 0 (sign y) (mag y)) 1
     sum-is = add-rounded zero⁺ y false (sign y) 0 (mag y) (zero-val false (pos 0)) (mag-val y (t .0) (t .1))
 
-    itself : sumSign false 0 (sign y) (mag y) ≡ sign y → total false 0 (sign y) (mag y) ≡ mag y * 1 → zero⁺ ⊕ y ≡ y
-    itself es en = by-units (zero⁺ ⊕ y) y (sumSign false 0 (sign y) (mag y)) (total false 0 (sign y) (mag y)) 1 (add-fits binary64 zero⁺ y) t (omega arith) sum-is es en
+    itself : sumSign false 0 (sign y) (mag y) ≡ sign y → sumSize false 0 (sign y) (mag y) ≡ mag y * 1 → zero⁺ ⊕ y ≡ y
+    itself es en = by-units (zero⁺ ⊕ y) y (sumSign false 0 (sign y) (mag y)) (sumSize false 0 (sign y) (mag y)) 1 (add-fits binary64 zero⁺ y) t (omega arith) sum-is es en
 
     go : (s : Bool) (m : ℕ) → sign y ≡ s → mag y ≡ m → (m ≡ 0) ⊎ (0 < m) → (Plain y × (zero⁺ ⊕ y ≡ y)) ⊎ (zero⁺ ⊕ y ≡ zero⁺)
     go false m es em h = inl ((t, inl es), itself (rw es) (rw (es, em) (omega arith)))
     go true m es em (inr h) = inl ((t, inr (rw em h)), itself (rw (es, em, lt-ltb 0 m h)) (rw (es, em) (omega arith)))
     go true m es em (inl z) =
-        inr (by-units (zero⁺ ⊕ y) zero⁺ (sumSign false 0 (sign y) (mag y)) (total false 0 (sign y) (mag y)) 1 (add-fits binary64 zero⁺ y) (zero-finite false) (omega arith) sum-is (unfold sign in rw (es, em, z))
+        inr (by-units (zero⁺ ⊕ y) zero⁺ (sumSign false 0 (sign y) (mag y)) (sumSize false 0 (sign y) (mag y)) 1 (add-fits binary64 zero⁺ y) (zero-finite false) (omega arith) sum-is (unfold sign in rw (es, em, z))
         (rw (es, em, z, zero-mag false (pos 0))))
 
 zero-plain : Plain zero⁺
@@ -152,32 +148,5 @@ start-is n scale a t =
     second : (i j : ℕ) → i < n → j < n → product n left identity i j ≡ scaledEntry scale a i j
     second i j hi hj =
         sum-ext n (λ k. left i k ⊗ identity k j) (λ k. identity k j ⊗ scaledEntry scale a i k)
-        (λ k h. ap (λ (x : Float). x ⊗ identity k j) (first i k hi h) ∙ product-comm (scaledEntry scale a i k) (identity k j))
+        (λ k h. ap (λ (x : Float). x ⊗ identity k j) (first i k hi h) ∙ ⊗-comm (scaledEntry scale a i k) (identity k j))
         ∙ times-identity n j (scaledEntry scale a i) (λ k h. plus-plain (a i k ⊘ scale) (t i k hi h) .0) hj ∙ plus-twice (a i j ⊘ scale) (t i j hi hj)
-
--- over its largest size a finite matrix, not zero, is finite
-pub quotients-finite : (n : ℕ) (a : Matrix) → ((i j : ℕ) → i < n → j < n → T (fits binary64 (a i j))) → allFinite n n a ≡ true → eq (amax n n a) zero⁺ ≡ false
-    → (i j : ℕ) → i < n → j < n → Finite (a i j ⊘ amax n n a)
-quotients-finite n a fit all nonzero i j hi hj =
-    let x = entry i j hi hj in
-    let v = mag-val (a i j) (x .0) (x .1) in
-    let large = amax-finite n n a entry in
-    let w = mag-val largest (large .0) (large .1) in
-    let D = nonzero-pos largest large nonzero in (
-      div-fits binary64 (a i j) largest,
-      rw (div-rounded (a i j) largest (sign (a i j)) (sign largest) (mag (a i j)) (mag largest) v w D)
-          (val-finite _ _ _ (rounded-val (unlike (sign (a i j)) (sign largest)) (mag (a i j) * U) (mag largest) D
-          (lt-of-le-of-lt (near-most (mag (a i j) * U) (mag largest) U D held-U (le-trans (mul-le-mul-right U (amax-entry n n a entry i j hi hj)) (le-of-eq (mul-comm (mag largest) U)))) U-below))),
-    )
-  where
-    entry : (i j : ℕ) → i < n → j < n → Finite (a i j)
-    entry i j hi hj = (fit i j hi hj, subst T (sym (finite-all n n a all i j hi hj)) tt)
-
-    largest : Float
-    largest = amax n n a
-
-    held-U : Held U
-    held-U = rw U-is (held-pow 1074)
-
-    U-below : U < Top
-    U-below = rw U-is (pow-under-Top 1074 (lit≤ tt))

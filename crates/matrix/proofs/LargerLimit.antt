@@ -13,25 +13,22 @@ use Rattle.matrix.specs.Rotation.{State}
 use Rattle.matrix.specs.Jacobi.{Swept, stopping, sweptBy, sweeping, start, tolerance, initial, swept, scaledBack, decomposedBy, decompose}
 use Rattle.matrix.proofs.Sweeps.{sweeping-is, decompose-is}
 
-module _ (n : ℕ) (most : Float) (st : State) where
+module _ (n : ℕ) (tolerance : Float) (st : State) where
   abbrev stop : ℕ → Bool
-  stop = stopping n most st
+  stop = stopping n tolerance st
 
   abbrev by : ℕ → Option ℕ → Swept
-  by = sweptBy n most st
+  by = sweptBy n tolerance st
 
-  is : (limit : ℕ) → sweeping limit n most st ≡ by limit (firstTo limit stop)
-  is = sweeping-is n most st
-
-  sweeping-later : (limit limit′ : ℕ) → limit ≤ limit′ → sweeping limit n most st .done ≡ true → sweeping limit′ n most st ≡ sweeping limit n most st
-  sweeping-later limit limit′ l d = go (firstTo limit stop) refl (ap done-of (sym (is limit)) ∙ d)
+  sweeping-later : (limit limit′ : ℕ) → limit ≤ limit′ → sweeping limit n tolerance st .done ≡ true → sweeping limit′ n tolerance st ≡ sweeping limit n tolerance st
+  sweeping-later limit limit′ l d = go (firstTo limit stop) refl (ap done-of (sym (sweeping-is n tolerance st limit)) ∙ d)
     where
       done-of : Swept → Bool
       done-of w = w .done
 
-      go : (o : Option ℕ) → firstTo limit stop ≡ o → by limit o .done ≡ true → sweeping limit′ n most st ≡ sweeping limit n most st
+      go : (o : Option ℕ) → firstTo limit stop ≡ o → by limit o .done ≡ true → sweeping limit′ n tolerance st ≡ sweeping limit n tolerance st
       go none e d = absurd (true≢false (sym d))
-      go (some k) e d = is limit′ ∙ ap (by limit′) (first-later stop limit limit′ k l e) ∙ sym (is limit ∙ ap (by limit) e)
+      go (some k) e d = sweeping-is n tolerance st limit′ ∙ ap (by limit′) (first-later stop limit limit′ k l e) ∙ sym (sweeping-is n tolerance st limit ∙ ap (by limit) e)
 
 pub larger-limit : (n : ℕ) (a : Matrix) (limit limit′ : ℕ) → limit ≤ limit′ → decompose limit n a .found ≡ true → decompose limit′ n a ≡ decompose limit n a
 larger-limit n a limit limit′ l = rw (decompose-is limit n a, decompose-is limit′ n a) (go (allFinite n n a) (eq (amax n n a) zero⁺) (amax n n a) (start n (amax n n a) a))

@@ -5,16 +5,18 @@ pub mod Stored
 pub mod FilledRows
 pub mod First
 pub mod Alike
+pub mod Finite
 pub mod OfStored
 pub mod ByRows
 pub mod Largest
 -- what the sweeps begin with
 pub mod Identity
+pub mod Quotients
 -- one rotation; counts of sweeps and rotations
 pub mod Rotated
 pub mod RotateSteps
-pub mod Cells
-pub mod CellRows
+pub mod Lines
+pub mod TurnedRows
 pub mod Counts
 pub mod Sweeps
 pub mod Rotations

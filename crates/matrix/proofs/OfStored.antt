@@ -11,7 +11,7 @@ use borrow.Author.Tests.{ltb-true, ltb-false}
 use Rattle.leaves.specs.Numbers.{_⊗_, zero⁺}
 use Rattle.leaves.specs.Loops.{tab, nth}
 use Rattle.leaves.proofs.Loops.{tab-ext}
-use Rattle.matrix.specs.Matrix.{Matrix, at, rows, trace, amax, every, total, squares}
+use Rattle.matrix.specs.Matrix.{Matrix, at, rows, trace, amax, every, total, squares, squared}
 use Rattle.matrix.proofs.Stored.{entry-at, length-rows, rows-nth, rows-at, rows-ext}
 use Rattle.matrix.proofs.SumOver.{sum-over-ext}
 use Rattle.matrix.proofs.Alike.{amax-alike, trace-alike}
@@ -60,7 +60,7 @@ module _ (n : ℕ) (f : Matrix) {l : List Float} (e : l ≡ rows n n f) where
 
   pub squares-stored : squares n (at l n) ≡ squares n f
   unfolding squares
-  squares-stored = sum-over-ext n every (λ i j. at l n i j ⊗ at l n i j) (λ i j. f i j ⊗ f i j) zero⁺ (λ i j hi hj t. at-stored n f e i j hi hj t ⊗ at-stored n f e i j hi hj t)
+  squares-stored = sum-over-ext n every (squared (at l n)) (squared f) zero⁺ (λ i j hi hj t. at-stored n f e i j hi hj t ⊗ at-stored n f e i j hi hj t)
 
   pub trace-stored : trace n (at l n) ≡ trace n f
   trace-stored = trace-alike n (at l n) f (at-stored n f e)

@@ -1,4 +1,4 @@
--- A row of numbers two of which are turned, again and again, from a row of the identity: the sum of its squares, in units, is at most 2 (257 / 256) ^ r after r
+-- A row of numbers two of which are turned, again and again, from a row of the identity: the sum of its squares is at most 2 (257 / 256) ^ r after r
 -- turns (`Good`). So it stays far below 2 ^ 600 for as many turns as the limits allow. Assumes nothing.
 use mathlib.Core.Path.{_≡_, refl, sym, ap, _∙_, subst}
 use mathlib.Core.Logic.{_⊎_, inl, inr, _≢_}
@@ -15,7 +15,7 @@ use Rattle.leaves.specs.Loops.{loop}
 use Rattle.leaves.proofs.Loops.{loop-ext, loop-still}
 use Rattle.leaves.proofs.Units.{U, mag}
 use Rattle.matrix.specs.Limits.{maxSide, maxSweeps}
-use Rattle.matrix.proofs.Cells.{turnedRow, turned-p, turned-q, turned-other}
+use Rattle.matrix.proofs.Lines.{turnedRow, turned-p, turned-q, turned-other}
 use Rattle.matrix.proofs.Squares.{slack, square-back}
 use Rattle.matrix.proofs.Angle.{Angle}
 use Rattle.matrix.proofs.Turn.{TurnMost, Tame, Next, next}
@@ -87,17 +87,17 @@ module _ (n p q : ℕ) (pq : p < q) (qn : q < n) where
           go false false a b = h j (b refl) (a refl)
 
 -- ---- a row after r turns
-abbrev squares : (ℕ → Float) → ℕ → ℕ
-squares row j = mag (row j) * mag (row j)
+abbrev square : (ℕ → Float) → ℕ → ℕ
+square row j = mag (row j) * mag (row j)
 
 pub record Good (n : ℕ) (row : ℕ → Float) (r : ℕ) : Type 0 where
   pub tame : (j : ℕ) → j < n → Tame (row j)
-  pub most : (sum (squares row) n + slack) * 256 ^ r ≤ U * U * 2 * 257 ^ r
+  pub most : (sum (square row) n + slack) * 256 ^ r ≤ U * U * 2 * 257 ^ r
 
 pub good-same : (n r : ℕ) (row row′ : ℕ → Float) → ((j : ℕ) → j < n → row j ≡ row′ j) → Good n row r → Good n row′ r
 good-same n r row row′ h g = record {
   tame = λ j l. subst Tame (h j l) (g .tame j l);
-  most = subst (λ (k : ℕ). (k + slack) * 256 ^ r ≤ U * U * 2 * 257 ^ r) (sum-same (squares row) (squares row′) n (λ j l. ap (λ (x : Float). mag x * mag x) (h j l))) (g .most);
+  most = subst (λ (k : ℕ). (k + slack) * 256 ^ r ≤ U * U * 2 * 257 ^ r) (sum-same (square row) (square row′) n (λ j l. ap (λ (x : Float). mag x * mag x) (h j l))) (g .most);
 }
 
 -- at most as many turns as the limits allow
@@ -134,8 +134,8 @@ growth r h =
 
 pub good-small : (n r : ℕ) (row : ℕ → Float) → r ≤ mostTurns → Good n row r → (j : ℕ) → j < n → mag (row j) ≤ TurnMost
 good-small n r row h g j l =
-    let e = sum-without (squares row) n j l in
-    le-trans (square-back (mag (row j)) (U * Most) (cancel (mag (row j)) (sum (squares row) n) (256 ^ r) (257 ^ r) U Most (omega arith) (g .most) (growth r h) (one-le-pow r 256 (lit≤ tt)))) fits-in
+    let e = sum-without (square row) n j l in
+    le-trans (square-back (mag (row j)) (U * Most) (cancel (mag (row j)) (sum (square row) n) (256 ^ r) (257 ^ r) U Most (omega arith) (g .most) (growth r h) (one-le-pow r 256 (lit≤ tt)))) fits-in
   where
     fits-in : U * Most ≤ TurnMost
     fits-in = unfold U Most TurnMost in lit≤ tt
@@ -150,13 +150,13 @@ raised t t′ d b l h g = let f = mul-le-mul-right d h in omega arith
 pub good-still : (n r : ℕ) (row : ℕ → Float) → Good n row r → Good n row (suc r)
 good-still n r row g = record {
   tame = g .tame;
-  most = rw (pow-suc 256 r, pow-suc 257 r) (raised (sum (squares row) n) (sum (squares row) n) (256 ^ r) (257 ^ r) (U * U * 2) (omega arith) (g .most));
+  most = rw (pow-suc 256 r, pow-suc 257 r) (raised (sum (square row) n) (sum (square row) n) (256 ^ r) (257 ^ r) (U * U * 2) (omega arith) (g .most));
 }
 
 pub good-turned : (n r p q : ℕ) (c s : Float) (row : ℕ → Float) → p < q → q < n → Angle c s → r ≤ mostTurns → Good n row r → Good n (turnedRow c s p q row) (suc r)
 good-turned n r p q c s row pq qn a h g = record {
   tame = λ j l. go j (eqb j p) (eqb j q) (g .tame j l);
-  most = rw (pow-suc 256 r, pow-suc 257 r) (raised (sum (squares row) n) (sum (squares row′) n) (256 ^ r) (257 ^ r) (U * U * 2) grown (g .most));
+  most = rw (pow-suc 256 r, pow-suc 257 r) (raised (sum (square row) n) (sum (square row′) n) (256 ^ r) (257 ^ r) (U * U * 2) grown (g .most));
 }
   where
     row′ : ℕ → Float
@@ -173,19 +173,19 @@ good-turned n r p q c s row pq qn a h g = record {
     go j false true t = N .at-q
     go j false false t = t
 
-    other-j : (j : ℕ) → j ≢ p → j ≢ q → squares row j ≡ squares row′ j
+    other-j : (j : ℕ) → j ≢ p → j ≢ q → square row j ≡ square row′ j
     other-j j d e = ap (λ (x : Float). mag x * mag x) (sym (turned-other c s p q row j (d, e)))
 
-    at-p : squares row′ p ≡ mag (c ⊗ row p ⊖ s ⊗ row q) * mag (c ⊗ row p ⊖ s ⊗ row q)
+    at-p : square row′ p ≡ mag (c ⊗ row p ⊖ s ⊗ row q) * mag (c ⊗ row p ⊖ s ⊗ row q)
     at-p = ap (λ (x : Float). mag x * mag x) (turned-p c s p q row p refl)
 
-    at-q : squares row′ q ≡ mag (s ⊗ row p ⊕ c ⊗ row q) * mag (s ⊗ row p ⊕ c ⊗ row q)
+    at-q : square row′ q ≡ mag (s ⊗ row p ⊕ c ⊗ row q) * mag (s ⊗ row p ⊕ c ⊗ row q)
     at-q = ap (λ (x : Float). mag x * mag x) (turned-q c s p q pq row q refl)
 
     shift : (t t′ x y : ℕ) → t′ + x ≡ t + y → x ≤ t → y * 256 ≤ x * 257 + slack → (t′ + slack) * 256 ≤ (t + slack) * 257
     shift t t′ x y e h k = omega arith
 
-    grown : (sum (squares row′) n + slack) * 256 ≤ (sum (squares row) n + slack) * 257
+    grown : (sum (square row′) n + slack) * 256 ≤ (sum (square row) n + slack) * 257
     grown =
-        shift (sum (squares row) n) (sum (squares row′) n) (squares row p + squares row q) (squares row′ p + squares row′ q) (exchanged n p q pq qn (squares row) (squares row′) other-j) (both-in n p q pq qn (squares row))
+        shift (sum (square row) n) (sum (square row′) n) (square row p + square row q) (square row′ p + square row′ q) (exchanged n p q pq qn (square row) (square row′) other-j) (both-in n p q pq qn (square row))
         (rw (at-p, at-q) (N .growth))

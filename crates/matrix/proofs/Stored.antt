@@ -1,19 +1,15 @@
--- Laws of the matrices that are stored row by row, and of the largest size in a finite matrix. Assumes nothing.
-use mathlib.Core.Path.{_≡_, refl, sym, ap, _∙_, subst}
+-- Laws of the matrices that are stored row by row. Assumes nothing.
+use mathlib.Core.Path.{_≡_, refl, sym, ap, _∙_}
 use mathlib.Core.List.{List}
-use Prim.Native.Nat.{ℕ, _+_, _*_, _/_, _%_, _≤_, _<_}
+use Prim.Native.Nat.{ℕ, _+_, _*_, _/_, _%_, _<_}
 use native.Mathlib.Nat.{div-add-mod'}
 use lib.Arith.{digits-lt}
 use lib.ListN.{length}
 use lib.Ieee.{Float, nan}
-use Rattle.leaves.specs.Numbers.{_⊗_, abs}
 use Rattle.leaves.specs.Loops.{nth}
-use Rattle.leaves.proofs.Loops.{length-tab, getD-tab, tab-is, tab-ext, sum-ext}
+use Rattle.leaves.proofs.Loops.{length-tab, getD-tab, tab-is, tab-ext}
 use Rattle.leaves.proofs.Cells.{at-cell, row-below, col-below}
-use Rattle.leaves.proofs.Units.{Finite, Top, mag}
-use Rattle.leaves.proofs.Range.{Range, range-abs, range-zero, range-fits}
-use Rattle.leaves.proofs.Totals.{amax-one, amax-finite-most}
-use Rattle.matrix.specs.Matrix.{Matrix, at, rows, product, amax}
+use Rattle.matrix.specs.Matrix.{Matrix, at, rows}
 
 -- number k is the entry in row k / n and column k % n
 pub entry-at : (a : List Float) (n k : ℕ) → at a n (k / n) (k % n) ≡ nth a k
@@ -46,19 +42,6 @@ by-cell m n P h k l = h (k / n) (k % n) (row-below k m n l) (col-below k m n l)
 pub cell-ext : {A : Type 0} (m n : ℕ) (f g : ℕ → ℕ → A) → ((i j : ℕ) → i < m → j < n → f i j ≡ g i j) → (k : ℕ) → k < m * n → f (k / n) (k % n) ≡ g (k / n) (k % n)
 cell-ext m n f g h = by-cell m n (λ i j. f i j ≡ g i j) h
 
--- the largest size is a finite value, and no entry is larger
-module _ (m n : ℕ) (a : Matrix) (each : (i j : ℕ) → i < m → j < n → Finite (a i j)) where
-  pub amax-finite : Finite (amax m n a)
-  unfolding amax
-  amax-finite = let r = amax-one (Range 0 1 Top) (m * n) (λ k. a (k / n) (k % n)) (range-zero 0 1 Top) (by-cell m n (λ i j. Range 0 1 Top (abs (a i j))) (λ i j hi hj. let c = each i j hi hj in range-abs (range-fits (a i j) (c .0) (c .1)))) in (r .fit, r .finite)
-
-  pub amax-entry : (i j : ℕ) → i < m → j < n → mag (a i j) ≤ mag (amax m n a)
-  unfolding amax
-  amax-entry i j hi hj = subst (λ (x : Float). mag x ≤ mag (amax m n a)) (at-cell a i n j hj) (amax-finite-most (λ k. a (k / n) (k % n)) (m * n) (by-cell m n (λ i j. Finite (a i j)) each) (i * n + j) (digits-lt hi hj))
-
 pub rows-ext : (m n : ℕ) (f g : Matrix) → ((i j : ℕ) → i < m → j < n → f i j ≡ g i j) → rows m n f ≡ rows m n g
 unfolding rows
 rows-ext m n f g h = tab-ext (λ k. f (k / n) (k % n)) (λ k. g (k / n) (k % n)) (m * n) (cell-ext m n f g h)
-
-pub product-ext : (n : ℕ) (f f′ g g′ : Matrix) (i j : ℕ) → ((k : ℕ) → k < n → f i k ≡ f′ i k) → ((k : ℕ) → k < n → g k j ≡ g′ k j) → product n f g i j ≡ product n f′ g′ i j
-product-ext n f f′ g g′ i j hf hg = sum-ext n (λ k. f i k ⊗ g k j) (λ k. f′ i k ⊗ g′ k j) (λ k h t. hf k h t ⊗ hg k h t)

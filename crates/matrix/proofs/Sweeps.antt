@@ -13,24 +13,24 @@ use Rattle.matrix.specs.Rotation.{State}
 use Rattle.matrix.specs.Jacobi.{Decomposition, afterSweeps, stopping, sweptBy, sweeping, start, tolerance, initial, swept, scaledBack, unturned, decomposedBy, decompose}
 
 -- ---- sweeping, by what the search for the first sweep that the test forbids finds
-module _ (n : ℕ) (most : Float) (st : State) where
-  pub sweeping-is : (limit : ℕ) → sweeping limit n most st ≡ sweptBy n most st limit (firstTo limit (stopping n most st))
+module _ (n : ℕ) (tolerance : Float) (st : State) where
+  pub sweeping-is : (limit : ℕ) → sweeping limit n tolerance st ≡ sweptBy n tolerance st limit (firstTo limit (stopping n tolerance st))
   unfolding sweeping
   sweeping-is limit = refl
 
-  sweeping-reached : (limit : ℕ) → sweeping limit n most st .reached ≡ afterSweeps (sweeping limit n most st .sweeps) n st
+  sweeping-reached : (limit : ℕ) → sweeping limit n tolerance st .reached ≡ afterSweeps (sweeping limit n tolerance st .sweeps) n st
   unfolding sweeping
-  sweeping-reached limit = go (firstTo limit (stopping n most st))
+  sweeping-reached limit = go (firstTo limit (stopping n tolerance st))
     where
-      go : (o : Option ℕ) → sweptBy n most st limit o .reached ≡ afterSweeps (sweptBy n most st limit o .sweeps) n st
+      go : (o : Option ℕ) → sweptBy n tolerance st limit o .reached ≡ afterSweeps (sweptBy n tolerance st limit o .sweeps) n st
       go none = refl
       go (some k) = refl
 
-  sweeping-limit : (limit : ℕ) → sweeping limit n most st .sweeps ≤ limit
+  sweeping-limit : (limit : ℕ) → sweeping limit n tolerance st .sweeps ≤ limit
   unfolding sweeping
-  sweeping-limit limit = go (firstTo limit (stopping n most st)) (first-below (stopping n most st) limit)
+  sweeping-limit limit = go (firstTo limit (stopping n tolerance st)) (first-below (stopping n tolerance st) limit)
     where
-      go : (o : Option ℕ) → ((k : ℕ) → o ≡ some k → k < limit) → sweptBy n most st limit o .sweeps ≤ limit
+      go : (o : Option ℕ) → ((k : ℕ) → o ≡ some k → k < limit) → sweptBy n tolerance st limit o .sweeps ≤ limit
       go none h = le-refl limit
       go (some k) h = le-of-lt (h k refl)
 

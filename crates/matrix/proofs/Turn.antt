@@ -13,7 +13,7 @@ use Rattle.leaves.specs.Numbers.{_⊕_, _⊖_, _⊗_, isFinite}
 use Rattle.leaves.proofs.Nan.{nan-mul, nan-add, nan-sub}
 use Rattle.leaves.proofs.Rounding.{near, near-error}
 use Rattle.leaves.proofs.Units.{oneBits, U, U-pos, Top, Val, sign, mag, val-mag, val-finite, mag-val, neg-val, rounded-val}
-use Rattle.leaves.proofs.Arithmetic.{sumSign, distance, total, total-le, add-rounded}
+use Rattle.leaves.proofs.Arithmetic.{sumSign, distance, sumSize, sumSize-le, add-rounded}
 use Rattle.matrix.proofs.Squares.{Close, InCircle, Grows, square-back, turned}
 use Rattle.matrix.proofs.Angle.{near-close, near-under, mul-val, Circle, Angle}
 
@@ -36,20 +36,20 @@ product c s p h hp =
     (let r = mul-lt-mul-of-pos-right roomy U-pos in omega arith, le-of-mul-le-mul-right {m = near (c * p) U} {n = 4 * TurnMost} {k = U} (let d = near-error (c * p) U U-pos .doubled in omega arith) U-pos)
 
 -- a sum of two products
-sum : (u v : Float) (i j : Bool) (m n : ℕ) → Val u i m → Val v j n → m ≤ 4 * TurnMost → n ≤ 4 * TurnMost → Val (u ⊕ v) (sumSign i m j n) (near (total i m j n) 1)
+sum : (u v : Float) (i j : Bool) (m n : ℕ) → Val u i m → Val v j n → m ≤ 4 * TurnMost → n ≤ 4 * TurnMost → Val (u ⊕ v) (sumSign i m j n) (near (sumSize i m j n) 1)
 sum u v i j m n vu vv hm hn =
-    rw (add-rounded u v i j m n vu vv) (rounded-val (sumSign i m j n) (total i m j n) 1 (omega arith) (near-under (total i m j n) 1 Top (omega arith) (omega (arith, total-le i j m n, roomy))))
+    rw (add-rounded u v i j m n vu vv) (rounded-val (sumSign i m j n) (sumSize i m j n) 1 (omega arith) (near-under (sumSize i m j n) 1 Top (omega arith) (omega (arith, sumSize-le i j m n, roomy))))
 
 module _ (C S P Q : ℕ) (unit : InCircle U C S) where
   module _ (hP : P ≤ TurnMost) (hQ : Q ≤ TurnMost) (c s x y : Float) (σ a b : Bool) (vc : Val c false C) (vs : Val s σ S) (vx : Val x a P) (vy : Val y b Q) where
-    first : Val (c ⊗ x ⊖ s ⊗ y) (sumSign (unlike false a) (near (C * P) U) (not (unlike σ b)) (near (S * Q) U)) (near (total (unlike false a) (near (C * P) U) (not (unlike σ b)) (near (S * Q) U)) 1)
+    first : Val (c ⊗ x ⊖ s ⊗ y) (sumSign (unlike false a) (near (C * P) U) (not (unlike σ b)) (near (S * Q) U)) (near (sumSize (unlike false a) (near (C * P) U) (not (unlike σ b)) (near (S * Q) U)) 1)
     unfolding sub
     first =
         let cp = product C S P unit hP in
         let sq = product S C Q (omega arith) hQ in
         sum (c ⊗ x) (neg (s ⊗ y)) (unlike false a) (not (unlike σ b)) (near (C * P) U) (near (S * Q) U) (mul-val c x false a C P vc vx (cp .0)) (neg-val (s ⊗ y) (unlike σ b) (near (S * Q) U) (mul-val s y σ b S Q vs vy (sq .0))) (cp .1) (sq .1)
 
-    second : Val (s ⊗ x ⊕ c ⊗ y) (sumSign (unlike σ a) (near (S * P) U) (unlike false b) (near (C * Q) U)) (near (total (unlike σ a) (near (S * P) U) (unlike false b) (near (C * Q) U)) 1)
+    second : Val (s ⊗ x ⊕ c ⊗ y) (sumSign (unlike σ a) (near (S * P) U) (unlike false b) (near (C * Q) U)) (near (sumSize (unlike σ a) (near (S * P) U) (unlike false b) (near (C * Q) U)) 1)
     second =
         let sp = product S C P (omega arith) hP in
         let cq = product C S Q unit hQ in
@@ -66,7 +66,7 @@ module _ (C S P Q : ℕ) (unit : InCircle U C S) where
     together : Close r (near (C * P) U + near (S * Q) U) 1 → Close t (distance (near (S * P) U) (near (C * Q) U)) 1 → Grows r t P Q
     together g h = let f = turned U S C P Q (near (S * P) U) (near (C * Q) U) (near (C * P) U) (near (S * Q) U) t r U-pos (omega arith) (close S P) (close C Q) (close C P) (close S Q) h g in omega arith
 
-    grows : (σ a b : Bool) → Close r (total (unlike false a) (near (C * P) U) (not (unlike σ b)) (near (S * Q) U)) 1 → Close t (total (unlike σ a) (near (S * P) U) (unlike false b) (near (C * Q) U)) 1 → Grows r t P Q
+    grows : (σ a b : Bool) → Close r (sumSize (unlike false a) (near (C * P) U) (not (unlike σ b)) (near (S * Q) U)) 1 → Close t (sumSize (unlike σ a) (near (S * P) U) (unlike false b) (near (C * Q) U)) 1 → Grows r t P Q
     grows false false false = apart
     grows false false true = together
     grows false true false = together

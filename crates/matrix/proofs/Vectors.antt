@@ -28,7 +28,7 @@ use Rattle.matrix.proofs.Sweeps.{begun, decompose-reached, sweeps-bound
 use Rattle.matrix.proofs.Squares.{slack}
 use Rattle.matrix.proofs.Angle.{U-big, Angle, angle}
 use Rattle.matrix.proofs.Turn.{TurnMost, Tame}
-use Rattle.matrix.proofs.Cells.{turnedRow, length-columns, columns-at}
+use Rattle.matrix.proofs.Lines.{turnedRow, length-columns, columns-at}
 use Rattle.matrix.proofs.Rows.{sum, sum-alone, Good, mostTurns, good-same, good-small, good-still, good-turned}
 
 -- ---- V after r rotations
@@ -46,10 +46,10 @@ tangent-fits : (τ : Float) → T (fits binary64 (tangent τ))
 unfolding tangent
 tangent-fits τ = cond-fits binary64 (lt 1e150 (abs τ)) (half ⊘ τ) (signum τ ⊘ (abs τ ⊕ sqrt (τ ⊗ τ ⊕ one))) (div-fits binary64 half τ) (div-fits binary64 (signum τ) (abs τ ⊕ sqrt (τ ⊗ τ ⊕ one)))
 
-abbrev Kept : ℕ → ℕ → State → Type 0
-Kept n r st = r ≤ mostTurns → Sound n r (st .vectors)
+abbrev KeepsSound : ℕ → ℕ → State → Type 0
+KeepsSound n r st = r ≤ mostTurns → Sound n r (st .vectors)
 
-rotate-sound : (n r p q : ℕ) (st : State) → p < q → q < n → Kept n r st → Kept n (suc r) (rotate n p q st)
+rotate-sound : (n r p q : ℕ) (st : State) → p < q → q < n → KeepsSound n r st → KeepsSound n (suc r) (rotate n p q st)
 unfolding rotateBy rotated Sound
 rotate-sound n r p q st pq qn g h =
     let fewer = le-trans (le-suc r) h in
@@ -80,16 +80,16 @@ identity-sound n = (length-rows identity n n, λ k h. good-same n 0 (identity k)
 
 -- ---- the theorem
 -- NaN, or at most 2 ^ 300 in size
-abbrev pub Small : Float → Type 0
-Small x = (x ≡ nan) ⊎ Range 0 1 TurnMost x
+abbrev pub NanOrBounded : Float → Type 0
+NanOrBounded x = (x ≡ nan) ⊎ Range 0 1 TurnMost x
 
-small : (x : Float) → Tame x → mag x ≤ TurnMost → Small x
+small : (x : Float) → Tame x → mag x ≤ TurnMost → NanOrBounded x
 small x t h = elim (t .1) [ inl e ↦ inl e | inr f ↦ inr (range-most x (t .0) f h) ]
 
-pub vectors-small : (limit n : ℕ) (a : Matrix) → n ≤ maxSide → limit ≤ maxSweeps → (i j : ℕ) → i < n → j < n → Small (at (decompose limit n a .vectors) n i j)
+pub vectors-small : (limit n : ℕ) (a : Matrix) → n ≤ maxSide → limit ≤ maxSweeps → (i j : ℕ) → i < n → j < n → NanOrBounded (at (decompose limit n a .vectors) n i j)
 unfolding Sound begun
 vectors-small limit n a hn hl i j hi hj =
     let k = decompose limit n a .sweeps in
     let turns : 0 + k * pairs n ≤ mostTurns = rw zero-add (mul-le-mul (le-trans (sweeps-bound n a limit) hl) (pairs-most n hn)) in
-    let g = sweeps-keep n (Kept n) (rotate-sound n) k 0 (begun n a) (λ h. identity-sound n) turns .1 i hi in
+    let g = sweeps-keep n (KeepsSound n) (rotate-sound n) k 0 (begun n a) (λ h. identity-sound n) turns .1 i hi in
     rw (decompose-reached n a limit .0) (small (at (afterSweeps k n (begun n a) .vectors) n i j) (g .tame j hj) (good-small n (0 + k * pairs n) (at (afterSweeps k n (begun n a) .vectors) n i) turns g j hj))

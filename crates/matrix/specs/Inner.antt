@@ -1,5 +1,6 @@
 -- What only the contracts of inner functions cite: records put together from their parts, and layouts of the code. Definitions only.
-use Prim.Native.Nat.{ℕ, suc, _+_, _*_}
+use Prim.Native.Nat.{ℕ, suc, _+_, _*_, _<_}
+use mathlib.Core.Path.{_≡_}
 use mathlib.Core.Bool.{Bool, cond}
 use mathlib.Core.List.{List}
 use lib.Dec.{eqb}
@@ -35,3 +36,7 @@ turnedBlock n p q c s a =
 -- rows p and q copied to the columns p and q
 abbrev pub mirrored : ℕ → ℕ → ℕ → List Float → Matrix
 mirrored n p q a i j = cond (eqb j p) (at a n p i) (cond (eqb j q) (at a n q i) (at a n i j))
+
+-- a square matrix, stored, that is its transpose to the last bit
+abbrev pub Symmetric : ℕ → List Float → Type 0
+Symmetric n a = (i j : ℕ) → i < n → j < n → at a n i j ≡ at a n j i

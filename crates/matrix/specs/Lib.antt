@@ -1,4 +1,4 @@
--- Document 01, "Records", "Float leaves" (sums over matrices) and "Jacobi".
+-- Document 01, "Records", "Float leaves" (sums over matrices), "Causes" (searches) and "Jacobi".
 pub mod Limits
 pub mod Matrix
 pub mod Rotation

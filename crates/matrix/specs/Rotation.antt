@@ -14,7 +14,7 @@ use Rattle.matrix.specs.Matrix.{at}
 abbrev pub cotangent : Float → Float → Float → Float
 cotangent x y z = (z ⊖ x) ⊘ (two ⊗ y)
 
--- tan θ, the smaller root of t² + 2τt - 1, which keeps θ to 45 degrees at most; near 1 / 2τ where τ² would overflow
+-- tan θ, the smaller root of t² + 2τt - 1, which keeps θ to 45 degrees at most; 1 / 2τ above 1e150, before τ² can overflow
 unfoldable pub tangent : Float → Float
 tangent τ = cond (lt 1e150 (abs τ)) (half ⊘ τ) (signum τ ⊘ (abs τ ⊕ sqrt (τ ⊗ τ ⊕ one)))
 
@@ -36,7 +36,7 @@ turnColumns n p q c s = loop n (λ k. turn c s (k * n + p) (k * n + q))
 unfoldable pub turnRows : ℕ → ℕ → ℕ → Float → Float → List Float → List Float
 turnRows n p q c s = loop n (λ k. turn c s (p * n + k) (q * n + k))
 
--- JᵀAJ with 0 where p and q meet
+-- JᵀAJ with 0 at (p, q) and (q, p)
 abbrev pub turnedBoth : ℕ → ℕ → ℕ → Float → Float → List Float → List Float
 turnedBoth n p q c s a = set (set (turnRows n p q c s (turnColumns n p q c s a)) (p * n + q) zero⁺) (q * n + p) zero⁺
 

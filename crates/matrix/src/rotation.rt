@@ -44,7 +44,7 @@ pub(crate) fn turn_rows(a: &mut [f64], n: usize, p: usize, q: usize, c: f64, s: 
     }
 }
 
-// Columns and rows p and q turned, and 0 where they meet.
+// Columns and rows p and q turned, and 0 at (p, q) and (q, p).
 fn turn_both(a: &mut [f64], n: usize, p: usize, q: usize, c: f64, s: f64)
     requires { ⌜ (p < n) × (q < n) × (length (now a) ≡ n * n) ⌝ }
     ensures { λ _. ⌜ now (a .exit) ≡ turnedBoth n p q c s (now (a .entry)) ⌝ }

@@ -2,8 +2,8 @@
 ghost use mathlib.Core.Path.{_≡_};
 ghost use Prim.Native.Nat.{_*_, _<_};
 ghost use lib.ListN.{length};
-ghost use Rattle.matrix.specs.Matrix.{at, rows, Symmetric};
-ghost use Rattle.matrix.specs.Inner.{turnedBlock, mirrored};
+ghost use Rattle.matrix.specs.Matrix.{at, rows};
+ghost use Rattle.matrix.specs.Inner.{turnedBlock, mirrored, Symmetric};
 ghost use Rattle.matrix.specs.Rotation.{turnedBoth};
 use crate::entries::get;
 use crate::entries::put;

@@ -1,12 +1,12 @@
--- Question files and screen numbers, by computation: case 6 of document 01 with the text that document 01 prints, files that are no questions, and the corners
--- of the screen number. Assumes nothing.
+-- Question files and screen numbers, by computation: case 6 of document 01 with the text that document 01 prints, files that are no questions, files that the
+-- engine refuses, and the corners of the screen number. Assumes nothing.
 use mathlib.Core.Path.{_≡_, refl}
 use mathlib.Core.Bool.{true, false}
 use mathlib.Core.List.{List, [], _∷_, _++_}
 use Prim.Native.Nat.{ℕ}
 use lib.IntN.{pos, negsuc}
-use lib.Ieee.{nan, inf, fin, binary64, sub, mul, div, le, ofInt, ofBits, toBits}
-use Rattle.leaves.specs.Numbers.{isFinite, abs, larger}
+use lib.Ieee.{nan, inf, fin, sub, mul, div, le, ofInt, ofBits, toBits}
+use Rattle.leaves.specs.Numbers.{isFinite, abs, larger, float}
 use Rattle.leaves.specs.Loops.{loop, sumTo, amaxTo, firstTo, tab, fill}
 use Rattle.leaves.specs.Shift.{shift}
 use Rattle.leaves.specs.Root.{root, sticky, halfExponent, radicand, sqrt}
@@ -135,11 +135,11 @@ refused-files = record { no-assets = refl; one-period = refl; zero-variance = re
 
 pub record Screens : Type 0 where
   -- 2 ^ -20 and 1.99999
-  pub truncates : (screenText (fin false 1 (negsuc 19)) ≡ 48 ∷ 46 ∷ 48 ∷ 48 ∷ 48 ∷ 48 ∷ []) × (screenText (ofBits binary64 0x3FFF_FFF5_83A5_3B8E) ≡ 49 ∷ 46 ∷ 57 ∷ 57 ∷ 57 ∷ 57 ∷ [])
+  pub truncates : (screenText (fin false 1 (negsuc 19)) ≡ 48 ∷ 46 ∷ 48 ∷ 48 ∷ 48 ∷ 48 ∷ []) × (screenText (float 0x3FFF_FFF5_83A5_3B8E) ≡ 49 ∷ 46 ∷ 57 ∷ 57 ∷ 57 ∷ 57 ∷ [])
   -- -2 ^ -20 and -0.5
   pub minus : (screenText (fin true 1 (negsuc 19)) ≡ 48 ∷ 46 ∷ 48 ∷ 48 ∷ 48 ∷ 48 ∷ []) × (screenText (fin true 1 (negsuc 0)) ≡ 45 ∷ 48 ∷ 46 ∷ 53 ∷ 48 ∷ 48 ∷ 48 ∷ [])
   -- -2 ^ 31, the largest below it in size, NaN and an infinity
-  pub large : (shown (fin true 1 (pos 31)) ≡ Big) × (shown (ofBits binary64 0xC1DF_FFFF_FFFF_FFFF) ≡ Number true 21474836479999) × (shown nan ≡ Big) × (shown (inf false) ≡ Big)
+  pub large : (shown (fin true 1 (pos 31)) ≡ Big) × (shown (float 0xC1DF_FFFF_FFFF_FFFF) ≡ Number true 21474836479999) × (shown nan ≡ Big) × (shown (inf false) ≡ Big)
   pub nan-bits : bitsText nan ≡ 55 ∷ 70 ∷ 70 ∷ 56 ∷ 48 ∷ 48 ∷ 48 ∷ 48 ∷ 48 ∷ 48 ∷ 48 ∷ 48 ∷ 48 ∷ 48 ∷ 48 ∷ 48 ∷ []
 
 pub screens : Screens

@@ -2,11 +2,11 @@
 -- buffers of that size. Assumes nothing.
 use mathlib.Core.Path.{_≡_, refl, sym, ap, _∙_}
 use mathlib.Core.Bool.{Bool, true, false, cond}
-use mathlib.Core.List.{List, [], _∷_, _++_, map}
+use mathlib.Core.List.{List, [], _∷_, _++_, map, sum}
 use Prim.Native.Nat.{ℕ, zero, suc, _+_, _-_, _*_, _/_, _%_, _≤_, _<_}
 use native.Mathlib.Omega.{arith}
 use lib.ListN.{length, take, drop, replicate, length-append, length-drop, length-replicate}
-use lib.Seq.{take-at}
+use lib.Seq.{take-at, drop-at}
 use lib.Dec.{eqb}
 use lib.Ieee.{Float}
 use borrow.Author.Tests.{eqb-true, eqb-false, ne-eqb}
@@ -49,7 +49,7 @@ taken-bytes k (suc m) bs = go (starts k bs) (taken-bytes k m (drop (k .body + 1)
     go false h = omega arith
 
 sheet-bytes : (ks : List Kind) (bs : List ℕ) → length bs ≤ total (map (λ (k : Kind). k .most * (k .body + 1)) ks) + length (sheet ks bs .rest)
-unfolding sheet total
+unfolding sheet sum
 sheet-bytes [] bs = omega arith
 sheet-bytes (k ∷ ks) bs = omega (arith, taken-bytes k (k .most) bs, sheet-bytes ks (taken k (k .most) bs .rest))
 
@@ -59,7 +59,7 @@ maxFile = 9840
 
 -- a longer file is no question
 pub too-long : (bs : List ℕ) → maxFile < length bs → readPaper bs ≡ malformed
-unfolding readPaper isQuestion kinds total
+unfolding readPaper isQuestion kinds sum
 too-long bs h = rw (ne-eqb (length (sheet kinds bs .rest)) 0 (λ e. omega (arith, sheet-bytes kinds bs)))
 
 -- ---- a text
@@ -183,13 +183,16 @@ text-length paper = go (isQuestion s) refl
     go true e = outcome-length _ (answer-entries (outline (s .lists)) _ _ (well-formed s e))
     go false e = outcome-length (refused malformedNumber) (omega arith)
 
--- what `mark` leaves at the front of a buffer with room is the whole text
-pub whole-text : (paper s v : List ℕ) (n : ℕ) → maxText ≤ length s → out v n ≡ write (out s 0) (marking paper) → take n v ≡ marking paper
+-- what `mark` leaves at the front of a buffer with room is the whole text, and what stood behind is there still
+pub whole-text : (paper s v : List ℕ) (n : ℕ) → maxText ≤ length s → out v n ≡ write (out s 0) (marking paper) → (take n v ≡ marking paper) × (drop n v ≡ drop n s)
 whole-text paper s v n h e =
     let t = marking paper in
-    let w : out v n ≡ out (take 0 s ++ t ++ drop (0 + length t) s) (0 + length t) = e ∙ write-room t s 0 (omega (arith, text-length paper)) in
-    let count : n ≡ length t = ap place w ∙ omega arith in
-    rw (ap buffer w) (take-at t (drop (0 + length t) s) n (sym count))
+    let behind = drop (0 + length t) s in
+    let w : out v n ≡ out (take 0 s ++ t ++ behind) (0 + length t) = e ∙ write-room t s 0 (omega (arith, text-length paper)) in
+    let count : n ≡ 0 + length t = ap place w in
+    let end : length t ≡ n = omega arith in
+    let kept : drop n v ≡ behind = rw (ap buffer w) (drop-at t behind n end) in
+    (rw (ap buffer w) (take-at t behind n end), kept ∙ ap (λ (k : ℕ). drop k s) (sym count))
   where
     place : Out → ℕ
     place (out v n) = n

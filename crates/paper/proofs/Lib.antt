@@ -8,8 +8,8 @@ pub mod Outlines
 pub mod Little
 pub mod Taking
 pub mod Scanning
-pub mod Readings
 pub mod Pieces
+pub mod Readings
 pub mod Marks
 pub mod Cases
 pub mod Lengths

@@ -7,7 +7,7 @@ use native.Mathlib.Nat.{mul-le-mul, not-suc-le-zero, le-of-suc-le-suc}
 use native.Mathlib.Omega.{arith}
 use lib.ListN.{take, replicate}
 use lib.Dec.{eqb}
-use lib.Ieee.{Float, binary64, ofBits}
+use lib.Ieee.{Float, ofBits}
 use borrow.Author.Tests.{eq-eqb, ne-eqb}
 use Rattle.leaves.specs.Numbers.{float}
 use Rattle.estimators.specs.Calls.{adjustedCovariance, exponentiallyWeightedMean, jamesSteinMean, bayesSteinMean}
@@ -59,6 +59,6 @@ module _ (o : Outline) (n q c : ℕ) (en : n ≡ assets o) (few : assets o ≤ f
       let k : c ≤ fileAssets = rw ec (columns-few q n h) in
       mul-le-mul h k
 
-  pub answer-is : q ≡ value o 11 → (r g : List Float) → printed (assets o) c (asked q o r g (take (n * c) (replicate (fileAssets * fileAssets) (ofBits binary64 0)))) ≡ answerOf o r g
+  pub answer-is : q ≡ value o 11 → (r g : List Float) → printed (assets o) c (asked q o r g (take (n * c) (replicate (fileAssets * fileAssets) (float 0)))) ≡ answerOf o r g
   unfolding answerOf ofBits
-  answer-is eq r g = rw (take-replicate (n * c) (fileAssets * fileAssets) (ofBits binary64 0) answer-fits, ec, eq, en)
+  answer-is eq r g = rw (take-replicate (n * c) (fileAssets * fileAssets) (float 0) answer-fits, ec, eq, en)

@@ -1,22 +1,23 @@
 -- Laws of `readPaper`: from a scanned file to its reading. Assumes nothing.
 use mathlib.Core.Path.{_≡_, refl, sym, ap, _∙_}
 use mathlib.Core.Bool.{Bool, true, false, cond}
-use mathlib.Core.List.{List, [], _∷_, map, flatten}
+use mathlib.Core.List.{List, flatten}
 use Prim.Native.Nat.{ℕ, _+_, _-_, _≤_}
 use native.Mathlib.Omega.{arith}
-use lib.ListN.{length, drop, length-append, length-drop}
+use lib.ListN.{length, drop, length-drop}
 use borrow.Author.Tests.{eq-eqb, ne-eqb}
 use Rattle.paper.specs.declared.rules.Outline.{Outline}
 use Rattle.paper.specs.declared.reader.Scanned.{Scanned}
 use Rattle.paper.specs.declared.reader.Parsed.{Parsed}
-use Rattle.paper.specs.Grammar.{maxRecords, kinds, sheet}
+use Rattle.paper.specs.Grammar.{kinds, sheet}
 use Rattle.paper.specs.Rules.{outline, wellFormed, malformed, question, isQuestion, readPaper}
 use Rattle.paper.specs.Answer.{malformedNumber, refused, outcomeText}
 use Rattle.paper.specs.Marking.{answerOf, floats, examined, marking}
-use Rattle.paper.specs.Inner.{ScannedIs, ReadIs, split, total, reading}
+use Rattle.paper.specs.Inner.{maxRecords, ScannedIs, ReadIs, split, total, reading}
 use Rattle.paper.proofs.Writes.{write-room}
 use Rattle.paper.proofs.Outlines.{well-formed}
-use Rattle.paper.proofs.Scanning.{numbers-fit, split-flatten}
+use Rattle.paper.proofs.Scanning.{numbers-fit}
+use Rattle.paper.proofs.Pieces.{total-flatten, split-flatten}
 
 module _ (s v v' : List ℕ) (r : Scanned) (x : ScannedIs (sheet kinds s) s v v' r) where
   abbrev lists : List (List ℕ)
@@ -45,11 +46,6 @@ module _ (s v v' : List ℕ) (r : Scanned) (x : ScannedIs (sheet kinds s) s v v'
   read-is ok h h' e = record { room = h'; reading-is = rw (cut h, e); outline-is = x .outline-is; numbers = x .numbers }
 
 -- ---- what a reading tells
-
-total-flatten : (q : List (List ℕ)) → total (map length q) ≡ length (flatten q)
-unfolding total flatten
-total-flatten [] = refl
-total-flatten (vs ∷ q) = rw (total-flatten q, length-append)
 
 told : (b : Bool) (q l : List (List ℕ)) → question q ≡ cond b (question l) malformed → (b ≡ true) × (q ≡ l)
 told true q l e = (refl, cc)

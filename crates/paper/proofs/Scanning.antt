@@ -1,21 +1,20 @@
--- Laws of `sheet`: the kinds of a file, one after another, how many numbers a file can have, and the lists that they are cut into again. Assumes nothing.
+-- Laws of `sheet`: the kinds of a file, one after another, and how many numbers a file can have. Assumes nothing.
 use mathlib.Core.Path.{_≡_, refl, sym, ap, _∙_}
 use mathlib.Core.Bool.{Bool, true, false, cond}
-use mathlib.Core.List.{List, [], _∷_, _++_, map, flatten, append-assoc, append-nil}
+use mathlib.Core.List.{List, [], _∷_, _++_, map, flatten, sum, append-assoc, append-nil}
 use Prim.Native.Nat.{ℕ, zero, suc, _+_, _≤_, _<_}
 use native.Mathlib.Nat.{add-le-add}
 use native.Mathlib.Numerals.{add-one}
 use native.Mathlib.Omega.{arith}
 use lib.ListN.{length, take, drop, getD, set, length-append, drop-of-length-le}
-use lib.Seq.{take-suc-set, take-all, take-append-seam, drop-append-seam}
+use lib.Seq.{take-suc-set, take-all}
 use Rattle.paper.specs.declared.kinds.Kind.{Kind}
 use Rattle.paper.specs.declared.reader.Took.{Took}
 use Rattle.paper.specs.Text.{Out, out, write}
-use Rattle.paper.specs.Grammar.{maxRecords, starts, body, none, more, taken, Sheet, sheet, kinds, missing}
+use Rattle.paper.specs.Grammar.{starts, body, none, more, taken, Sheet, sheet, kinds}
 use Rattle.paper.specs.Rules.{firstOf, outline}
-use Rattle.paper.specs.Inner.{TookIs, ScannedIs, buffer, split, total}
-use Rattle.paper.proofs.Table.{next-kind}
-use Rattle.paper.proofs.Writes.{onward, ended}
+use Rattle.paper.specs.Inner.{maxRecords, missing, TookIs, ScannedIs, buffer, total}
+use Rattle.paper.proofs.Writes.{onward, ended, drop-next}
 
 -- Of the file w, the kinds ks are left from a place on; o is written so far, of o₀ at first, and cs and fs are the counts and the first bodies so far.
 pub record Going (s : List ℕ) (w : Sheet) (o₀ : Out) (ks : List Kind) (at : ℕ) (o : Out) (cs fs : List ℕ) : Type 0 where
@@ -47,7 +46,7 @@ pub going-turn : (s : List ℕ) (w : Sheet) (o₀ : Out) (i at : ℕ) (v : List 
     → Going s w o₀ (drop (i + 1) kinds) (r .at) (out v' (r .next)) (take (i + 1) (set counts i (r .count))) (take (i + 1) (set firsts i f))
 going-turn s w o₀ i at v n v' r counts firsts f k h hc hf g e x y =
     rw (add-one i, take-suc-set counts i (r .count) hc, take-suc-set firsts i f hf, ← add-one i)
-    (going-more s w o₀ k (drop (i + 1) kinds) at (take i counts) (take i firsts) v n v' r f (rw (next-kind i h, ← e) at g) x y)
+    (going-more s w o₀ k (drop (i + 1) kinds) at (take i counts) (take i firsts) v n v' r f (rw (drop-next kinds i missing h, ← e) at g) x y)
 
 pub going-end : (s : List ℕ) (w : Sheet) (v₀ : List ℕ) (i at : ℕ) (v : List ℕ) (n : ℕ) (counts firsts : List ℕ) → length kinds ≤ i → length counts ≤ i → length firsts ≤ i → at ≤ length s
     → Going s w (out v₀ 0) (drop i kinds) at (out v n) (take i counts) (take i firsts) → ScannedIs w s v₀ v (record { end = at; outline = record { counts = counts; firsts = firsts } })
@@ -73,17 +72,10 @@ taken-length k (suc m) bs = go (starts k bs) (taken-length k m (drop (k .body + 
     go false h = omega arith
 
 flatten-length : (ks : List Kind) (bs : List ℕ) → length (flatten (sheet ks bs .lists)) ≤ total (map (λ (k : Kind). k .most) ks)
-unfolding sheet flatten total
+unfolding sheet flatten sum
 flatten-length [] bs = omega arith
 flatten-length (k ∷ ks) bs = let t = taken k (k .most) bs in rw length-append (add-le-add (taken-length k (k .most) bs) (flatten-length ks (t .rest)))
 
 pub numbers-fit : (s : List ℕ) → length (flatten (sheet kinds s .lists)) ≤ maxRecords
-unfolding kinds total
+unfolding kinds sum
 numbers-fit s = flatten-length kinds s
-
--- ---- the numbers of a file, cut again
-
-pub split-flatten : (q : List (List ℕ)) (r : List ℕ) → split (map length q) (flatten q ++ r) ≡ q
-unfolding split flatten
-split-flatten [] r = refl
-split-flatten (vs ∷ q) r = rw (append-assoc vs (flatten q) r, take-append-seam vs (flatten q ++ r), drop-append-seam vs (flatten q ++ r), split-flatten q r)

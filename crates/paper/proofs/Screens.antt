@@ -6,7 +6,7 @@ use mathlib.Core.Bool.{Bool, true, false, not, _&&_, cond}
 use Prim.Native.Nat.{ℕ, zero, suc, _+_, _-_, _*_, _/_, _%_, _^_, _≤_, _<_}
 use native.Mathlib.Nat.{mul-right-comm, mul-le-mul-right, mul-lt-mul-of-pos-right, le-of-mul-le-mul-right, eq-or-lt-of-le, le-of-suc-le-suc, not-suc-le-zero, le-trans, lt-of-lt-of-le, div-eq-of-lt, le-of-eq}
 use native.Mathlib.Omega.{arith}
-use lib.Dec.{leb, eqb, T}
+use lib.Dec.{leb, eqb, T, leb→le, le→leb}
 use lib.Pow.{pow-add, pow-pos, pow-mono}
 use lib.Ieee.{Float, nan, inf, fin, binary64, up, down, odd, ofFields, ofBits, toBits, fits, ne}
 use lib.Ieee.Bits.{ofBits-toBits}
@@ -14,26 +14,21 @@ use lib.Ieee.Compare.{differs-from-itself}
 use lib.Ieee.Exact.{HasValue, odd-sign}
 use lib.Ieee.Fits.{down-pos}
 use lib.Ieee.Nearest.{div-same}
-use borrow.Author.Tests.{leb-true, le-leb, lt-leb, eq-eqb, ne-eqb}
+use borrow.Author.Tests.{le-leb, lt-leb, eq-eqb, ne-eqb}
+use Rattle.leaves.specs.Numbers.{float}
+use Rattle.leaves.proofs.Shift.{iff-same}
 use Rattle.paper.specs.declared.screen.Shown.the-variants.{Big, Number}
 use Rattle.paper.specs.Screen.{truncated, shownAs, shown}
 
 -- ---- equal fractions are shown alike
 
-same-leb : (a b c d : ℕ) → (a ≤ b → c ≤ d) → (c ≤ d → a ≤ b) → leb a b ≡ leb c d
-same-leb a b c d f g = go (leb a b) (leb c d) refl refl
-  where
-    go : (s t : Bool) → leb a b ≡ s → leb c d ≡ t → s ≡ t
-    go true true e h = refl
-    go false false e h = refl
-    go true false e h = sym (le-leb c d (f (leb-true a b e))) ∙ h
-    go false true e h = sym e ∙ le-leb a b (g (leb-true c d h))
-
 shown-same : (s : Bool) (a b c d : ℕ) → 0 < b → 0 < d → a * d ≡ c * b → shownAs s a b ≡ shownAs s c d
 unfolding shownAs
 shown-same s a b c d B D e = rw (
   div-same (a * 10000) b (c * 10000) d B D (mul-right-comm a 10000 d ∙ ap (λ (x : ℕ). x * 10000) e ∙ mul-right-comm c b 10000),
-  same-leb (2 ^ 31 * b) a (2 ^ 31 * d) c (across b d a c B e) (across d b c a D (sym e)),
+  iff-same (leb (2 ^ 31 * b) a) (leb (2 ^ 31 * d) c)
+      (λ t. le→leb (2 ^ 31 * d) c (across b d a c B e (leb→le (2 ^ 31 * b) a t)))
+      (λ t. le→leb (2 ^ 31 * b) a (across d b c a D (sym e) (leb→le (2 ^ 31 * d) c t))),
 )
   where
     across : (b d a c : ℕ) → 0 < b → a * d ≡ c * b → 2 ^ 31 * b ≤ a → 2 ^ 31 * d ≤ c
@@ -109,7 +104,7 @@ shown-small s (suc x) t u h l z n =
 
 -- ---- the tests of the code, on the bits b of x
 
-fields : (b : ℕ) → ofBits binary64 b ≡ ofFields binary64 (leb (2 ^ 63) b) (b % 2 ^ 63 / 2 ^ 52) (b % 2 ^ 52)
+fields : (b : ℕ) → float b ≡ ofFields binary64 (leb (2 ^ 63) b) (b % 2 ^ 63 / 2 ^ 52) (b % 2 ^ 52)
 unfolding ofBits
 fields b = refl
 

@@ -1,18 +1,18 @@
--- Laws of the table of kinds: its length, what holds of each kind, one kind after another, the search for a byte. Assumes nothing.
+-- Laws of the table of kinds: its length, what holds of each kind, the search for a byte. Assumes nothing.
 use mathlib.Core.Path.{_≡_, refl, sym, _∙_}
 use mathlib.Core.Bool.{Bool, true, _&&_}
 use mathlib.Core.List.{List, [], _∷_}
 use Prim.Native.Nat.{ℕ, zero, suc, _+_, _≤_, _<_}
 use native.Mathlib.Nat.{add-zero, not-suc-le-zero, le-of-suc-le-suc}
-use native.Mathlib.Numerals.{add-one}
 use native.Mathlib.Omega.{arith}
 use lib.ListN.{length, getD, drop, drop-of-length-le}
-use lib.Seq.{drop-cons}
 use lib.Dec.{leb, ltb, T, leb→le, ltb→lt}
 use lib.Ieee.Fits.{and-l, and-r}
 use borrow.Author.Tests.{eq-eqb, ne-eqb}
 use Rattle.paper.specs.declared.kinds.Kind.{Kind}
-use Rattle.paper.specs.Grammar.{kinds, missing, placeIn}
+use Rattle.paper.specs.Grammar.{kinds, placeIn}
+use Rattle.paper.specs.Inner.{missing}
+use Rattle.paper.proofs.Writes.{drop-next}
 
 pub how-many : length kinds ≡ 11
 unfolding kinds
@@ -20,6 +20,7 @@ how-many = refl
 
 -- ---- what holds of each kind
 
+-- the library's `all` cannot be computed outside its own file
 abbrev all : (Kind → Bool) → List Kind → Bool
 all p [] = true
 all p (k ∷ ks) = p k && all p ks
@@ -37,21 +38,16 @@ pub some-most : (i : ℕ) → i < length kinds → 0 < getD kinds i missing .mos
 unfolding kinds
 some-most i h = ltb→lt 0 _ (every (λ k. ltb 0 (k .most)) kinds tt i h)
 
--- ---- one after another
-
-pub next-kind : (i : ℕ) → i < length kinds → drop i kinds ≡ getD kinds i missing ∷ drop (i + 1) kinds
-next-kind i h = rw add-one (drop-cons kinds i missing h)
-
 -- ---- the search: i kinds are passed
 
 module _ (b i : ℕ) (passed : placeIn kinds b ≡ i + placeIn (drop i kinds) b) where
   pub place-next : i < length kinds → (getD kinds i missing .byte ≡ b → ⊥) → placeIn kinds b ≡ i + 1 + placeIn (drop (i + 1) kinds) b
   unfolding placeIn
-  place-next h n = passed ∙ rw (next-kind i h, ne-eqb (getD kinds i missing .byte) b n) (omega arith)
+  place-next h n = passed ∙ rw (drop-next kinds i missing h, ne-eqb (getD kinds i missing .byte) b n) (omega arith)
 
   pub place-here : i < length kinds → getD kinds i missing .byte ≡ b → i ≡ placeIn kinds b
   unfolding placeIn
-  place-here h e = sym (passed ∙ rw (next-kind i h, eq-eqb (getD kinds i missing .byte) b e) (add-zero i))
+  place-here h e = sym (passed ∙ rw (drop-next kinds i missing h, eq-eqb (getD kinds i missing .byte) b e) (add-zero i))
 
   pub place-none : length kinds ≤ i → i ≡ placeIn kinds b
   unfolding placeIn

@@ -13,7 +13,7 @@ use borrow.Author.Tests.{lt-ltb, le-ltb, ltb-true}
 use Rattle.paper.specs.declared.kinds.Kind.{Kind}
 use Rattle.paper.specs.declared.reader.Took.{Took}
 use Rattle.paper.specs.Text.{Out, out, write}
-use Rattle.paper.specs.Grammar.{little, starts, body, Taken, none, more, taken}
+use Rattle.paper.specs.Grammar.{little, starts, Taken, none, more, taken}
 use Rattle.paper.specs.Rules.{firstOf}
 use Rattle.paper.specs.Inner.{TookIs}
 use Rattle.paper.proofs.Writes.{onward, ended}

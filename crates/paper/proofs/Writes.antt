@@ -40,9 +40,9 @@ onward o {p} t u w e f = then o {q = write p u} t u e refl ∙ ap (write o) (sym
 pub ended : (o p : Out) (w : List ℕ) → w ≡ [] → write p w ≡ o → p ≡ o
 ended o p w e f = write-none p ∙ ap (write p) (sym e) ∙ f
 
--- what such a loop writes in a turn, where it goes byte by byte
-pub text-more : (t : List ℕ) (i : ℕ) → i < length t → drop i t ≡ (getD t i 0 ∷ []) ++ drop (i + 1) t
-text-more t i h = rw (add-one, drop-cons t i 0 h)
+-- what such a loop has left of a list before a turn, where it goes one by one
+pub drop-next : {A : Type 0} (l : List A) (i : ℕ) (d : A) → i < length l → drop i l ≡ getD l i d ∷ drop (i + 1) l
+drop-next l i d h = rw add-one (drop-cons l i d h)
 
 -- ---- one byte
 

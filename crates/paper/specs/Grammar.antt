@@ -15,10 +15,6 @@ fileAssets = 8
 abbrev pub filePeriods : ℕ
 filePeriods = 128
 
--- the most records of a file: nine of the eleven kinds come once at most
-abbrev pub maxRecords : ℕ
-maxRecords = filePeriods * fileAssets + fileAssets * fileAssets + 9
-
 abbrev pub kind : ℕ → ℕ → ℕ → Kind
 kind b l m = record { byte = b; body = l; most = m }
 
@@ -38,10 +34,6 @@ kinds =
     kind 10 1 1 ∷
     kind 11 1 1 ∷
     []
-
--- past the end of the table
-abbrev pub missing : Kind
-missing = kind 0 0 0
 
 -- where the kind of a byte stands in a table
 unfoldable pub placeIn : List Kind → ℕ → ℕ

@@ -1,17 +1,26 @@
--- What only the contracts of inner functions cite: a value of the code, with the numbers that were filled, stands for what the definitions take.
--- Definitions only.
+-- What only the contracts of inner functions cite: what stands past the table of kinds, how many records a file can have, and that a value of the code, with the
+-- numbers that were filled, stands for what the definitions take. Definitions only.
 use mathlib.Core.Path.{_≡_}
 use mathlib.Core.Bool.{cond}
-use mathlib.Core.List.{List, [], _∷_, flatten}
-use Prim.Native.Nat.{ℕ, _+_, _≤_}
+use mathlib.Core.List.{List, [], _∷_, flatten, sum}
+use Prim.Native.Nat.{ℕ, _+_, _*_, _≤_}
 use lib.ListN.{length, take, drop}
 use lib.Ieee.{Float}
+use Rattle.paper.specs.declared.kinds.Kind.{Kind}
 use Rattle.paper.specs.declared.reader.Took.{Took}
 use Rattle.paper.specs.declared.reader.Scanned.{Scanned}
 use Rattle.paper.specs.declared.reader.Parsed.{Parsed}
 use Rattle.paper.specs.Text.{Out, out, write, Counts}
-use Rattle.paper.specs.Grammar.{maxRecords, Taken, Sheet, kinds, sheet}
+use Rattle.paper.specs.Grammar.{fileAssets, filePeriods, kind, kinds, Taken, Sheet, sheet}
 use Rattle.paper.specs.Rules.{outline, Reading, malformed, question, readPaper}
+
+-- past the end of the table of kinds
+abbrev pub missing : Kind
+missing = kind 0 0 0
+
+-- the most records of a file: nine of the eleven kinds come once at most
+abbrev pub maxRecords : ℕ
+maxRecords = filePeriods * fileAssets + fileAssets * fileAssets + 9
 
 -- t was taken of the file s; its bodies went into the numbers v at i, which became v'
 pub record TookIs (s : List ℕ) (t : Taken) (v : List ℕ) (i : ℕ) (v' : List ℕ) (r : Took) : Type 0 where
@@ -40,7 +49,7 @@ split (c ∷ cs) ns = take c ns ∷ split cs (drop c ns)
 unfoldable pub reading : Parsed → List ℕ → Reading
 reading r ns = cond (r .ok) (question (split (r .outline .counts) ns)) malformed
 
--- the file s was read; the numbers v became v'
+-- the file s was read; the numbers v became v'. Nothing asks for `numbers`, nor for `behind` below, but they leave no part of a lent slice unsaid
 pub record ReadIs (s v v' : List ℕ) (r : Parsed) : Type 0 where
   pub room : maxRecords ≡ length v'
   pub reading-is : reading r v' ≡ readPaper s
@@ -48,9 +57,8 @@ pub record ReadIs (s v v' : List ℕ) (r : Parsed) : Type 0 where
   pub numbers : v' ≡ buffer (write (out v 0) (flatten (sheet kinds s .lists)))
 
 -- how many numbers there are
-unfoldable pub total : List ℕ → ℕ
-total [] = 0
-total (c ∷ cs) = c + total cs
+abbrev pub total : List ℕ → ℕ
+total cs = sum _+_ 0 cs
 
 -- the floats xs stand at the front of d, n of them; behind them d is as d₀ was
 pub record FilledWith (xs d₀ d : List Float) (n : ℕ) : Type 0 where

@@ -3,6 +3,7 @@ ghost use mathlib.Core.Path.{_≡_};
 ghost use Prim.Native.Nat.{_<_};
 ghost use lib.ListN.{length, getD};
 ghost use Rattle.paper.specs.Grammar as Grammar;
+ghost use Rattle.paper.specs.Inner.{missing};
 
 // The most assets and periods of a file.
 pub(crate) const FILE_ASSETS: usize = 8;
@@ -34,7 +35,7 @@ const MOSTS: [usize; KINDS] = [1, RETURNS, 1, 1, 1, 1, 1, 1, ENTRIES, 1, 1];
 
 pub(crate) fn kind_at(i: usize) -> Kind
     requires { ⌜ i < length Grammar.kinds ⌝ }
-    ensures { λ r. ⌜ r ≡ getD Grammar.kinds i Grammar.missing ⌝ }
+    ensures { λ r. ⌜ r ≡ getD Grammar.kinds i missing ⌝ }
 {
     Kind {
         byte: BYTES[i],

@@ -10,7 +10,7 @@ pub mod settings;
 mod text;
 
 ghost use mathlib.Core.Path.{_≡_};
-ghost use lib.ListN.{take};
+ghost use lib.ListN.{take, drop};
 ghost use Rattle.paper.specs.Text.{out as into, write, Counts};
 ghost use Rattle.paper.specs.Marking.{marking};
 use crate::answer::put_refused;
@@ -41,9 +41,10 @@ pub fn mark(paper: &[u8], out: &mut [u8]) -> usize
     }
 }
 
-// The same in a buffer that has room for every text: the front of `out` is the whole text.
+// The same in a buffer that has room for every text: the front of `out` is the whole text, and what stands behind it is kept.
 pub fn mark_whole(paper: &[u8], out: &mut [u8; TEXT]) -> usize
     ensures { λ r. ⌜ take r (now (out .exit)) ≡ marking (now (paper .entry)) ⌝ }
+    ensures { λ r. ⌜ drop r (now (out .exit)) ≡ drop r (now (out .entry)) ⌝ }
     ensures { λ r. ⌜ Counts r (now (out .exit)) ⌝ }
 {
     mark(paper, out)

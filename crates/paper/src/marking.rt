@@ -1,7 +1,7 @@
 // The engine's answer to a question, printed.
 ghost use mathlib.Core.Path.{_≡_};
 ghost use mathlib.Core.Bool.{true};
-ghost use Prim.Native.Nat.{_≤_, _*_};
+ghost use Prim.Native.Nat.{_≤_};
 ghost use lib.ListN.{length};
 ghost use Rattle.estimators.specs.Calls as Calls;
 ghost use Rattle.paper.specs.Text.{out as into, write};

@@ -12,7 +12,7 @@ const MOST_RETURNS: usize = 260;
 
 const MOST_ENTRIES: usize = 84;
 
-// What every lent slice of numbers holds before a call. The stored answers were made with it.
+// What the answer slice and the report's two numbers hold before a call. The stored answers were made with such an answer slice.
 const UNTOUCHED: f64 = 7.5;
 
 // The same bits, or NaN both: equal numbers have the same bits but for the sign of a zero.

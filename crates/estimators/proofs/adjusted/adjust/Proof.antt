@@ -1,6 +1,6 @@
 -- `estimators::adjusted::adjust` meets its contract: `regularize` after `shrink`, in arrays of the largest size.
-use Rattle.estimators.specs.Adjusted.{adjusted}
 use borrow.Author.Needs.{needs}
+use Rattle.estimators.specs.Adjusted.{adjusted}
 use Rattle.estimators.proofs.Lent.{lent}
 use Rattle.estimators.proofs.adjusted.adjust.Statement.{statement}
 use Rattle.estimators.proofs.adjusted.adjust.Tie as tie
@@ -8,8 +8,8 @@ use Rattle.estimators.proofs.adjusted.adjust.Tie as tie
 mul-size : tie.Need-mul-size
 mul-size c = search needs
 
-array-borrow-prefix-sd : tie.Need-array-borrow-prefix-sd
-array-borrow-prefix-sd c = search needs
+array-borrow-prefix-volatilities : tie.Need-array-borrow-prefix-volatilities
+array-borrow-prefix-volatilities c = search needs
 
 slice-aggregate-shrink : tie.Need-slice-aggregate-shrink
 slice-aggregate-shrink c = search lent
@@ -34,4 +34,4 @@ unfolding adjusted
 returns c = c .before .before .before .regularize .ensures _ (c .before .before .before .before .before .before .before .before .before .shrink .ensures)
 
 pub adjust-spec : {M : Type 1} → statement M
-adjust-spec = tie.close (tie.spec mul-size array-borrow-prefix-sd slice-aggregate-shrink shrink-requires array-borrow-prefix-unit slice-aggregate-regularize regularize-requires same-length returns)
+adjust-spec = tie.close (tie.spec mul-size array-borrow-prefix-volatilities slice-aggregate-shrink shrink-requires array-borrow-prefix-unit slice-aggregate-regularize regularize-requires same-length returns)

@@ -1,7 +1,7 @@
 -- `estimators::adjusted::is_adjusted` meets its contract, by the cases of the regularization and of the first test.
 use lib.Ieee.{ofBits}
-use Rattle.estimators.specs.Adjusted.{isAdjusted}
 use borrow.Author.Needs.{needs}
+use Rattle.estimators.specs.Adjusted.{isAdjusted}
 use Rattle.estimators.proofs.adjusted.is_adjusted.Statement.{statement}
 use Rattle.estimators.proofs.adjusted.is_adjusted.Tie as tie
 

@@ -1,9 +1,9 @@
 -- `estimators::adjusted::mix` meets its contract: what its two calls ensure, put together.
 use mathlib.Core.List.{[]}
 use lib.Ieee.{ofBits}
+use borrow.Author.Needs.{needs}
 use Rattle.leaves.specs.Numbers.{_⊕_, _⊖_, _⊗_, one}
 use Rattle.matrix.proofs.OfStored.{entrywise}
-use borrow.Author.Needs.{needs}
 use Rattle.estimators.proofs.adjusted.mix.Statement.{statement}
 use Rattle.estimators.proofs.adjusted.mix.Tie as tie
 

@@ -1,8 +1,8 @@
 -- `estimators::adjusted::mix_correlation` meets its contract: what its calls ensure, put together.
+use borrow.Author.Needs.{needs}
 use Rattle.matrix.specs.Matrix.{at}
 use Rattle.estimators.specs.LedoitWolf.{constantCorrelation}
 use Rattle.estimators.specs.Adjusted.{weightedTarget, mixed}
-use borrow.Author.Needs.{needs}
 use Rattle.estimators.proofs.adjusted.mix_correlation.Statement.{statement}
 use Rattle.estimators.proofs.adjusted.mix_correlation.Tie as tie
 

@@ -1,10 +1,10 @@
 -- `estimators::adjusted::mix_variance` meets its contract: what its calls ensure, put together.
 use mathlib.Core.Path.{ap, _∙_}
 use lib.Ieee.{Float}
+use borrow.Author.Needs.{needs}
 use Rattle.leaves.specs.Numbers.{_⊕_, _⊖_, _⊗_, one}
 use Rattle.matrix.specs.Matrix.{at, rows, identity}
 use Rattle.estimators.specs.Adjusted.{weightedTarget, mixed}
-use borrow.Author.Needs.{needs}
 use Rattle.estimators.proofs.adjusted.mix_variance.Statement.{statement}
 use Rattle.estimators.proofs.adjusted.mix_variance.Tie as tie
 

@@ -4,6 +4,7 @@ use mathlib.Core.List.{List}
 use Prim.Native.Nat.{ℕ}
 use lib.ListN.{length}
 use lib.Ieee.{Float}
+use borrow.Author.Needs.{needs}
 use Rattle.leaves.specs.Numbers.{_⊕_, _⊗_}
 use Rattle.leaves.specs.Loops.{tab, nth}
 use Rattle.matrix.specs.Matrix.{Matrix, rows, identity}
@@ -11,7 +12,6 @@ use Rattle.matrix.proofs.Stored.{rows-ext}
 use Rattle.matrix.proofs.OfStored.{at-stored, entrywise}
 use Rattle.estimators.specs.Adjusted.{regularized}
 use Rattle.estimators.specs.declared.Regularization.the-variants.{Ridge}
-use borrow.Author.Needs.{needs}
 use Rattle.estimators.proofs.adjusted.regularize.Statement.{statement}
 use Rattle.estimators.proofs.adjusted.regularize.Tie as tie
 

@@ -1,8 +1,8 @@
 -- `estimators::adjusted::shrink` meets its contract, by the cases of the shrinkage and its target.
 use mathlib.Core.Path.{_∙_}
+use borrow.Author.Needs.{needs}
 use Rattle.matrix.proofs.Stored.{whole}
 use Rattle.estimators.specs.Adjusted.{shrunk}
-use borrow.Author.Needs.{needs}
 use Rattle.estimators.proofs.adjusted.shrink.Statement.{statement}
 use Rattle.estimators.proofs.adjusted.shrink.Tie as tie
 

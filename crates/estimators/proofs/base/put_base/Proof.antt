@@ -1,12 +1,12 @@
 -- `estimators::base::put_base` meets its contract, by the cases of the estimate.
 use mathlib.Core.Path.{sym, ap, _∙_}
 use lib.Ieee.{Float}
+use borrow.Author.Needs.{needs}
 use Rattle.matrix.specs.Matrix.{at, rows}
 use Rattle.matrix.proofs.Stored.{whole}
+use Rattle.matrix.proofs.OfStored.{rows-long}
 use Rattle.estimators.specs.Weighted.{weightedCovariance}
 use Rattle.estimators.specs.Adjusted.{base}
-use borrow.Author.Needs.{needs}
-use Rattle.matrix.proofs.OfStored.{rows-long}
 use Rattle.estimators.proofs.base.put_base.Statement.{statement}
 use Rattle.estimators.proofs.base.put_base.Tie as tie
 

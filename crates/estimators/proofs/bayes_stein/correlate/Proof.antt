@@ -24,8 +24,8 @@ put-volatilities-requires c κs = search needs
 put-correlations-requires : tie.Need-put-correlations-requires
 put-correlations-requires c κs = search needs
 
-constant-asset-requires : tie.Need-constant-asset-requires
-constant-asset-requires c κs = search needs
+constant-returns-requires : tie.Need-constant-returns-requires
+constant-returns-requires c κs = search needs
 
 all-finite-requires : tie.Need-all-finite-requires
 all-finite-requires c κs = search needs
@@ -47,8 +47,8 @@ returns c =
     let C = c .before .before .before .before .before .before .before .before .put-correlations in
     let D = c .before .before .before .before .before .before .before .before .before .before .before .before .before .put-volatilities in
     let a = c .before .before .before .before .before .before .before .before .before .before .before .before .before .before .before .before .before .before .before .args in
-    let constant = c .before .before .before .before .constant-asset .ensures (at (a .covariance .now) (a .n)) (D .ensures) in
+    let constant = c .before .before .before .before .constant-returns .ensures (at (a .covariance .now) (a .n)) (D .ensures) in
     (D .ensures, correlated (a .n) (at (a .covariance .now) (a .n)) _ _ (D .ensures) (C .ensures), c .first .ensures ∙ (λ t. first (constant t ∷ (c .before .when .ensures ∙ (λ u. when (not (c .before .before .all-finite .ensures u)) Singular)) t ∷ [])))
 
 pub correlate-spec : {M : Type 1} → statement M
-correlate-spec = tie.close (tie.spec put-volatilities-requires put-correlations-requires constant-asset-requires all-finite-requires when-requires first-requires same-length same-length-2 returns)
+correlate-spec = tie.close (tie.spec put-volatilities-requires put-correlations-requires constant-returns-requires all-finite-requires when-requires first-requires same-length same-length-2 returns)

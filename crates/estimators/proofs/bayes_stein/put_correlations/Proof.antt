@@ -2,7 +2,6 @@
 use mathlib.Core.Path.{sym}
 use Prim.Native.Nat.{_-_, _*_, _/_, _%_}
 use native.Mathlib.Omega.{arith}
-use Rattle.estimators.specs.Sample.{correlationBy}
 use borrow.Author.Needs.{needs}
 use Rattle.leaves.specs.Numbers.{_⊘_}
 use Rattle.leaves.specs.Loops.{nth}
@@ -11,6 +10,7 @@ use Rattle.leaves.proofs.Cells.{row-below, col-below, has-column}
 use Rattle.matrix.specs.Matrix.{at}
 use Rattle.matrix.proofs.Stored.{entry-at}
 use Rattle.matrix.proofs.FilledRows.{filled-rows}
+use Rattle.estimators.specs.Sample.{correlationBy}
 use Rattle.estimators.proofs.bayes_stein.put_correlations.Statement.{statement}
 use Rattle.estimators.proofs.bayes_stein.put_correlations.Tie as tie
 

@@ -9,15 +9,14 @@ use Rattle.leaves.specs.Loops.{tab, nth}
 use Rattle.leaves.proofs.Lists.{tab-long}
 use Rattle.matrix.specs.Matrix.{at, rows}
 use Rattle.matrix.specs.Jacobi.{Decomposition, decompose}
-use Rattle.estimators.specs.Exponents.{exponentAt}
 use Rattle.estimators.specs.Sample.{volatility, correlation}
 use Rattle.estimators.specs.Refusals as Refusals
 use Rattle.estimators.specs.Refusals.{first}
-use Rattle.estimators.specs.BayesStein.{Pull, bayesSteinPull, pulled}
+use Rattle.estimators.specs.BayesStein.{MeanShrinkage, bayesSteinShrinkage, shrunkMean, exponentAt}
 use Rattle.estimators.specs.Checks.{checked}
 use Rattle.estimators.specs.Moments.{momentsOf}
 use Rattle.estimators.specs.Calls.{Answered, answered, settle}
-use Rattle.estimators.specs.Stein.{pullOf, BayesSteinPulls, bayesSteinOf}
+use Rattle.estimators.specs.Stein.{meanShrinkage, BayesSteinShrinks, bayesSteinOf}
 use Rattle.estimators.specs.Order.{byCorrelations, byDecomposition, ofCorrelations}
 use Rattle.estimators.specs.declared.Refusal.{Refusal}
 use Rattle.estimators.specs.declared.Answer.the-variants.{Refused, Shrunk}
@@ -29,16 +28,16 @@ use Rattle.estimators.proofs.bayes_stein.shrink_in.Statement.{statement
 use Rattle.estimators.proofs.bayes_stein.shrink_in.Tie as tie
 
 -- μ and Σ are the moments, v and C the volatilities and correlations found
-module _ (n limit : ℕ) (μ Σ : List Float) (T : Float) (es : List ℤ) (size : ℕ → Float) (slice v C : List Float) (constant : Check)
-    (is-v : v ≡ tab n (volatility (at Σ n))) (is-C : C ≡ rows n n (correlation (at Σ n))) (is-constant : checked constant ≡ first (byCorrelations n size (at Σ n) (at C n))) where
+module _ (n limit : ℕ) (μ Σ : List Float) (T : Float) (es : List ℤ) (size : ℕ → Float) (slice v C : List Float) (bad : Check)
+    (is-v : v ≡ tab n (volatility (at Σ n))) (is-C : C ≡ rows n n (correlation (at Σ n))) (is-bad : checked bad ≡ first (byCorrelations n size (at Σ n) (at C n))) where
   abbrev e : ℕ → ℤ
   e = exponentAt es
 
-  abbrev outcome : Pull → ℕ → ℕ → Answered
-  outcome w sweeps rotations = answered (Shrunk (w .intensity) (w .target) sweeps rotations) (tab n (λ i. pulled w (nth μ i) (e i)))
+  abbrev outcome : MeanShrinkage → ℕ → ℕ → Answered
+  outcome w sweeps rotations = answered (Shrunk (w .intensity) (w .target) sweeps rotations) (tab n (λ i. shrunkMean w (nth μ i) (e i)))
 
   abbrev accepts : List Float → Answered
-  accepts C = let d = decompose limit n (at C n) in outcome (bayesSteinPull n T (nth μ) (at Σ n) e d) (d .sweeps) (d .rotations)
+  accepts C = let d = decompose limit n (at C n) in outcome (bayesSteinShrinkage n T (nth μ) (at Σ n) e d) (d .sweeps) (d .rotations)
 
   abbrev checks : List Float → List Refusals.Check
   checks C = ofCorrelations n size (at Σ n) (at C n) (decompose limit n (at C n))
@@ -51,15 +50,15 @@ module _ (n limit : ℕ) (μ Σ : List Float) (T : Float) (es : List ℤ) (size 
   stored = ap (λ (C : List Float). settle (first (checks C)) slice (accepts C)) is-C
 
   -- the first check, with the others after it
-  front : first (checked constant ∷ byDecomposition n (decompose limit n (at C n))) ≡ first (checks C)
-  front = first-then (byCorrelations n size (at Σ n) (at C n)) (byDecomposition n (decompose limit n (at C n))) is-constant
+  front : first (checked bad ∷ byDecomposition n (decompose limit n (at C n))) ≡ first (checks C)
+  front = first-then (byCorrelations n size (at Σ n) (at C n)) (byDecomposition n (decompose limit n (at C n))) is-bad
 
-  refused : {c : Refusal} → constant ≡ Refuses c → Answers (answered (Refused c) slice)
+  refused : {c : Refusal} → bad ≡ Refuses c → Answers (answered (Refused c) slice)
   unfolding first
   refused h = settle-refused slice (accepts C) ((λ t. first (checked (sym h t) ∷ byDecomposition n (decompose limit n (at C n)))) ∙ front) ∙ stored
 
   -- d is the decomposition found
-  module _ (h : constant ≡ Passes) (d : Decomposition) (is-d : d ≡ decompose limit n (at C n)) (singular : Check) (is-singular : checked singular ≡ first (byDecomposition n d)) where
+  module _ (h : bad ≡ Passes) (d : Decomposition) (is-d : d ≡ decompose limit n (at C n)) (singular : Check) (is-singular : checked singular ≡ first (byDecomposition n d)) where
     back : checked singular ≡ first (checks C)
     unfolding first
     back = is-singular ∙ (λ t. first (checked (sym h t) ∷ byDecomposition n (is-d t))) ∙ front
@@ -67,18 +66,18 @@ module _ (n limit : ℕ) (μ Σ : List Float) (T : Float) (es : List ℤ) (size 
     singular-refused : {c : Refusal} → singular ≡ Refuses c → Answers (answered (Refused c) slice)
     singular-refused g = settle-refused slice (accepts C) (ap checked (sym g) ∙ back) ∙ stored
 
-    accepted : singular ≡ Passes → (α μ₀ : Float) (out : List Float) → BayesSteinPulls n μ v es T (d .values) (d .vectors) α μ₀ → out ≡ tab n (λ i. pulled (pullOf α μ₀) (nth μ i) (e i))
+    accepted : singular ≡ Passes → (α μ₀ : Float) (out : List Float) → BayesSteinShrinks n μ v es T (d .values) (d .vectors) α μ₀ → out ≡ tab n (λ i. shrunkMean (meanShrinkage α μ₀) (nth μ i) (e i))
         → Answers (answered (Shrunk α μ₀ (d .sweeps) (d .rotations)) out)
-    accepted g α μ₀ out pulls is-out =
-        let w = pulls (at Σ n) (decompose limit n (at C n)) is-v (λ t. sym is-d t .values) (λ t. sym is-d t .vectors) in
+    accepted g α μ₀ out shrinks is-out =
+        let w = shrinks (at Σ n) (decompose limit n (at C n)) is-v (λ t. sym is-d t .values) (λ t. sym is-d t .vectors) in
         (λ t. answered (Shrunk α μ₀ (d .sweeps) (d .rotations)) (is-out t)) ∙ (λ t. outcome (w t) (is-d t .sweeps) (is-d t .rotations))
         ∙ settle-accepted slice (accepts C) (ap checked (sym g) ∙ back) ∙ stored
 
 correlate-requires : tie.Need-correlate-requires
 correlate-requires c κs = search needs
 
-enum-known-constant : tie.Need-enum-known-constant
-enum-known-constant c = search needs
+enum-known-bad : tie.Need-enum-known-bad
+enum-known-bad c = search needs
 
 same-length : tie.Need-same-length
 same-length c = search needs
@@ -91,7 +90,7 @@ returns c =
     let k = c .before .before .before .before .before .before .before in
     let e = k .correlate .ensures in
     let a = k .before .before .before .before .before .before .before .before .before .before .before .args in
-    refused (a .n) (a .limit) (a .means .now) (a .covariance .now) (a .periods) (a .exponents .now) (nth (a .sizes .now)) (a .out .now) _ _ _ (e .0) (e .1) (e .2) (c .before .constant .given .1)
+    refused (a .n) (a .limit) (a .means .now) (a .covariance .now) (a .periods) (a .exponents .now) (nth (a .sizes .now)) (a .out .now) _ _ _ (e .0) (e .1) (e .2) (c .before .bad .given .1)
 
 enum-told : tie.Need-enum-told
 enum-told c = search needs
@@ -130,14 +129,14 @@ returns-2 c =
 enum-told-2 : tie.Need-enum-told-2
 enum-told-2 c = search needs
 
-pull-requires : tie.Need-pull-requires
-pull-requires c κs =
+shrinkage-requires : tie.Need-shrinkage-requires
+shrinkage-requires c κs =
     let k = c .before .before .before .before .before .before .before .before .before .before .before .before .before .before .before .before .before .before .before .before .before in
     let p = k .before .before .before .before .before .before .before .before .before .before .before .pre in
     (p .1, p .3, tab-long _ _ _ (k .correlate .ensures .0), p .5, p .6, search (needs, p .10), search (needs, p .11))
 
-put-pulled-requires : tie.Need-put-pulled-requires
-put-pulled-requires c κs = let p = c .before .before .before .before .before .before .before .before .before .before .before .before .before .before .before .before .before .before .before .before .before .before .before .before .before .before .before .before .before .before .before .before .before .before .pre in (p .3 ∙ sym (p .12), p .5 ∙ sym (p .12), p .6)
+put-shrunk-requires : tie.Need-put-shrunk-requires
+put-shrunk-requires c κs = let p = c .before .before .before .before .before .before .before .before .before .before .before .before .before .before .before .before .before .before .before .before .before .before .before .before .before .before .before .before .before .before .before .before .before .before .pre in (p .3 ∙ sym (p .12), p .5 ∙ sym (p .12), p .6)
 
 same-length-7 : tie.Need-same-length-7
 same-length-7 c =
@@ -169,7 +168,7 @@ returns-3 c =
     let e = k .correlate .ensures in
     accepted (a .n) (a .limit) (a .means .now) (a .covariance .now) (a .periods) (a .exponents .now) (nth (a .sizes .now)) (a .out .now) _ _ _ (e .0) (e .1) (e .2)
     (t .enum-told .given .1) _ (d .decompose .ensures) _ (u .before .before .judge .ensures _) (u .enum-told2 .given .1)
-    (w .pull .result .intensity) (w .pull .result .target) _ (w .pull .ensures) (rw (s .pre .12) at (c .before .before .put-pulled .ensures))
+    (w .shrinkage .result .intensity) (w .shrinkage .result .target) _ (w .shrinkage .ensures) (rw (s .pre .12) at (c .before .before .put-shrunk .ensures))
 
 pub shrink-in-spec : {M : Type 1} → statement M
-shrink-in-spec = tie.close (tie.spec correlate-requires enum-known-constant same-length same-length-2 returns enum-told decompose-requires judge-requires enum-known-singular same-length-3 same-length-4 same-length-5 same-length-6 returns-2 enum-told-2 pull-requires put-pulled-requires same-length-7 same-length-8 same-length-9 same-length-10 same-length-11 returns-3)
+shrink-in-spec = tie.close (tie.spec correlate-requires enum-known-bad same-length same-length-2 returns enum-told decompose-requires judge-requires enum-known-singular same-length-3 same-length-4 same-length-5 same-length-6 returns-2 enum-told-2 shrinkage-requires put-shrunk-requires same-length-7 same-length-8 same-length-9 same-length-10 same-length-11 returns-3)

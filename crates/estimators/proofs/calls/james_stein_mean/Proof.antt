@@ -3,13 +3,13 @@ use mathlib.Core.Path.{sym, ap, _∙_}
 use Prim.Native.Nat.{_≤_}
 use lib.ListN.{length}
 use lib.Seq.{length-take-le}
+use borrow.Author.Needs.{needs}
 use Rattle.estimators.specs.Order.{jamesSteinOrder}
 use Rattle.estimators.specs.Shapes.{Shaped}
 use Rattle.estimators.specs.Checks.{checked}
 use Rattle.estimators.specs.Calls.{jamesSteinMean}
 use Rattle.estimators.proofs.Opened.{shape-refuses, shape-fits}
 use Rattle.estimators.proofs.Shapes.{shape-passes}
-use borrow.Author.Needs.{needs}
 use Rattle.estimators.proofs.calls.james_stein_mean.Statement.{statement}
 use Rattle.estimators.proofs.calls.james_stein_mean.Tie as tie
 

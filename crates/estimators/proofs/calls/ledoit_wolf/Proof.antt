@@ -1,10 +1,10 @@
 -- `estimators::calls::ledoit_wolf` meets its contract: the shape is looked at, then the rest.
 use mathlib.Core.Path.{sym, ap, _∙_}
 use lib.ListN.{length}
+use borrow.Author.Needs.{needs}
 use Rattle.estimators.specs.Checks.{checked}
 use Rattle.estimators.proofs.Shapes.{shape-passes}
 use Rattle.estimators.proofs.LedoitWolfCall.{shape-refuses}
-use borrow.Author.Needs.{needs}
 use Rattle.estimators.proofs.calls.ledoit_wolf.Statement.{statement}
 use Rattle.estimators.proofs.calls.ledoit_wolf.Tie as tie
 

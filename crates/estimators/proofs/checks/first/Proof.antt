@@ -1,7 +1,7 @@
 -- `estimators::checks::first` meets its contract, by the cases of the first check.
+use borrow.Author.Needs.{needs}
 use Rattle.estimators.specs.Refusals.{first}
 use Rattle.estimators.proofs.Firsts.{first-alone}
-use borrow.Author.Needs.{needs}
 use Rattle.estimators.proofs.checks.first.Statement.{statement}
 use Rattle.estimators.proofs.checks.first.Tie as tie
 

@@ -1,9 +1,9 @@
 -- `estimators::columns::add_period` meets its contract: the row that is added is the period's.
 use mathlib.Core.Path.{sym, _∙_}
+use borrow.Author.Needs.{needs}
 use Rattle.leaves.specs.Numbers.{_⊕_}
 use Rattle.leaves.specs.Loops.{nth}
 use Rattle.leaves.proofs.Lists.{tab-then, tab-long}
-use borrow.Author.Needs.{needs}
 use Rattle.estimators.proofs.Lent.{lent}
 use Rattle.estimators.proofs.columns.add_period.Statement.{statement}
 use Rattle.estimators.proofs.columns.add_period.Tie as tie

@@ -12,7 +12,7 @@ use Rattle.leaves.proofs.Invariants.{at-end}
 use Rattle.matrix.specs.Matrix.{at}
 use Rattle.estimators.specs.Rows.{rowsOf}
 use Rattle.estimators.specs.declared.rows.Row.{Row}
-use Rattle.estimators.proofs.Passes.{after, after-none, after-more}
+use Rattle.estimators.proofs.OverPeriods.{after, after-none, after-more}
 use Rattle.estimators.proofs.columns.sum.Statement.{statement}
 use Rattle.estimators.proofs.columns.sum.Tie as tie
 

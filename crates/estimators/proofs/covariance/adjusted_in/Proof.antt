@@ -4,6 +4,7 @@ use Prim.Native.Nat.{_*_, _≤_}
 use native.Mathlib.Omega.{arith}
 use lib.ListN.{length}
 use lib.Seq.{length-take-le}
+use borrow.Author.Needs.{needs}
 use Rattle.matrix.specs.Matrix.{at}
 use Rattle.matrix.proofs.Counts.{square-most}
 use Rattle.estimators.specs.Refusals.{passes, first}
@@ -11,7 +12,6 @@ use Rattle.estimators.specs.Order.{byReturns}
 use Rattle.estimators.specs.Checks.{checked}
 use Rattle.estimators.proofs.OfGiven.{examined-refused, examined-accepted, same-side}
 use Rattle.estimators.proofs.Estimated.{returns-refuse, given-refuses, given-passes}
-use borrow.Author.Needs.{needs}
 use Rattle.estimators.proofs.covariance.adjusted_in.Statement.{statement}
 use Rattle.estimators.proofs.covariance.adjusted_in.Tie as tie
 

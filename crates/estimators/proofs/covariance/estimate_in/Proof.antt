@@ -1,9 +1,9 @@
 -- `estimators::covariance::estimate_in` meets its contract: the settings are looked at first, then the estimate is made and finished.
 use mathlib.Core.Path.{sym, ap, _∙_}
+use borrow.Author.Needs.{needs}
 use Rattle.matrix.specs.Matrix.{at}
 use Rattle.estimators.specs.Checks.{checked}
 use Rattle.estimators.proofs.Estimated.{estimated-refused, estimated-accepted}
-use borrow.Author.Needs.{needs}
 use Rattle.estimators.proofs.covariance.estimate_in.Statement.{statement}
 use Rattle.estimators.proofs.covariance.estimate_in.Tie as tie
 

@@ -6,13 +6,13 @@ use native.Mathlib.Omega.{arith}
 use borrow.Author.Tests.{not-true, not-false}
 use lib.ListN.{length}
 use lib.Seq.{length-take-le, take-at}
+use borrow.Author.Needs.{needs}
 use Rattle.matrix.specs.Limits.{maxSide, maxSweeps}
 use Rattle.matrix.proofs.Counts.{square-most}
+use Rattle.matrix.proofs.OfStored.{rows-long}
 use Rattle.estimators.specs.Checks.{checked}
 use Rattle.estimators.proofs.OfGiven.{sizes-pass, none-given, sizes-refuse, sizes-fit}
 use Rattle.estimators.proofs.Passed.{passes-not}
-use borrow.Author.Needs.{needs}
-use Rattle.matrix.proofs.OfStored.{rows-long}
 use Rattle.estimators.proofs.Lent.{square-fits}
 use Rattle.estimators.proofs.covariance.examine_given.Statement.{statement}
 use Rattle.estimators.proofs.covariance.examine_given.Tie as tie

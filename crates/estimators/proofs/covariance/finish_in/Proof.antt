@@ -1,12 +1,12 @@
 -- `estimators::covariance::finish_in` meets its contract: the answer is copied where its checks pass.
 use mathlib.Core.Path.{_≡_, sym, ap, _∙_}
+use borrow.Author.Needs.{needs}
 use Rattle.matrix.specs.Matrix.{at}
 use Rattle.estimators.specs.Refusals.{first}
 use Rattle.estimators.specs.Adjusted.{adjustedOf}
 use Rattle.estimators.specs.Order.{byEstimate}
 use Rattle.estimators.specs.Checks.{checked}
 use Rattle.estimators.proofs.Estimated.{estimate-checked, finished-refused, finished-accepted}
-use borrow.Author.Needs.{needs}
 use Rattle.estimators.proofs.covariance.finish_in.Statement.{statement}
 use Rattle.estimators.proofs.covariance.finish_in.Tie as tie
 

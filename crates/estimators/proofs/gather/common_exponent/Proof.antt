@@ -7,14 +7,13 @@ use native.Mathlib.Omega.{arith}
 use lib.IntN.{ℤ, negℤ, natAbs}
 use lib.ListN.{length}
 use lib.Ieee.{Float}
-use mir.Syntax.{w32}
-use mir.Val.{toZ, ofZ}
 use borrow.Author.Needs.{needs}
 use Rattle.leaves.specs.Loops.{loop, nth}
+use Rattle.leaves.proofs.Ints.{readBack}
 use Rattle.leaves.proofs.Invariants.{loop-turn, loop-end, loop-start}
-use Rattle.estimators.specs.BayesStein.{orZero, commonExponent, withExponent}
-use Rattle.estimators.specs.Gather.{largestOf, Summed}
-use Rattle.estimators.specs.Exponents.{exponentAt, Exponents, twoExponents}
+use Rattle.estimators.specs.BayesStein.{orZero, commonExponent, withExponent, exponentAt}
+use Rattle.estimators.specs.Gather.{largestOf, WithinTwoExponents}
+use Rattle.estimators.specs.Exponents.{Exponents, twoExponents}
 use Rattle.estimators.proofs.Exponents.{read}
 use Rattle.estimators.proofs.gather.common_exponent.Statement.{statement}
 use Rattle.estimators.proofs.gather.common_exponent.Tie as tie
@@ -23,11 +22,11 @@ abbrev step : List Float → List ℤ → ℕ → Option ℤ → Option ℤ
 step xs exponents i found = withExponent found (nth xs i) (negℤ (exponentAt exponents i))
 
 -- an exponent, as the machine reads it
-reads : (exponents : List ℤ) → Exponents exponents → (i : ℕ) → i < length exponents → toZ w32 (ofZ w32 (exponentAt exponents i)) ≡ exponentAt exponents i
+reads : (exponents : List ℤ) → Exponents exponents → (i : ℕ) → i < length exponents → readBack (exponentAt exponents i) ≡ exponentAt exponents i
 reads exponents h i l = read (exponentAt exponents i) (omega (arith, h i l))
 
 abbrev Inv-loop : tie.InvT-loop
-Inv-loop xs exponents largest₀ i₀ largest i = (i ≤ length xs) × (largestOf largest ≡ loop i (step xs exponents) none) × Summed (largestOf largest)
+Inv-loop xs exponents largest₀ i₀ largest i = (i ≤ length xs) × (largestOf largest ≡ loop i (step xs exponents) none) × WithinTwoExponents (largestOf largest)
 
 abbrev μ-loop : tie.MeasureT-loop
 μ-loop xs exponents largest₀ i₀ largest i = length xs - i

@@ -1,8 +1,7 @@
 -- `estimators::gather::or_zero` meets its contract, case by case.
 use mathlib.Core.Path.{_≡_}
-use mir.Syntax.{w32}
-use mir.Val.{toZ, ofZ}
 use borrow.Author.Needs.{needs}
+use Rattle.leaves.proofs.Ints.{readBack}
 use Rattle.estimators.proofs.gather.or_zero.Statement.{statement}
 use Rattle.estimators.proofs.gather.or_zero.Tie as tie
 
@@ -18,7 +17,7 @@ returns c = rw (c .enum-told .given .1)
 returns-2 : tie.Need-returns-2
 returns-2 c =
     let k = c .before .largest .given in
-    let rk : toZ w32 (ofZ w32 (k .0 .0)) ≡ k .0 .0 = search needs in
+    let rk : readBack (k .0 .0) ≡ k .0 .0 = search needs in
     rw (k .1, rk)
 
 pub or-zero-spec : {M : Type 1} → statement M

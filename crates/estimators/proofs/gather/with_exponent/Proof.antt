@@ -11,23 +11,23 @@ use borrow.Author.Needs.{needs}
 use Rattle.leaves.specs.Numbers.{zero⁺}
 use Rattle.leaves.specs.Scaling.{binaryExponent}
 use Rattle.estimators.specs.BayesStein.{largerZ, withExponent}
-use Rattle.estimators.specs.Gather.{largestOf, Summed}
+use Rattle.estimators.specs.Gather.{largestOf, WithinTwoExponents}
 use Rattle.estimators.specs.Exponents.{maxExponent, twoExponents}
 use Rattle.estimators.proofs.Exponents.{size-minus, minus-fits, minus-read}
 use Rattle.estimators.proofs.gather.with_exponent.Statement.{statement}
 use Rattle.estimators.proofs.gather.with_exponent.Tie as tie
 
-larger-summed : (found : Option ℤ) (k : ℤ) → Summed found → natAbs k ≤ twoExponents → Summed (largerZ found k)
-larger-summed none k h l = l
-larger-summed (some j) k h l = go (ltZ j k)
+larger-within : (found : Option ℤ) (k : ℤ) → WithinTwoExponents found → natAbs k ≤ twoExponents → WithinTwoExponents (largerZ found k)
+larger-within none k h l = l
+larger-within (some j) k h l = go (ltZ j k)
   where
     go : (b : Bool) → natAbs (cond b k j) ≤ twoExponents
     go true = l
     go false = h
 
-other : (found : Option ℤ) (x : Float) (e b : ℤ) → eq x zero⁺ ≡ false → b ≡ binaryExponent x → natAbs e ≤ maxExponent → natAbs b ≤ maxExponent → Summed found
-    → (r : Option ℤ) → r ≡ largerZ found (b -ℤ e) → (r ≡ withExponent found x (negℤ e)) × Summed r
-other found x e b h is-b he hb hf r is-r = (rw (withExponent, h, ← is-b) is-r, rw is-r (larger-summed found (b -ℤ e) hf (omega (arith, size-minus b e))))
+other : (found : Option ℤ) (x : Float) (e b : ℤ) → eq x zero⁺ ≡ false → b ≡ binaryExponent x → natAbs e ≤ maxExponent → natAbs b ≤ maxExponent → WithinTwoExponents found
+    → (r : Option ℤ) → r ≡ largerZ found (b -ℤ e) → (r ≡ withExponent found x (negℤ e)) × WithinTwoExponents r
+other found x e b h is-b he hb hf r is-r = (rw (withExponent, h, ← is-b) is-r, rw is-r (larger-within found (b -ℤ e) hf (omega (arith, size-minus b e))))
 
 returns : tie.Need-returns
 unfolding ofBits

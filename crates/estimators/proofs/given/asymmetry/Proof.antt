@@ -1,10 +1,10 @@
 -- `estimators::given::asymmetry` meets its contract: what its two calls ensure.
 use mathlib.Core.Path.{ap, _∙_}
 use lib.Ieee.{Float}
+use borrow.Author.Needs.{needs}
 use Rattle.leaves.specs.Numbers.{_⊗_, 1e-12}
 use Rattle.matrix.specs.Matrix.{at, firstAsymmetric}
 use Rattle.estimators.specs.Given.{asymmetry}
-use borrow.Author.Needs.{needs}
 use Rattle.estimators.proofs.given.asymmetry.Statement.{statement}
 use Rattle.estimators.proofs.given.asymmetry.Tie as tie
 

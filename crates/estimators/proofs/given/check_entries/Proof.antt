@@ -1,7 +1,7 @@
 -- `estimators::given::check_entries` meets its contract: each return is the first check that the two searches leave.
+use borrow.Author.Needs.{needs}
 use Rattle.estimators.specs.Refusals.{first}
 use Rattle.estimators.specs.Order.{notFinite}
-use borrow.Author.Needs.{needs}
 use Rattle.estimators.proofs.given.check_entries.Statement.{statement}
 use Rattle.estimators.proofs.given.check_entries.Tie as tie
 

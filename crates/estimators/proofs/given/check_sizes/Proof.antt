@@ -1,9 +1,9 @@
 -- `estimators::given::check_sizes` meets its contract: each return is the first check that the tests leave.
 use mathlib.Core.Path.{_∙_}
 use borrow.Author.Tests.{eq-eqb, ne-eqb, lt-ltb, le-ltb}
+use borrow.Author.Needs.{needs}
 use Rattle.estimators.specs.Refusals.{first}
 use Rattle.estimators.proofs.Firsts.{first-alone}
-use borrow.Author.Needs.{needs}
 use Rattle.estimators.proofs.Lent.{lent}
 use Rattle.estimators.proofs.given.check_sizes.Statement.{statement}
 use Rattle.estimators.proofs.given.check_sizes.Tie as tie

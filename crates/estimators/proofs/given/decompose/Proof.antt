@@ -5,22 +5,22 @@ use mathlib.Core.List.{List}
 use Prim.Native.Nat.{ℕ, _*_}
 use lib.ListN.{length}
 use lib.Ieee.{Float, lt, div, ofBits}
+use borrow.Author.Needs.{needs}
 use Rattle.leaves.specs.Numbers.{_⊘_, zero⁺}
-use Rattle.matrix.specs.Matrix.{at, rows, amax}
+use Rattle.matrix.specs.Matrix.{at, rows, amax, divided}
 use Rattle.matrix.specs.Jacobi.{Decomposition, decompose, unturned}
 use Rattle.matrix.proofs.OfStored.{mapped-at}
 use Rattle.estimators.specs.Given.{decomposeGiven}
-use borrow.Author.Needs.{needs}
 use Rattle.estimators.proofs.given.decompose.Statement.{statement}
 use Rattle.estimators.proofs.given.decompose.Tie as tie
 
 -- by what the code computed
 module _ (n limit : ℕ) (a : List Float) {scale : Float} (es : scale ≡ amax n n (at a n)) (d : Decomposition) where
-  apart : {over : List Float} → length a ≡ n * n → over ≡ rows n n (λ i j. at a n i j ⊘ scale) → lt zero⁺ scale ≡ true → d ≡ decompose limit n (at over n) → d ≡ decomposeGiven limit n (at a n)
+  apart : {over : List Float} → length a ≡ n * n → over ≡ rows n n (divided (at a n) scale) → lt zero⁺ scale ≡ true → d ≡ decompose limit n (at over n) → d ≡ decomposeGiven limit n (at a n)
   unfolding decomposeGiven div
   apart l eo t e =
       e ∙ ap (decompose limit n) (ap (λ (o : List Float). at o n) eo ∙ mapped-at (λ x. x ⊘ scale) refl a n l)
-      ∙ ap (λ (s : Float). decompose limit n (λ i j. at a n i j ⊘ s)) es
+      ∙ ap (λ (s : Float). decompose limit n (divided (at a n) s)) es
       ∙ rw (decomposeGiven, ap (lt zero⁺) (sym es) ∙ t)
 
   zero : lt zero⁺ scale ≡ false → d ≡ unturned n true → d ≡ decomposeGiven limit n (at a n)

@@ -1,9 +1,10 @@
--- `estimators::given::examine` meets its contract: the average, and the first check that `check_entries` and `take_apart` leave.
+-- `estimators::given::examine` meets its contract: the average, and the first check that `check_entries` and `check_values` leave.
 use mathlib.Core.Path.{_≡_, ap, _∙_}
 use mathlib.Core.Bool.{not}
 use mathlib.Core.List.{List, [], _∷_}
 use Prim.Native.Nat.{ℕ}
 use lib.Ieee.{Float}
+use borrow.Author.Needs.{needs}
 use Rattle.leaves.specs.Numbers.{_⊗_}
 use Rattle.matrix.specs.Matrix.{Matrix, at, rows, averaged}
 use Rattle.matrix.specs.Jacobi.{Decomposition, smallestValue}
@@ -19,7 +20,6 @@ use Rattle.estimators.specs.declared.checks.Check.the-variants.{Passes, 
 use Rattle.estimators.specs.declared.given.Examined.{Examined}
 use Rattle.estimators.specs.declared.given.Examined.the-variants.{Refused}
 use Rattle.estimators.proofs.Firsts.{first-then}
-use borrow.Author.Needs.{needs}
 use Rattle.estimators.proofs.given.examine.Statement.{statement}
 use Rattle.estimators.proofs.given.examine.Tie as tie
 
@@ -60,8 +60,8 @@ returns c =
 enum-told : tie.Need-enum-told
 enum-told c = search needs
 
-take-apart-requires : tie.Need-take-apart-requires
-take-apart-requires c κs = search needs
+check-values-requires : tie.Need-check-values-requires
+check-values-requires c κs = search needs
 
 same-length-2 : tie.Need-same-length-2
 same-length-2 c = search needs
@@ -70,7 +70,7 @@ returns-2 : tie.Need-returns-2
 returns-2 c =
     let o = c .before .before .before .before .before .before .before in
     let a = o .before .before .before .before .args in
-    (o .average .ensures, accepted (a .limit) (a .n) (at (a .g .now) (a .n)) _ (c .before .before .before .before .check-entries .ensures) (o .average .ensures) (c .before .before .enum-told .given .1) (c .take-apart .ensures))
+    (o .average .ensures, accepted (a .limit) (a .n) (at (a .g .now) (a .n)) _ (c .before .before .before .before .check-entries .ensures) (o .average .ensures) (c .before .before .enum-told .given .1) (c .check-values .ensures))
 
 pub examine-spec : {M : Type 1} → statement M
-examine-spec = tie.close (tie.spec average-requires check-entries-requires enum-known-bad same-length returns enum-told take-apart-requires same-length-2 returns-2)
+examine-spec = tie.close (tie.spec average-requires check-entries-requires enum-known-bad same-length returns enum-told check-values-requires same-length-2 returns-2)

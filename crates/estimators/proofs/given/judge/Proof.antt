@@ -4,6 +4,7 @@ use mathlib.Core.Bool.{Bool}
 use Prim.Native.Nat.{ℕ}
 use lib.ListN.{length}
 use lib.Ieee.{Float, neg, lt, ofBits, ofInt}
+use borrow.Author.Needs.{needs}
 use Rattle.leaves.specs.Numbers.{_⊗_, count, ε}
 use Rattle.leaves.specs.Loops.{amaxTo, minTo, nth}
 use Rattle.matrix.specs.Jacobi.{Decomposition, smallestValue}
@@ -12,7 +13,6 @@ use Rattle.estimators.specs.Refusals.{first}
 use Rattle.estimators.specs.Given.{indefinite}
 use Rattle.estimators.specs.declared.given.Examined.the-variants.{Refused}
 use Rattle.estimators.specs.declared.Refusal.the-variants.{Indefinite}
-use borrow.Author.Needs.{needs}
 use Rattle.estimators.proofs.given.judge.Statement.{statement}
 use Rattle.estimators.proofs.given.judge.Tie as tie
 

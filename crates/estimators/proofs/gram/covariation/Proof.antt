@@ -1,9 +1,7 @@
 -- `estimators::gram::covariation` meets its contract: every column is summed up.
-use mathlib.Core.Path.{_∙_}
+use borrow.Author.Needs.{needs}
 use Rattle.estimators.specs.Rows.{centered}
 use Rattle.estimators.proofs.Halves.{covariation-over}
-use borrow.Author.Needs.{needs}
-use Rattle.matrix.proofs.OfStored.{rows-long}
 use Rattle.estimators.proofs.gram.covariation.Statement.{statement}
 use Rattle.estimators.proofs.gram.covariation.Tie as tie
 
@@ -29,8 +27,7 @@ returns : tie.Need-returns
 returns c =
     let s = c .before .before .before .before .before .before .before in
     let a = s .before .before .before .before .before .before .before .before .args in
-    c .before .before .divide .ensures
-    ∙ covariation-over (a .s .now) (centered (a .row) (a .n) (a .centers .now) (a .r .now)) (a .n) _ (a .periods) _ _ (rows-long _ _ _ (s .sum .ensures)) (c .before .before .before .before .nearest-u64-to-f64 .ensures) (s .sum .ensures)
+    covariation-over (a .s .now) (centered (a .row) (a .n) (a .centers .now) (a .r .now)) (a .n) (a .periods) _ (c .before .before .before .before .nearest-u64-to-f64 .ensures) (s .sum .ensures) (c .before .before .divide .ensures)
 
 pub covariation-spec : {M : Type 1} → statement M
 covariation-spec = tie.close (tie.spec slice-aggregate-sum slice-aggregate-sum-2 sum-requires nearest-u64-to-f64-requires divide-requires same-length returns)

@@ -1,10 +1,10 @@
 -- `estimators::gram::gram` meets its contract: the half that is summed up is mirrored, and products commute.
 use mathlib.Core.Path.{_∙_}
 use mathlib.Core.List.{[]}
+use borrow.Author.Needs.{needs}
 use Rattle.matrix.specs.Matrix.{at}
 use Rattle.estimators.specs.Rows.{rowsOf}
 use Rattle.estimators.proofs.Halves.{gram-mirrored}
-use borrow.Author.Needs.{needs}
 use Rattle.estimators.proofs.gram.gram.Statement.{statement}
 use Rattle.estimators.proofs.gram.gram.Tie as tie
 

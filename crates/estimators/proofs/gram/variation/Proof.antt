@@ -1,9 +1,7 @@
 -- `estimators::gram::variation` meets its contract: the half that is summed up is mirrored, and products commute.
-use mathlib.Core.Path.{_∙_}
+use borrow.Author.Needs.{needs}
 use Rattle.estimators.specs.Rows.{centered}
 use Rattle.estimators.proofs.Halves.{variation-over}
-use borrow.Author.Needs.{needs}
-use Rattle.matrix.proofs.OfStored.{rows-long}
 use Rattle.estimators.proofs.gram.variation.Statement.{statement}
 use Rattle.estimators.proofs.gram.variation.Tie as tie
 
@@ -34,8 +32,7 @@ returns c =
     let s = m .before .before .before .before in
     let a = s .before .before .before .before .before .before .before .before .args in
     let h = s .before .before .before .before .before .before .before .before .pre in
-    c .before .before .divide .ensures
-    ∙ variation-over (a .s .now) (centered (a .row) (a .n) (a .centers .now) (a .r .now)) (a .n) _ (a .periods) _ _ (rows-long _ _ _ (m .mirror .ensures)) (c .before .before .before .before .nearest-u64-to-f64 .ensures) _ (h .4) (s .sum .ensures) (m .mirror .ensures)
+    variation-over (a .s .now) (centered (a .row) (a .n) (a .centers .now) (a .r .now)) (a .n) (a .periods) _ (c .before .before .before .before .nearest-u64-to-f64 .ensures) (h .4) (s .sum .ensures) (m .mirror .ensures) (c .before .before .divide .ensures)
 
 pub variation-spec : {M : Type 1} → statement M
 variation-spec = tie.close (tie.spec slice-aggregate-sum slice-aggregate-sum-2 sum-requires mirror-requires nearest-u64-to-f64-requires divide-requires same-length returns)

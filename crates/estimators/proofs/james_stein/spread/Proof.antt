@@ -7,11 +7,12 @@ use lib.IntN.{ℤ, pos, _-ℤ_}
 use lib.ListN.{length}
 use lib.Ieee.{Float, ofBits}
 use mir.Syntax.{w32}
-use mir.Val.{toZ, ofZ}
+use mir.Val.{toZ}
 use borrow.Author.Needs.{needs}
 use Rattle.leaves.specs.Numbers.{_⊕_, _⊖_, _⊗_}
 use Rattle.leaves.specs.Loops.{sumTo, nth}
 use Rattle.leaves.specs.Scaling.{pow2Scaled}
+use Rattle.leaves.proofs.Ints.{readBack}
 use Rattle.leaves.proofs.Invariants.{sum-none, sum-turn, at-end}
 use Rattle.estimators.specs.JamesStein.{spread}
 use Rattle.estimators.proofs.Exponents.{neg-fits, neg-read}
@@ -56,7 +57,7 @@ returns : tie.Need-returns Inv-loop μ-loop
 unfolding spread
 returns c =
     let a = c .before .before .before .args in
-    rw (neg-read (a .shift) (omega arith)) at (at-end (λ k. sumTo k (square (a .means .now) (a .target) (toZ w32 (ofZ w32 (pos 0 -ℤ toZ w32 (ofZ w32 (a .shift))))))) _ _ _ (c .before .loop .inv .1) (c .before .loop .inv .0) (c .loop-test .left))
+    rw (neg-read (a .shift) (omega arith)) at (at-end (λ k. sumTo k (square (a .means .now) (a .target) (readBack (pos 0 -ℤ readBack (a .shift))))) _ _ _ (c .before .loop .inv .1) (c .before .loop .inv .0) (c .loop-test .left))
 
 pub spread-spec : {M : Type 1} → statement M
 spread-spec = tie.close (tie.spec Inv-loop μ-loop sub-down loop-holds mul-pow2-scaled shared-slice-read-pow2-scaled pow2-scaled-requires add-i loop-less loop-again returns)

@@ -1,8 +1,8 @@
 -- `estimators::ledoit_wolf::intensity` meets its contract: each return is the case of `intensityBy` that the test picks.
 use mathlib.Core.Path.{ap, _∙_}
 use lib.Ieee.{Float, lt, ofBits}
-use Rattle.leaves.specs.Numbers.{_⊘_, clamp01}
 use borrow.Author.Needs.{needs}
+use Rattle.leaves.specs.Numbers.{_⊘_, clamp01}
 use Rattle.estimators.specs.LedoitWolf.{intensityBy}
 use Rattle.estimators.proofs.ledoit_wolf.intensity.Statement.{statement}
 use Rattle.estimators.proofs.ledoit_wolf.intensity.Tie as tie
@@ -15,7 +15,7 @@ clamp01-requires c κs = search needs
 
 returns : tie.Need-returns
 unfolding ofBits intensityBy lt
-returns c = let a = c .before .before .before .args in rw (c .before .before .if1 .taken) (c .clamp01 .ensures ∙ ap (λ (t : Float). clamp01 (a .error ⊘ t ⊘ a .distance)) (c .before .nearest-u64-to-f64 .ensures))
+returns c = let a = c .before .before .before .args in rw (c .before .before .if1 .taken) (c .clamp01 .ensures ∙ ap (λ (t : Float). clamp01 (a .error ⊘ t ⊘ a .gamma)) (c .before .nearest-u64-to-f64 .ensures))
 
 returns-2 : tie.Need-returns-2
 unfolding ofBits intensityBy lt

@@ -5,6 +5,7 @@ use Prim.Native.Nat.{ℕ}
 use native.Mathlib.Omega.{arith}
 use lib.IntN.{ℤ, negℤ}
 use lib.Ieee.{Float}
+use borrow.Author.Needs.{needs}
 use Rattle.leaves.specs.Loops.{tab}
 use Rattle.leaves.specs.Scaling.{binaryExponent}
 use Rattle.matrix.specs.Matrix.{at, amax}
@@ -16,7 +17,6 @@ use Rattle.estimators.specs.declared.Target.{Target}
 use Rattle.estimators.specs.declared.rows.Row.the-variants.{Scaled}
 use Rattle.estimators.proofs.Exponents.{size-neg, neg-fits, neg-read}
 use Rattle.estimators.proofs.Centered.{from-centered, scaled-formed}
-use borrow.Author.Needs.{needs}
 use Rattle.estimators.proofs.Lent.{lent}
 use Rattle.estimators.proofs.ledoit_wolf.ledoit_wolf.Statement.{statement}
 use Rattle.estimators.proofs.ledoit_wolf.ledoit_wolf.Tie as tie

@@ -25,8 +25,8 @@ array-borrow-prefix-theta c = search lent
 slice-aggregate-of-rows-in-3 : tie.Need-slice-aggregate-of-rows-in-3
 slice-aggregate-of-rows-in-3 c = search lent
 
-array-borrow-prefix-sd : tie.Need-array-borrow-prefix-sd
-array-borrow-prefix-sd c = search needs
+array-borrow-prefix-volatilities : tie.Need-array-borrow-prefix-volatilities
+array-borrow-prefix-volatilities c = search needs
 
 slice-aggregate-of-rows-in-4 : tie.Need-slice-aggregate-of-rows-in-4
 slice-aggregate-of-rows-in-4 c = search lent
@@ -44,4 +44,4 @@ returns : tie.Need-returns
 returns c = search needs
 
 pub of-rows-spec : {M : Type 1} → statement M
-of-rows-spec = tie.close (tie.spec mul-size array-borrow-prefix-s slice-aggregate-of-rows-in array-borrow-prefix-pi slice-aggregate-of-rows-in-2 array-borrow-prefix-theta slice-aggregate-of-rows-in-3 array-borrow-prefix-sd slice-aggregate-of-rows-in-4 array-borrow-prefix-work slice-aggregate-of-rows-in-5 of-rows-in-requires returns)
+of-rows-spec = tie.close (tie.spec mul-size array-borrow-prefix-s slice-aggregate-of-rows-in array-borrow-prefix-pi slice-aggregate-of-rows-in-2 array-borrow-prefix-theta slice-aggregate-of-rows-in-3 array-borrow-prefix-volatilities slice-aggregate-of-rows-in-4 array-borrow-prefix-work slice-aggregate-of-rows-in-5 of-rows-in-requires returns)

@@ -2,19 +2,19 @@
 use mathlib.Core.Path.{_≡_, _∙_}
 use Prim.Native.Nat.{_≤_, _-_}
 use native.Mathlib.Omega.{arith}
+use borrow.Author.Needs.{needs}
 use Rattle.leaves.specs.Loops.{loop, nth}
 use Rattle.leaves.proofs.Invariants.{loop-turn, loop-end, loop-start}
 use Rattle.matrix.specs.Matrix.{at, trace, sumOver, sumRow}
 use Rattle.estimators.specs.LedoitWolf.{apart, crossCovariation}
-use borrow.Author.Needs.{needs}
 use Rattle.estimators.proofs.ledoit_wolf.target_covariation.Statement.{statement}
 use Rattle.estimators.proofs.ledoit_wolf.target_covariation.Tie as tie
 
 abbrev Inv-loop : tie.InvT-loop
-Inv-loop r sd pi theta n t₀ i₀ t i = (i ≤ n) × (t ≡ loop i (sumRow n apart (crossCovariation r (nth sd) (at theta n))) (trace n (at pi n)))
+Inv-loop r volatilities pi theta n t₀ i₀ t i = (i ≤ n) × (t ≡ loop i (sumRow n apart (crossCovariation r (nth volatilities) (at theta n))) (trace n (at pi n)))
 
 abbrev μ-loop : tie.MeasureT-loop
-μ-loop r sd pi theta n t₀ i₀ t i = n - i
+μ-loop r volatilities pi theta n t₀ i₀ t i = n - i
 
 trace-requires : tie.Need-trace-requires Inv-loop μ-loop
 trace-requires c κs = search needs

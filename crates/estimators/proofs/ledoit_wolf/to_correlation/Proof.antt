@@ -1,9 +1,9 @@
 -- `estimators::ledoit_wolf::to_correlation` meets its contract: what its calls ensure, put together.
+use borrow.Author.Needs.{needs}
 use Rattle.matrix.specs.Matrix.{at}
-use Rattle.estimators.specs.LedoitWolf.{target, distance}
+use Rattle.estimators.specs.LedoitWolf.{target, squaredDistance}
 use Rattle.estimators.specs.declared.Target.the-variants.{ConstantCorrelation}
 use Rattle.estimators.proofs.LedoitWolf.{intensity-is, correlation-error}
-use borrow.Author.Needs.{needs}
 use Rattle.estimators.proofs.ledoit_wolf.to_correlation.Statement.{statement}
 use Rattle.estimators.proofs.ledoit_wolf.to_correlation.Tie as tie
 
@@ -16,8 +16,8 @@ average-correlation-requires c κs = search needs
 put-constant-correlation-requires : tie.Need-put-constant-correlation-requires
 put-constant-correlation-requires c κs = search needs
 
-distance-requires : tie.Need-distance-requires
-distance-requires c κs = search needs
+squared-distance-requires : tie.Need-squared-distance-requires
+squared-distance-requires c κs = search needs
 
 total-requires : tie.Need-total-requires
 total-requires c κs = search needs
@@ -35,7 +35,7 @@ same-length-2 : tie.Need-same-length-2
 same-length-2 c = search needs
 
 returns : tie.Need-returns
-unfolding distance target
+unfolding squaredDistance target
 returns c =
     let γ = c .before .before .before .before .before .before in
     let F = γ .before .before .before .before in
@@ -44,9 +44,9 @@ returns c =
     let a = v .before .before .before .before .before .before .before .args in
     let s = at (a .s .now) (a .n) in
     λ z eπ eθ. intensity-is ConstantCorrelation (a .periods) (a .n) z s
-    (γ .distance .ensures (target ConstantCorrelation (a .n) s) (F .put-constant-correlation .ensures))
+    (γ .squared-distance .ensures (target ConstantCorrelation (a .n) s) (F .put-constant-correlation .ensures))
     (correlation-error (a .periods) (a .n) z s eπ (c .before .before .before .total .ensures) (v .put-volatilities .ensures) (r .average-correlation .ensures) eθ (c .before .target-covariation .ensures))
     (c .intensity .ensures)
 
 pub to-correlation-spec : {M : Type 1} → statement M
-to-correlation-spec = tie.close (tie.spec put-volatilities-requires average-correlation-requires put-constant-correlation-requires distance-requires total-requires target-covariation-requires intensity-requires same-length same-length-2 returns)
+to-correlation-spec = tie.close (tie.spec put-volatilities-requires average-correlation-requires put-constant-correlation-requires squared-distance-requires total-requires target-covariation-requires intensity-requires same-length same-length-2 returns)

@@ -4,14 +4,14 @@ use mathlib.Core.List.{List, []}
 use Prim.Native.Nat.{ℕ}
 use lib.ListN.{length}
 use lib.Ieee.{Float}
+use borrow.Author.Needs.{needs}
 use Rattle.leaves.specs.Numbers.{_⊗_}
 use Rattle.leaves.specs.Loops.{tab, nth}
 use Rattle.matrix.specs.Matrix.{Matrix, at, rows, identity}
 use Rattle.matrix.proofs.OfStored.{entrywise}
-use Rattle.estimators.specs.LedoitWolf.{averageVariance, target, distance}
+use Rattle.estimators.specs.LedoitWolf.{averageVariance, target, squaredDistance}
 use Rattle.estimators.specs.declared.Target.the-variants.{ConstantVariance}
 use Rattle.estimators.proofs.LedoitWolf.{intensity-is, variance-error}
-use borrow.Author.Needs.{needs}
 use Rattle.estimators.proofs.ledoit_wolf.to_variance.Statement.{statement}
 use Rattle.estimators.proofs.ledoit_wolf.to_variance.Tie as tie
 
@@ -28,8 +28,8 @@ average-variance-requires c κs = search needs
 times-requires : tie.Need-times-requires
 times-requires c κs = search needs
 
-distance-requires : tie.Need-distance-requires
-distance-requires c κs = search needs
+squared-distance-requires : tie.Need-squared-distance-requires
+squared-distance-requires c κs = search needs
 
 total-requires : tie.Need-total-requires
 total-requires c κs = search needs
@@ -41,7 +41,7 @@ same-length : tie.Need-same-length
 same-length c = search needs
 
 returns : tie.Need-returns
-unfolding distance
+unfolding squaredDistance
 returns c =
     let γ = c .before .before .before .before in
     let F = γ .before .before .before .before in
@@ -50,9 +50,9 @@ returns c =
     let a = I .before .before .before .before .before .args in
     let s = at (a .s .now) (a .n) in
     λ z e. intensity-is ConstantVariance (a .periods) (a .n) z s
-    (γ .distance .ensures (target ConstantVariance (a .n) s) (target-is (a .n) s (I .put-identity .ensures) (m .average-variance .ensures) (F .times .ensures)))
+    (γ .squared-distance .ensures (target ConstantVariance (a .n) s) (target-is (a .n) s (I .put-identity .ensures) (m .average-variance .ensures) (F .times .ensures)))
     (variance-error (a .periods) (a .n) z s e (c .before .total .ensures))
     (c .intensity .ensures)
 
 pub to-variance-spec : {M : Type 1} → statement M
-to-variance-spec = tie.close (tie.spec put-identity-requires average-variance-requires times-requires distance-requires total-requires intensity-requires same-length returns)
+to-variance-spec = tie.close (tie.spec put-identity-requires average-variance-requires times-requires squared-distance-requires total-requires intensity-requires same-length returns)

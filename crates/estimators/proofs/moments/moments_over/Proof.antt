@@ -3,10 +3,9 @@ use mathlib.Core.Path.{ap, _∙_}
 use native.Mathlib.Omega.{arith}
 use lib.IntN.{pos, negℤ, natAbs}
 use lib.Seq.{length-take-le}
-use mir.Syntax.{w32}
-use mir.Val.{toZ, ofZ}
 use borrow.Author.Needs.{needs}
 use Rattle.leaves.specs.Scaling.{pow2Scaled}
+use Rattle.leaves.proofs.Ints.{readBack}
 use Rattle.matrix.specs.Limits.{maxSide}
 use Rattle.matrix.specs.Matrix.{at}
 use Rattle.estimators.specs.Sample.{scaled}
@@ -28,7 +27,7 @@ of-returns-requires c κs =
     let p = c .before .before .pre in
     let k = read (a .exponent) (omega arith) in
     let h = length-take-le _ _ (p .1) in
-    (p .0, p .1, p .2, h, λ i l. omega (arith, ap natAbs (part-at (toZ w32 (ofZ w32 (a .exponent))) maxSide (a .n) (p .1) (pos 0) i (rw h at l) ∙ k)))
+    (p .0, p .1, p .2, h, λ i l. omega (arith, ap natAbs (part-at (readBack (a .exponent)) maxSide (a .n) (p .1) (pos 0) i (rw h at l) ∙ k)))
 
 returns : tie.Need-returns
 unfolding scaled
@@ -37,7 +36,7 @@ returns c =
     let p = c .before .before .before .pre in
     let k = read (a .exponent) (omega arith) in
     c .of-returns .ensures
-    ∙ moments-same (a .n) (a .periods) _ _ (λ t i ht b j. pow2Scaled (at (a .r .now) (a .n) t i) (negℤ ((part-at (toZ w32 (ofZ w32 (a .exponent))) maxSide (a .n) (p .1) (pos 0) i b ∙ k) j)))
+    ∙ moments-same (a .n) (a .periods) _ _ (λ t i ht b j. pow2Scaled (at (a .r .now) (a .n) t i) (negℤ ((part-at (readBack (a .exponent)) maxSide (a .n) (p .1) (pos 0) i b ∙ k) j)))
 
 pub moments-over-spec : {M : Type 1} → statement M
 moments-over-spec = tie.close (tie.spec array-share-prefix-exponents slice-aggregate-of-returns of-returns-requires returns)

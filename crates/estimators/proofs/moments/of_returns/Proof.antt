@@ -2,8 +2,8 @@
 use mathlib.Core.Path.{sym}
 use native.Mathlib.Omega.{arith}
 use lib.Seq.{length-take-le}
-use Rattle.estimators.proofs.Samples.{moments-held}
 use borrow.Author.Needs.{needs}
+use Rattle.estimators.proofs.Samples.{moments-held}
 use Rattle.estimators.proofs.Lent.{lent}
 use Rattle.estimators.proofs.moments.of_returns.Statement.{statement}
 use Rattle.estimators.proofs.moments.of_returns.Tie as tie

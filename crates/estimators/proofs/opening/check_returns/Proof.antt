@@ -1,11 +1,11 @@
 -- `estimators::opening::check_returns` meets its contract: each return is the first check that the two searches leave.
 use mathlib.Core.Path.{sym, ap, _∙_}
+use borrow.Author.Needs.{needs}
 use Rattle.matrix.specs.Matrix.{at}
 use Rattle.matrix.specs.Places.{placed}
 use Rattle.estimators.specs.Refusals.{first}
 use Rattle.estimators.specs.Order.{notFinite}
-use Rattle.estimators.proofs.Samples.{returns-pass}
-use borrow.Author.Needs.{needs}
+use Rattle.estimators.proofs.Opened.{returns-pass}
 use Rattle.estimators.proofs.opening.check_returns.Statement.{statement}
 use Rattle.estimators.proofs.opening.check_returns.Tie as tie
 

@@ -5,7 +5,7 @@ use native.Mathlib.Nat.{not-suc-le-zero}
 use native.Mathlib.Omega.{arith}
 use lib.ListN.{length, length-set}
 use borrow.Author.Needs.{needs}
-use Rattle.estimators.specs.Exponents.{exponentAt}
+use Rattle.estimators.specs.BayesStein.{exponentAt}
 use Rattle.estimators.specs.Powers.{UnitsTo}
 use Rattle.estimators.proofs.Exponents.{size-neg, neg-fits, neg-read}
 use Rattle.estimators.proofs.Factors.{units-more}

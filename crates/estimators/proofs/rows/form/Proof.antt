@@ -2,9 +2,9 @@
 use mathlib.Core.Path.{refl, _∙_}
 use Prim.Native.Nat.{_+_, _*_, _≤_}
 use native.Mathlib.Omega.{arith}
+use borrow.Author.Needs.{needs}
 use Rattle.leaves.proofs.Cells.{row}
 use Rattle.estimators.proofs.Formed.{row-formed}
-use borrow.Author.Needs.{needs}
 use Rattle.estimators.proofs.rows.form.Statement.{statement}
 use Rattle.estimators.proofs.rows.form.Tie as tie
 

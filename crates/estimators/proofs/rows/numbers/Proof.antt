@@ -2,8 +2,8 @@
 use mathlib.Core.Path.{_∙_}
 use native.Mathlib.Omega.{arith}
 use lib.Seq.{length-take-le}
-use Rattle.estimators.proofs.Formed.{scaled-numbers, plain-numbers}
 use borrow.Author.Needs.{needs}
+use Rattle.estimators.proofs.Formed.{scaled-numbers, plain-numbers}
 use Rattle.estimators.proofs.Lent.{lent}
 use Rattle.estimators.proofs.rows.numbers.Statement.{statement}
 use Rattle.estimators.proofs.rows.numbers.Tie as tie
@@ -17,11 +17,11 @@ array-borrow-prefix-buffer c = search needs
 slice-aggregate-scaled : tie.Need-slice-aggregate-scaled
 slice-aggregate-scaled c = search lent
 
-scale-requires : tie.Need-scale-requires
-scale-requires c κs = search lent
+to-units-requires : tie.Need-to-units-requires
+to-units-requires c κs = search lent
 
 entries-requires : tie.Need-entries-requires
-entries-requires c κs = (c .before .before .before .before .scale .kept .1 .1 .0 ∙ length-take-le _ _ (omega arith), search needs)
+entries-requires c κs = (c .before .before .before .before .to-units .kept .1 .1 .0 ∙ length-take-le _ _ (omega arith), search needs)
 
 entries-requires-2 : tie.Need-entries-requires-2
 entries-requires-2 c κs = search needs
@@ -35,7 +35,7 @@ returns c =
     let q = p .before .before .before .before .before in
     let a = q .before .before .before .before .before .before .before .before .args in
     p .entries .ensures
-    ∙ scaled-numbers _ _ (a .xs .now) _ (a .centers .now) (a .w) _ _ (length-take-le _ _ (omega arith)) (q .before .before .before .if1 .taken) (q .scale .ensures)
+    ∙ scaled-numbers _ _ (a .xs .now) _ (a .centers .now) (a .w) _ _ (length-take-le _ _ (omega arith)) (q .before .before .before .if1 .taken) (q .to-units .ensures)
 
 same-length-2 : tie.Need-same-length-2
 same-length-2 c = search needs
@@ -47,4 +47,4 @@ returns-2 c =
     c .before .before .entries2 .ensures ∙ plain-numbers _ _ (a .xs .now) _ (a .centers .now) (a .w) (p .if1 .left)
 
 pub numbers-spec : {M : Type 1} → statement M
-numbers-spec = tie.close (tie.spec add-if1 array-borrow-prefix-buffer slice-aggregate-scaled scale-requires entries-requires entries-requires-2 same-length returns same-length-2 returns-2)
+numbers-spec = tie.close (tie.spec add-if1 array-borrow-prefix-buffer slice-aggregate-scaled to-units-requires entries-requires entries-requires-2 same-length returns same-length-2 returns-2)

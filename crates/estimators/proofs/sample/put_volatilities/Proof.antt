@@ -1,11 +1,11 @@
 -- `estimators::sample::put_volatilities` meets its contract. The invariant: every number passed is the square root of its variance.
 use Prim.Native.Nat.{_+_, _-_, _*_, _≤_}
 use native.Mathlib.Omega.{arith}
+use borrow.Author.Needs.{needs}
 use Rattle.leaves.proofs.Cells.{row}
 use Rattle.leaves.proofs.Invariants.{Filled, filled-more, filled-whole, filled-none}
 use Rattle.matrix.specs.Matrix.{at}
 use Rattle.estimators.specs.Sample.{volatility}
-use borrow.Author.Needs.{needs}
 use Rattle.estimators.proofs.sample.put_volatilities.Statement.{statement}
 use Rattle.estimators.proofs.sample.put_volatilities.Tie as tie
 

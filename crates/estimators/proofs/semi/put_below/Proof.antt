@@ -1,9 +1,7 @@
 -- `estimators::semi::put_below` meets its contract: the rows that are formed are the shortfalls.
-use mathlib.Core.Path.{_∙_}
+use borrow.Author.Needs.{needs}
 use Rattle.matrix.specs.Matrix.{at}
 use Rattle.estimators.proofs.Grams.{below-over}
-use borrow.Author.Needs.{needs}
-use Rattle.matrix.proofs.OfStored.{rows-long}
 use Rattle.estimators.proofs.semi.put_below.Statement.{statement}
 use Rattle.estimators.proofs.semi.put_below.Tie as tie
 
@@ -29,7 +27,7 @@ returns : tie.Need-returns
 returns c =
     let g = c .before .before .before .before .before .before .before .gram in
     let a = c .before .before .before .before .before .before .before .before .before .before .before .before .before .before .args in
-    λ f e. c .before .before .divide .ensures ∙ below-over (a .periods) (a .n) _ (a .degrees) (at (a .r .now) (a .n)) f (rows-long _ _ _ (g .ensures)) (c .before .before .before .before .nearest-u64-to-f64 .ensures) e (g .ensures)
+    λ f e. below-over (a .periods) (a .n) (a .degrees) (at (a .r .now) (a .n)) f (c .before .before .before .before .nearest-u64-to-f64 .ensures) e (g .ensures) (c .before .before .divide .ensures)
 
 pub put-below-spec : {M : Type 1} → statement M
 put-below-spec = tie.close (tie.spec slice-aggregate-gram slice-aggregate-gram-2 gram-requires nearest-u64-to-f64-requires divide-requires same-length returns)

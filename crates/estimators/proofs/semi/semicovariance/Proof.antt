@@ -1,8 +1,8 @@
 -- `estimators::semi::semicovariance` meets its contract: below the means.
+use borrow.Author.Needs.{needs}
 use Rattle.matrix.specs.Matrix.{at}
 use Rattle.estimators.specs.Sample.{mean}
 use Rattle.estimators.specs.Semi.{semicovariance}
-use borrow.Author.Needs.{needs}
 use Rattle.estimators.proofs.Lent.{lent}
 use Rattle.estimators.proofs.semi.semicovariance.Statement.{statement}
 use Rattle.estimators.proofs.semi.semicovariance.Tie as tie

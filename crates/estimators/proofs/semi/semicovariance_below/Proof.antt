@@ -2,9 +2,9 @@
 use mathlib.Core.Path.{ap, _∙_}
 use Prim.Native.Nat.{ℕ}
 use lib.Seq.{length-take-le}
+use borrow.Author.Needs.{needs}
 use Rattle.leaves.specs.Loops.{tab}
 use Rattle.estimators.specs.Semi.{semicovarianceBelow}
-use borrow.Author.Needs.{needs}
 use Rattle.estimators.proofs.Lent.{lent}
 use Rattle.estimators.proofs.semi.semicovariance_below.Statement.{statement}
 use Rattle.estimators.proofs.semi.semicovariance_below.Tie as tie

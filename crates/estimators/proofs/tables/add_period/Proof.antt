@@ -1,8 +1,8 @@
 -- `estimators::tables::add_period` meets its contract: the row that is added is the period's.
 use mathlib.Core.Path.{_∙_}
+use borrow.Author.Needs.{needs}
 use Rattle.matrix.specs.Matrix.{at}
 use Rattle.estimators.proofs.Sums.{period-added}
-use borrow.Author.Needs.{needs}
 use Rattle.estimators.proofs.Lent.{lent}
 use Rattle.estimators.proofs.tables.add_period.Statement.{statement}
 use Rattle.estimators.proofs.tables.add_period.Tie as tie

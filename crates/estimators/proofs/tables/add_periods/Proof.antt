@@ -1,10 +1,10 @@
 -- `estimators::tables::add_periods` meets its contract: the rows that are added are the two periods'.
 use mathlib.Core.Path.{_∙_}
 use native.Mathlib.Omega.{arith}
-use Rattle.matrix.specs.Matrix.{at}
-use Rattle.estimators.proofs.Sums.{periods-added}
 use borrow.Author.Needs.{needs}
 use Rattle.leaves.proofs.Lists.{tab-long}
+use Rattle.matrix.specs.Matrix.{at}
+use Rattle.estimators.proofs.Sums.{periods-added}
 use Rattle.estimators.proofs.Lent.{lent}
 use Rattle.estimators.proofs.tables.add_periods.Statement.{statement}
 use Rattle.estimators.proofs.tables.add_periods.Tie as tie

@@ -1,6 +1,6 @@
 -- `estimators::tables::add_terms` meets its contract: each arm adds what `joined` says of its case.
-use Rattle.estimators.specs.Rows.{joined}
 use borrow.Author.Needs.{needs}
+use Rattle.estimators.specs.Rows.{joined}
 use Rattle.estimators.proofs.tables.add_terms.Statement.{statement}
 use Rattle.estimators.proofs.tables.add_terms.Tie as tie
 

@@ -2,9 +2,9 @@
 use Prim.Native.Nat.{_+_, _*_, _<_}
 use native.Mathlib.Omega.{arith}
 use lib.ListN.{length}
+use borrow.Author.Needs.{needs}
 use Rattle.leaves.proofs.Cells.{row}
 use Rattle.estimators.specs.Rows as Rows
-use borrow.Author.Needs.{needs}
 use Rattle.estimators.proofs.tables.factor.Statement.{statement}
 use Rattle.estimators.proofs.tables.factor.Tie as tie
 

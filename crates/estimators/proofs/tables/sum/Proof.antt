@@ -1,4 +1,4 @@
--- `estimators::tables::sum` meets its contract. The invariant: the table has the sums of the periods passed, of which one may be left over.
+-- `estimators::tables::sum` meets its contract. The invariant: the table has the sums of the periods passed. One period may be left over after the pairs.
 use mathlib.Core.Path.{_≡_, _∙_}
 use mathlib.Core.List.{List}
 use Prim.Native.Nat.{ℕ, _*_, _-_, _≤_}

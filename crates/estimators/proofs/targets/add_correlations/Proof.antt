@@ -2,21 +2,21 @@
 use mathlib.Core.Path.{_≡_}
 use Prim.Native.Nat.{_+_, _-_, _*_, _≤_}
 use native.Mathlib.Omega.{arith}
+use borrow.Author.Needs.{needs}
 use Rattle.leaves.specs.Loops.{nth}
 use Rattle.leaves.proofs.Invariants.{loop-turn, loop-start, at-end}
 use Rattle.leaves.proofs.Cells.{row}
 use Rattle.matrix.specs.Matrix.{at, sumRow}
 use Rattle.estimators.specs.Sample.{correlationBy}
 use Rattle.estimators.specs.LedoitWolf.{apart}
-use borrow.Author.Needs.{needs}
 use Rattle.estimators.proofs.targets.add_correlations.Statement.{statement}
 use Rattle.estimators.proofs.targets.add_correlations.Tie as tie
 
 abbrev Inv-loop : tie.InvT-loop
-Inv-loop s sd n i sum base t₀ j₀ t j = (j ≤ n) × (t ≡ sumRow j apart (correlationBy (nth sd) (at s n)) i sum)
+Inv-loop s volatilities n i sum base t₀ j₀ t j = (j ≤ n) × (t ≡ sumRow j apart (correlationBy (nth volatilities) (at s n)) i sum)
 
 abbrev μ-loop : tie.MeasureT-loop
-μ-loop s sd n i sum base t₀ j₀ t j = n - j
+μ-loop s volatilities n i sum base t₀ j₀ t j = n - j
 
 -- row i lies within the table
 fits : (s : tie.Start Inv-loop μ-loop) → s .args .i * s .args .n + s .args .n ≤ s .args .n * s .args .n
@@ -62,7 +62,7 @@ loop-again : tie.Need-loop-again Inv-loop μ-loop
 loop-again c = (omega arith, loop-turn _ _ _ _ _ (c .before .before .before .before .before .loop .inv .1) (c .add-apart .ensures))
 
 returns : tie.Need-returns Inv-loop μ-loop
-returns c = let a = c .before .before .before .before .args in let f = correlationBy (nth (a .sd .now)) (at (a .s .now) (a .n)) in at-end (λ k. sumRow k apart f (a .i) (a .sum)) _ _ _ (c .before .loop .inv .1) (c .before .loop .inv .0) (c .loop-test .left)
+returns c = let a = c .before .before .before .before .args in let f = correlationBy (nth (a .volatilities .now)) (at (a .s .now) (a .n)) in at-end (λ k. sumRow k apart f (a .i) (a .sum)) _ _ _ (c .before .loop .inv .1) (c .before .loop .inv .0) (c .loop-test .left)
 
 pub add-correlations-spec : {M : Type 1} → statement M
 add-correlations-spec = tie.close (tie.spec Inv-loop μ-loop mul-base loop-holds add-add-apart mul-add-apart shared-slice-read-add-apart mul-add-apart-2 shared-slice-read-add-apart-2 mul-add-apart-3 shared-slice-read-add-apart-3 add-apart-requires add-j loop-less loop-again returns)

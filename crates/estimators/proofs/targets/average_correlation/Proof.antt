@@ -5,6 +5,7 @@ use Prim.Native.Nat.{ℕ, _≤_, _-_, _*_}
 use native.Mathlib.Nat.{mul-le-mul}
 use native.Mathlib.Omega.{arith}
 use lib.Ieee.{Float, ofBits}
+use borrow.Author.Needs.{needs}
 use Rattle.leaves.specs.Numbers.{_⊘_, count, zero⁺}
 use Rattle.leaves.specs.Loops.{loop, tab, nth}
 use Rattle.leaves.proofs.Invariants.{loop-turn, loop-end, loop-start}
@@ -14,24 +15,23 @@ use Rattle.matrix.proofs.SumOver.{sum-over-ext}
 use Rattle.estimators.specs.Sample.{volatility, correlationBy, correlation}
 use Rattle.estimators.specs.LedoitWolf.{apart, averageCorrelation}
 use Rattle.estimators.proofs.Samples.{correlation-stored}
-use borrow.Author.Needs.{needs}
 use Rattle.estimators.proofs.Lent.{lent}
 use Rattle.estimators.proofs.targets.average_correlation.Statement.{statement}
 use Rattle.estimators.proofs.targets.average_correlation.Tie as tie
 
-average : (n : ℕ) (s : Matrix) {sd : List Float} {t k : Float} → sd ≡ tab n (volatility s) → t ≡ loop n (sumRow n apart (correlationBy (nth sd) s)) zero⁺ → k ≡ count (n * (n - 1)) → t ⊘ k ≡ averageCorrelation n s
+average : (n : ℕ) (s : Matrix) {volatilities : List Float} {t k : Float} → volatilities ≡ tab n (volatility s) → t ≡ loop n (sumRow n apart (correlationBy (nth volatilities) s)) zero⁺ → k ≡ count (n * (n - 1)) → t ⊘ k ≡ averageCorrelation n s
 unfolding averageCorrelation sumOver
-average n s {sd} ed et ek = λ u.
-    (et ∙ sum-over-ext n apart (correlationBy (nth sd) s) (correlation s) zero⁺ (correlation-stored n s ed)) u ⊘ ek u
+average n s {volatilities} ed et ek = λ u.
+    (et ∙ sum-over-ext n apart (correlationBy (nth volatilities) s) (correlation s) zero⁺ (correlation-stored n s ed)) u ⊘ ek u
 
 room : (n : ℕ) → n ≤ maxSide → n * (n - 1) ≤ maxSide * maxSide
 room n h = let less : n - 1 ≤ maxSide = omega arith in mul-le-mul h less
 
 abbrev Inv-loop : tie.InvT-loop
-Inv-loop s sd n t₀ i₀ t i = (i ≤ n) × (t ≡ loop i (sumRow n apart (correlationBy (nth sd) (at s n))) zero⁺)
+Inv-loop s volatilities n t₀ i₀ t i = (i ≤ n) × (t ≡ loop i (sumRow n apart (correlationBy (nth volatilities) (at s n))) zero⁺)
 
 abbrev μ-loop : tie.MeasureT-loop
-μ-loop s sd n t₀ i₀ t i = n - i
+μ-loop s volatilities n t₀ i₀ t i = n - i
 
 loop-holds : tie.Need-loop-holds Inv-loop μ-loop
 unfolding ofBits

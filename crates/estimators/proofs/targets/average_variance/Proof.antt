@@ -1,7 +1,7 @@
 -- `estimators::targets::average_variance` meets its contract: what its two calls ensure, divided.
+use borrow.Author.Needs.{needs}
 use Rattle.leaves.specs.Numbers.{_⊘_}
 use Rattle.estimators.specs.LedoitWolf.{averageVariance}
-use borrow.Author.Needs.{needs}
 use Rattle.estimators.proofs.targets.average_variance.Statement.{statement}
 use Rattle.estimators.proofs.targets.average_variance.Tie as tie
 

@@ -7,6 +7,7 @@ use native.Mathlib.Omega.{arith}
 use lib.Dec.{eqb}
 use lib.ListN.{length}
 use lib.Ieee.{Float}
+use borrow.Author.Needs.{needs}
 use Rattle.leaves.specs.Numbers.{_⊗_}
 use Rattle.leaves.specs.Loops.{tab, nth}
 use Rattle.leaves.proofs.Loops.{tab-ext}
@@ -14,27 +15,26 @@ use Rattle.leaves.proofs.Cells.{row}
 use Rattle.leaves.proofs.Lists.{nth-stored, tab-long}
 use Rattle.matrix.specs.Matrix.{Matrix, at}
 use Rattle.matrix.proofs.ByRows.{passed, passed-none, passed-all, row-long, passed-row}
+use Rattle.matrix.proofs.OfStored.{rows-long}
 use Rattle.estimators.specs.Sample.{volatility}
 use Rattle.estimators.specs.LedoitWolf.{averageCorrelation, constantCorrelation}
-use borrow.Author.Needs.{needs}
-use Rattle.matrix.proofs.OfStored.{rows-long}
 use Rattle.estimators.proofs.targets.put_constant_correlation.Statement.{statement}
 use Rattle.estimators.proofs.targets.put_constant_correlation.Tie as tie
 
 -- a row, by the numbers that the code has
-row-is : (n i m : ℕ) (s : Matrix) {r v : Float} {sd ys : List Float} → i < n → m ≡ n → r ≡ averageCorrelation n s → v ≡ s i i → sd ≡ tab n (volatility s)
-    → ys ≡ tab m (λ j. cond (eqb i j) v (r ⊗ nth sd i ⊗ nth sd j)) → ys ≡ tab n (constantCorrelation n s i)
+row-is : (n i m : ℕ) (s : Matrix) {r v : Float} {volatilities ys : List Float} → i < n → m ≡ n → r ≡ averageCorrelation n s → v ≡ s i i → volatilities ≡ tab n (volatility s)
+    → ys ≡ tab m (λ j. cond (eqb i j) v (r ⊗ nth volatilities i ⊗ nth volatilities j)) → ys ≡ tab n (constantCorrelation n s i)
 unfolding constantCorrelation
-row-is n i m s {r} {v} {sd} hi em er ev ed e =
-    e ∙ (λ t. tab (em t) (λ j. cond (eqb i j) (ev t) (er t ⊗ nth sd i ⊗ nth sd j)))
+row-is n i m s {r} {v} {volatilities} hi em er ev ed e =
+    e ∙ (λ t. tab (em t) (λ j. cond (eqb i j) (ev t) (er t ⊗ nth volatilities i ⊗ nth volatilities j)))
     ∙ tab-ext _ (constantCorrelation n s i) n
     (λ j hj t. cond (eqb i j) (s i i) (averageCorrelation n s ⊗ nth-stored n (volatility s) ed i hi t ⊗ nth-stored n (volatility s) ed j hj t))
 
 abbrev Inv-loop : tie.InvT-loop
-Inv-loop s r sd n out₀ i₀ out i = (length out ≡ n * n) × (out ≡ passed n i (constantCorrelation n (at s n)) out₀)
+Inv-loop s r volatilities n out₀ i₀ out i = (length out ≡ n * n) × (out ≡ passed n i (constantCorrelation n (at s n)) out₀)
 
 abbrev μ-loop : tie.MeasureT-loop
-μ-loop s r sd n out₀ i₀ out i = n - i
+μ-loop s r volatilities n out₀ i₀ out i = n - i
 
 -- row i lies within the table
 fits : (c : tie.In-loop Inv-loop μ-loop) → let n = c .before .before .before .before .before .args .n in c .before .loop .i * n + n ≤ n * n

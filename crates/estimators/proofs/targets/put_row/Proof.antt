@@ -5,19 +5,19 @@ use Prim.Native.Nat.{_-_}
 use native.Mathlib.Omega.{arith}
 use lib.ListN.{length, set}
 use lib.Ieee.{Float}
+use borrow.Author.Needs.{needs}
 use Rattle.leaves.specs.Numbers.{_⊗_}
 use Rattle.leaves.specs.Loops.{nth}
 use Rattle.leaves.proofs.Invariants.{Filled, filled-more, filled-whole, filled-none}
 use Rattle.leaves.proofs.Lists.{set-tab}
-use borrow.Author.Needs.{needs}
 use Rattle.estimators.proofs.targets.put_row.Statement.{statement}
 use Rattle.estimators.proofs.targets.put_row.Tie as tie
 
 abbrev Inv-loop : tie.InvT-loop
-Inv-loop r sd i variance out₀ scale j₀ out j = Filled (λ j. r ⊗ nth sd i ⊗ nth sd j) j (length out₀) out₀ out
+Inv-loop r volatilities i variance out₀ scale j₀ out j = Filled (λ j. r ⊗ nth volatilities i ⊗ nth volatilities j) j (length out₀) out₀ out
 
 abbrev μ-loop : tie.MeasureT-loop
-μ-loop r sd i variance out₀ scale j₀ out j = length out₀ - j
+μ-loop r volatilities i variance out₀ scale j₀ out j = length out₀ - j
 
 mul-scale : tie.Need-mul-scale Inv-loop μ-loop
 mul-scale c = search needs

@@ -1,8 +1,8 @@
 -- `estimators::validate::bad_regularization` meets its contract, by the cases of the setting and of the first test.
 use mathlib.Core.Logic.{⊎-elim}
 use lib.Ieee.{ofBits}
-use Rattle.estimators.specs.Order.{badRegularization}
 use borrow.Author.Needs.{needs}
+use Rattle.estimators.specs.Order.{badRegularization}
 use Rattle.estimators.proofs.validate.bad_regularization.Statement.{statement}
 use Rattle.estimators.proofs.validate.bad_regularization.Tie as tie
 

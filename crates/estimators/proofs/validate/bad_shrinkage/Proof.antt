@@ -1,8 +1,8 @@
 -- `estimators::validate::bad_shrinkage` meets its contract, by the cases of the setting and of the first test.
 use mathlib.Core.Logic.{⊎-elim}
 use lib.Ieee.{ofBits}
-use Rattle.estimators.specs.Order.{badShrinkage}
 use borrow.Author.Needs.{needs}
+use Rattle.estimators.specs.Order.{badShrinkage}
 use Rattle.estimators.proofs.validate.bad_shrinkage.Statement.{statement}
 use Rattle.estimators.proofs.validate.bad_shrinkage.Tie as tie
 

@@ -1,6 +1,6 @@
 -- `estimators::validate::bad_sweep_limit` meets its contract: what `when` ensures.
-use Rattle.estimators.specs.Order.{sweepLimit}
 use borrow.Author.Needs.{needs}
+use Rattle.estimators.specs.Order.{badSweepLimit}
 use Rattle.estimators.proofs.validate.bad_sweep_limit.Statement.{statement}
 use Rattle.estimators.proofs.validate.bad_sweep_limit.Tie as tie
 
@@ -8,7 +8,7 @@ when-requires : tie.Need-when-requires
 when-requires c κs = search needs
 
 returns : tie.Need-returns
-unfolding sweepLimit
+unfolding badSweepLimit
 returns c = c .when .ensures
 
 pub bad-sweep-limit-spec : {M : Type 1} → statement M

@@ -3,10 +3,10 @@ use Prim.Native.Nat.{_-_}
 use native.Mathlib.Omega.{arith}
 use lib.ListN.{length}
 use lib.Ieee.{nan}
+use borrow.Author.Needs.{needs}
 use Rattle.leaves.specs.Numbers.{_⊗_}
 use Rattle.leaves.specs.Loops.{nth}
 use Rattle.leaves.proofs.Invariants.{Filled, filled-here, filled-more, filled-whole, filled-none}
-use borrow.Author.Needs.{needs}
 use Rattle.estimators.proofs.vectors.times.Statement.{statement}
 use Rattle.estimators.proofs.vectors.times.Tie as tie
 

@@ -1,10 +1,10 @@
 -- `estimators::weighted::covariance_in` meets its contract: the rows that are formed are the deviations times the roots.
 use mathlib.Core.Path.{ap, _∙_}
 use Prim.Native.Nat.{ℕ}
+use borrow.Author.Needs.{needs}
 use Rattle.matrix.specs.Matrix.{at}
 use Rattle.estimators.specs.Weighted.{weights}
 use Rattle.estimators.proofs.Grams.{weighted-alike}
-use borrow.Author.Needs.{needs}
 use Rattle.estimators.proofs.weighted.covariance_in.Statement.{statement}
 use Rattle.estimators.proofs.weighted.covariance_in.Tie as tie
 

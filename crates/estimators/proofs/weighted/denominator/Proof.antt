@@ -2,10 +2,10 @@
 use mathlib.Core.Path.{_≡_}
 use Prim.Native.Nat.{ℕ, _-_}
 use lib.Ieee.{Float, neg, ofBits}
+use borrow.Author.Needs.{needs}
 use Rattle.leaves.specs.Numbers.{_⊗_, _⊘_, count, two}
 use Rattle.leaves.specs.Exp.{exp, expM1}
 use Rattle.estimators.specs.Weighted as Weighted
-use borrow.Author.Needs.{needs}
 use Rattle.estimators.proofs.weighted.denominator.Statement.{statement}
 use Rattle.estimators.proofs.weighted.denominator.Tie as tie
 

@@ -4,10 +4,10 @@ use mathlib.Core.List.{List}
 use Prim.Native.Nat.{ℕ}
 use lib.Seq.{length-take-le}
 use lib.Ieee.{Float}
+use borrow.Author.Needs.{needs}
 use Rattle.leaves.specs.Loops.{tab}
 use Rattle.matrix.specs.Matrix.{at}
 use Rattle.estimators.specs.Weighted.{weights, weightedMean}
-use borrow.Author.Needs.{needs}
 use Rattle.estimators.proofs.Lent.{lent}
 use Rattle.estimators.proofs.weighted.mean_of.Statement.{statement}
 use Rattle.estimators.proofs.weighted.mean_of.Tie as tie

@@ -2,10 +2,10 @@
 use mathlib.Core.Path.{_≡_, sym, _∙_}
 use lib.ListN.{length}
 use lib.Seq.{length-take-le}
-use Rattle.matrix.specs.Matrix.{at}
-use Rattle.estimators.proofs.InUnits.{mean-back}
 use borrow.Author.Needs.{needs}
 use Rattle.leaves.proofs.Lists.{tab-long}
+use Rattle.matrix.specs.Matrix.{at}
+use Rattle.estimators.proofs.WeightedMeans.{mean-back}
 use Rattle.estimators.proofs.Lent.{lent}
 use Rattle.estimators.proofs.weighted.means.Statement.{statement}
 use Rattle.estimators.proofs.weighted.means.Tie as tie
@@ -13,33 +13,33 @@ use Rattle.estimators.proofs.weighted.means.Tie as tie
 array-borrow-prefix-buffer : tie.Need-array-borrow-prefix-buffer
 array-borrow-prefix-buffer c = search needs
 
-slice-aggregate-powers : tie.Need-slice-aggregate-powers
-slice-aggregate-powers c = search lent
+slice-aggregate-exponents : tie.Need-slice-aggregate-exponents
+slice-aggregate-exponents c = search lent
 
-largest-requires : tie.Need-largest-requires
-largest-requires c κs = search needs
+amax-requires : tie.Need-amax-requires
+amax-requires c κs = search needs
 
 -- the slice of the largest returns is n long
-out-long : (c : tie.After-largest) → length (c .largest .last .1 .1 .1 .0) ≡ c .before .before .before .before .before .before .args .n
-out-long c = tab-long _ _ _ (c .largest .ensures)
+out-long : (c : tie.After-amax) → length (c .amax .last .1 .1 .1 .0) ≡ c .before .before .before .before .before .before .args .n
+out-long c = tab-long _ _ _ (c .amax .ensures)
 
 put-exponents-requires : tie.Need-put-exponents-requires
 put-exponents-requires c κs = out-long (c .before .before .before .before) ∙ sym (length-take-le _ _ (c .before .before .before .before .before .before .before .before .before .before .pre .1))
 
--- and so are the powers
-powers-long : (c : tie.After-put-exponents) → length (c .put-exponents .last .1 .0) ≡ c .before .before .before .before .before .before .before .before .before .before .before .args .n
-powers-long c = c .put-exponents .kept .1 .0 ∙ length-take-le _ _ (c .before .before .before .before .before .before .before .before .before .before .before .pre .1)
+-- and so are the exponents
+exponents-long : (c : tie.After-put-exponents) → length (c .put-exponents .last .1 .0) ≡ c .before .before .before .before .before .before .before .before .before .before .before .args .n
+exponents-long c = c .put-exponents .kept .1 .0 ∙ length-take-le _ _ (c .before .before .before .before .before .before .before .before .before .before .before .pre .1)
 
 put-means-requires : tie.Need-put-means-requires
 put-means-requires c κs =
     let h = c .before .before .before .before .before .before .before .before .before .before .before .before .before .before .pre in
     let p = c .before .before .before in
-    (h .0, h .1, powers-long p, p .put-exponents .ensures .1, h .2, out-long (c .before .before .before .before .before .before .before .before))
+    (h .0, h .1, exponents-long p, p .put-exponents .ensures .1, h .2, out-long (c .before .before .before .before .before .before .before .before))
 
-scale-requires : tie.Need-scale-requires
-scale-requires c κs =
+scale-back-requires : tie.Need-scale-back-requires
+scale-back-requires c κs =
     let p = c .before .before .before .before .before .before .before .before in
-    (powers-long p ∙ sym (tab-long _ _ _ (c .before .before .before .before .put-means .ensures)), p .put-exponents .ensures .1)
+    (exponents-long p ∙ sym (tab-long _ _ _ (c .before .before .before .before .put-means .ensures)), p .put-exponents .ensures .1)
 
 same-length : tie.Need-same-length
 same-length c = search needs
@@ -50,9 +50,9 @@ returns c =
     let h = c .before .before .before .before .before .before .before .before .before .before .before .before .before .before .before .before .before .before .before .before .before .before .before .pre in
     let p = c .before .before .before .before .before .before .before .before .before .before .before .before .put-exponents in
     let m = c .before .before .before .before .before .before .before .before .put-means in
-    let l = c .before .before .before .before .before .before .before .before .before .before .before .before .before .before .before .before .before .largest in
-    c .before .before .before .scale .ensures
+    let l = c .before .before .before .before .before .before .before .before .before .before .before .before .before .before .before .before .before .amax in
+    c .before .before .before .scale-back .ensures
     ∙ mean-back (a .periods) (a .n) (at (a .r .now) (a .n)) _ (a .weights .now) _ _ (length-take-le _ _ (h .1)) (tab-long _ _ _ (m .ensures)) (l .ensures) (p .ensures .0) (m .ensures)
 
 pub means-spec : {M : Type 1} → statement M
-means-spec = tie.close (tie.spec array-borrow-prefix-buffer slice-aggregate-powers largest-requires put-exponents-requires put-means-requires scale-requires same-length returns)
+means-spec = tie.close (tie.spec array-borrow-prefix-buffer slice-aggregate-exponents amax-requires put-exponents-requires put-means-requires scale-back-requires same-length returns)

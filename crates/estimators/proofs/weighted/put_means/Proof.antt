@@ -2,10 +2,10 @@
 use mathlib.Core.Path.{sym, _∙_}
 use native.Mathlib.Omega.{arith}
 use lib.Seq.{length-take-le}
-use Rattle.matrix.specs.Matrix.{at}
-use Rattle.estimators.proofs.InUnits.{mean-sums}
 use borrow.Author.Needs.{needs}
 use Rattle.leaves.proofs.Lists.{tab-long}
+use Rattle.matrix.specs.Matrix.{at}
+use Rattle.estimators.proofs.WeightedMeans.{mean-sums}
 use Rattle.estimators.proofs.Lent.{lent}
 use Rattle.estimators.proofs.weighted.put_means.Statement.{statement}
 use Rattle.estimators.proofs.weighted.put_means.Tie as tie

@@ -4,11 +4,11 @@ use Prim.Native.Nat.{ℕ, _-_}
 use native.Mathlib.Omega.{arith}
 use lib.ListN.{length}
 use lib.Ieee.{Float}
+use borrow.Author.Needs.{needs}
 use Rattle.leaves.specs.Numbers.{_⊗_, count}
 use Rattle.leaves.specs.Exp.{exp}
 use Rattle.leaves.proofs.Invariants.{Filled, filled-more, filled-whole, filled-none}
 use Rattle.estimators.specs.Weighted.{weights}
-use borrow.Author.Needs.{needs}
 use Rattle.estimators.proofs.weighted.put_weights.Statement.{statement}
 use Rattle.estimators.proofs.weighted.put_weights.Tie as tie
 

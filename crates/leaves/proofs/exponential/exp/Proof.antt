@@ -5,18 +5,16 @@ use mathlib.Core.Bool.{true, false}
 use lib.IntN.{ℤ}
 use lib.Signed.{mag}
 use lib.Ieee.{Float, nan, lt, le, neg, div, ofBits}
-use mir.Syntax.{w32}
-use mir.Val.{toZ, ofZ}
 use borrow.Author.Needs.{needs}
 use Rattle.leaves.specs.Numbers.{zero⁺, one}
 use Rattle.leaves.specs.Scaling.{pow2Scaled}
 use Rattle.leaves.specs.Exp.{minArgument, horner, nearestPower, reduced, exp}
-use Rattle.leaves.proofs.Ints.{back-i32}
+use Rattle.leaves.proofs.Ints.{back-i32, readBack}
 use Rattle.leaves.proofs.Sizes.{small-steps}
 use Rattle.leaves.proofs.exponential.exp.Statement.{statement}
 use Rattle.leaves.proofs.exponential.exp.Tie as tie
 
-found : (y : Float) (k : ℤ) → mag k < 2 ^ 31 → k ≡ nearestPower y → (p : Float) → p ≡ horner (reduced y (toZ w32 (ofZ w32 k))) 0 13 one → (r : Float) → r ≡ pow2Scaled p (toZ w32 (ofZ w32 k))
+found : (y : Float) (k : ℤ) → mag k < 2 ^ 31 → k ≡ nearestPower y → (p : Float) → p ≡ horner (reduced y (readBack k)) 0 13 one → (r : Float) → r ≡ pow2Scaled p (readBack k)
     → lt y minArgument ≡ false → le y zero⁺ ≡ true → r ≡ exp y
 unfolding exp
 found y k fk is-k p is-p r is-r a b = rw (a, b, is-r, is-p, back-i32 k fk, is-k)

@@ -14,8 +14,8 @@ use borrow.Author.Needs.{needs}
 use borrow.Author.Tests.{lt-ltb}
 use Rattle.leaves.specs.Inner.{Small}
 use Rattle.leaves.specs.Exp.{floor}
-use Rattle.leaves.proofs.Whole.{over, under, one-side, minus}
-use Rattle.leaves.proofs.Ints.{fits-i32}
+use Rattle.leaves.proofs.Whole.{posPart, negPart, one-side, minus}
+use Rattle.leaves.proofs.Ints.{fits-i32, readBack}
 use Rattle.leaves.proofs.Floors.{floor-less, floor-same, cut-in}
 use Rattle.leaves.proofs.exponential.floor.Statement.{statement}
 use Rattle.leaves.proofs.exponential.floor.Tie as tie
@@ -46,19 +46,19 @@ module _ (x : Float) (h : Small x) (z : ℤ) (is-z : z ≡ toSigned 63 x) where
   cast : SFits w32 (toZ w64 (ofZ w64 z))
   cast = rw z-64 z-32
 
-  read : toZ w32 (ofZ w32 (toZ w64 (ofZ w64 z))) ≡ toSigned 63 x
+  read : readBack (toZ w64 (ofZ w64 z)) ≡ toSigned 63 x
   read = rw (z-64, toZ-ofZ z-32) is-z
 
-  one-less : SFits w32 (toZ w32 (ofZ w32 (toZ w64 (ofZ w64 z))) -ℤ pos 1)
-  unfolding over under
+  one-less : SFits w32 (readBack (toZ w64 (ofZ w64 z)) -ℤ pos 1)
+  unfolding posPart negPart
   one-less =
       let d = toSigned 63 x -ℤ pos 1 in
       rw read (fits-i32 d (omega (arith, cut-in x h, minus (toSigned 63 x) (pos 1), one-side d)))
 
-  less : lt x (ofInt binary64 (toZ w32 (ofZ w32 (toZ w64 (ofZ w64 z))))) ≡ true → toZ w32 (ofZ w32 (toZ w32 (ofZ w32 (toZ w64 (ofZ w64 z))) -ℤ pos 1)) ≡ floor x
+  less : lt x (ofInt binary64 (readBack (toZ w64 (ofZ w64 z)))) ≡ true → readBack (readBack (toZ w64 (ofZ w64 z)) -ℤ pos 1) ≡ floor x
   less t = rw (toZ-ofZ one-less, read) (floor-less x h (rw read at t))
 
-  equal : lt x (ofInt binary64 (toZ w32 (ofZ w32 (toZ w64 (ofZ w64 z))))) ≡ false → toZ w32 (ofZ w32 (toZ w64 (ofZ w64 z))) ≡ floor x
+  equal : lt x (ofInt binary64 (readBack (toZ w64 (ofZ w64 z)))) ≡ false → readBack (toZ w64 (ofZ w64 z)) ≡ floor x
   equal t = read ∙ floor-same x h (rw read at t)
 
 truncating-f64-to-i64-requires : tie.Need-truncating-f64-to-i64-requires

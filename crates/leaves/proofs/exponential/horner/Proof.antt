@@ -4,15 +4,14 @@ use Prim.Native.Nat.{ℕ, zero, suc, _+_, _-_, _≤_, _<_}
 use native.Mathlib.Nat.{lt-irrefl}
 use native.Mathlib.Numerals.{sub-one}
 use native.Mathlib.Omega.{arith}
-use lib.IntN.{pos}
-use lib.Ieee.{Float, binary64, add, mul, div, ofInt, ofBits}
+use lib.Ieee.{Float, ofBits}
 use borrow.Author.Needs.{needs}
-use Rattle.leaves.specs.Numbers.{one}
+use Rattle.leaves.specs.Numbers.{_⊕_, _⊗_, _⊘_, count, one}
 use Rattle.leaves.specs.Exp.{horner}
 use Rattle.leaves.proofs.exponential.horner.Statement.{statement}
 use Rattle.leaves.proofs.exponential.horner.Tie as tie
 
-turn : (r : Float) (d k : ℕ) (p : Float) → 0 < k → horner r d (k - 1) (add binary64 one (div binary64 (mul binary64 r p) (ofInt binary64 (pos (k + d))))) ≡ horner r d k p
+turn : (r : Float) (d k : ℕ) (p : Float) → 0 < k → horner r d (k - 1) (one ⊕ r ⊗ p ⊘ count (k + d)) ≡ horner r d k p
 unfolding horner
 turn r d zero p h = absurd (lt-irrefl 0 h)
 turn r d (suc n) p h = rw sub-one

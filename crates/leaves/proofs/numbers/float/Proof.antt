@@ -6,14 +6,15 @@ use lib.Ieee.{Float, nan, inf, fin, binary64, div, ofBits, isNan}
 use lib.Ieee.Bits.{nanBits-is, nanBits-above}
 use borrow.Author.Tests.{lt-ltb}
 use borrow.Author.Needs.{needs}
+use Rattle.leaves.specs.Numbers.{float}
 use Rattle.leaves.proofs.Zero.{no}
 use Rattle.leaves.proofs.IsNan.{pattern-number}
 use Rattle.leaves.proofs.numbers.float.Statement.{statement}
 use Rattle.leaves.proofs.numbers.float.Tie as tie
 
-nan-pattern : (n : ℕ) → 0x7FF0_0000_0000_0000 < n % 0x8000_0000_0000_0000 → nan ≡ ofBits binary64 n
+nan-pattern : (n : ℕ) → 0x7FF0_0000_0000_0000 < n % 0x8000_0000_0000_0000 → nan ≡ float n
 unfolding isNan
-nan-pattern n h = sym (is-nan (ofBits binary64 n) (sym (nanBits-is binary64 n) ∙ nanBits-above binary64 n ∙ lt-ltb _ _ h))
+nan-pattern n h = sym (is-nan (float n) (sym (nanBits-is binary64 n) ∙ nanBits-above binary64 n ∙ lt-ltb _ _ h))
   where
     is-nan : (x : Float) → isNan x ≡ true → x ≡ nan
     is-nan nan e = refl

@@ -2,14 +2,14 @@
 use mathlib.Core.Path.{_≡_, refl}
 use Prim.Native.Nat.{zero, suc}
 use mathlib.Core.Bool.{true, false}
-use lib.Ieee.{Float, nan, inf, fin, binary64, eq, lt, neg, div, ofBits}
-use Rattle.leaves.specs.Numbers.{signum, zero⁺, one}
+use lib.Ieee.{Float, nan, inf, fin, eq, lt, neg, div, ofBits}
+use Rattle.leaves.specs.Numbers.{_⊘_, signum, zero⁺, one}
 use Rattle.leaves.proofs.Zero.{no, other-is-not, not-below, is-below, is-above, zero-is-zero}
 use Rattle.leaves.proofs.numbers.signum.Statement.{statement}
 use Rattle.leaves.proofs.numbers.signum.Tie as tie
 
 -- at a zero
-minus-zero : (x : Float) → eq x zero⁺ ≡ true → lt (div binary64 one x) zero⁺ ≡ true → neg one ≡ signum x
+minus-zero : (x : Float) → eq x zero⁺ ≡ true → lt (one ⊘ x) zero⁺ ≡ true → neg one ≡ signum x
 unfolding eq lt div neg signum
 minus-zero nan h k = no h refl
 minus-zero (inf s) h k = no h refl
@@ -17,7 +17,7 @@ minus-zero (fin true zero e) h k = refl
 minus-zero (fin false zero e) h k = no k refl
 minus-zero (fin s (suc m) e) h k = no h (other-is-not s m e)
 
-plus-zero : (x : Float) → eq x zero⁺ ≡ true → lt (div binary64 one x) zero⁺ ≡ false → one ≡ signum x
+plus-zero : (x : Float) → eq x zero⁺ ≡ true → lt (one ⊘ x) zero⁺ ≡ false → one ≡ signum x
 unfolding eq lt div signum
 plus-zero nan h k = no h refl
 plus-zero (inf s) h k = no h refl

@@ -5,11 +5,11 @@ use native.Mathlib.Nat.{mul-le-mul-left, sub-le}
 use native.Mathlib.Omega.{arith}
 use mathlib.Core.Bool.{true, false}
 use lib.Dec.{T}
-use lib.IntN.{pos}
-use lib.Ieee.{Float, fin, binary64, fits, toBits, ofBits, ofInt}
+use lib.Ieee.{Float, fin, binary64, fits, toBits, ofBits}
 use lib.Ieee.Bits.{toBits-lt}
 use mir.Facts.{fits-below}
 use borrow.Author.Needs.{needs}
+use Rattle.leaves.specs.Numbers.{count}
 use Rattle.leaves.specs.Root.{sticky, sqrt}
 use Rattle.leaves.proofs.Zero.{no}
 use Rattle.leaves.proofs.IsNan.{above-number}
@@ -18,27 +18,27 @@ use Rattle.leaves.proofs.RootBits.{Positive, positive, positive-of, rad
 use Rattle.leaves.proofs.root.is_root.Statement.{statement}
 use Rattle.leaves.proofs.root.is_root.Tie as tie
 
--- by a value's bits: the exponent's field, the 53 digits, and the whole number whose root is taken
-abbrev field : Float → ℕ
-field x = toBits binary64 x / 2 ^ 52
+-- by a value's bits: those above the fraction, the 53 digits, and the whole number whose root is taken
+abbrev highBits : Float → ℕ
+highBits x = toBits binary64 x / 2 ^ 52
 
 abbrev digits : Float → ℕ
 digits x = toBits binary64 x % 2 ^ 52 + 2 ^ 52
 
-abbrev number : Float → ℕ
-number x = digits x * (2 - field x % 2)
+abbrev radicandOf : Float → ℕ
+radicandOf x = digits x * (2 - highBits x % 2)
 
 few : (a t : ℕ) → a < 2 ^ 52 → (a + 2 ^ 52) * (2 - t) ≤ 2 ^ 54 - 2
 few a t h = let m = mul-le-mul-left (a + 2 ^ 52) (sub-le 2 t) in omega arith
 
-n-in : {x : Float} → Positive x → 0 < field x → (2 ^ 52 ≤ number x) × (number x < 2 ^ 54)
+n-in : {x : Float} → Positive x → 0 < highBits x → (2 ^ 52 ≤ radicandOf x) × (radicandOf x < 2 ^ 54)
 n-in (positive m e r) h =
     let b = toBits binary64 (fin false (suc m) e) in
     let i = radicand-bits m e r b refl h in
     (omega arith, omega (arith, M-lt m e r))
 
-is-root : {x : Float} → Positive x → (y : Float) → fits binary64 y ≡ true → 0 < field x → field y ≡ (field x + 1023) / 2
-    → (2 ^ 52 ≤ digits y) × (digits y < 2 ^ 53) × (ofInt binary64 (pos (8 * digits y)) ≡ ofInt binary64 (pos (sticky (number x * 2 ^ 56)))) → y ≡ sqrt x
+is-root : {x : Float} → Positive x → (y : Float) → fits binary64 y ≡ true → 0 < highBits x → highBits y ≡ (highBits x + 1023) / 2
+    → (2 ^ 52 ≤ digits y) × (digits y < 2 ^ 53) × (count (8 * digits y) ≡ count (sticky (radicandOf x * 2 ^ 56))) → y ≡ sqrt x
 is-root (positive m e r) y t h f s = root-is m e r (toBits binary64 (fin false (suc m) e)) refl h (digits y) (s .0, s .1) (s .2) y (subst T (sym t) tt) (toBits binary64 y) refl f refl
 
 here : (c : tie.Start) → Positive (c .args .x)

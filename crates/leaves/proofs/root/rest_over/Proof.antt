@@ -2,8 +2,8 @@
 use native.Mathlib.Nat.{le-of-lt}
 use borrow.Author.Tests.{ltb-false}
 use mir.Facts.{fits-below}
-use Rattle.leaves.proofs.Digits.{product-fits, cross-fits, rest-is}
 use borrow.Author.Needs.{needs}
+use Rattle.leaves.proofs.Guessed.{product-fits, cross-fits, rest-is}
 use Rattle.leaves.proofs.root.rest_over.Statement.{statement}
 use Rattle.leaves.proofs.root.rest_over.Tie as tie
 

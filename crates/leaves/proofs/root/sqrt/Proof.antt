@@ -8,14 +8,14 @@ use lib.IntN.{ℤ, pos, _-ℤ_}
 use lib.Signed.{mag, shrZ}
 use lib.Ieee.{Float, nan, inf, fin, binary64, lt, div, ofBits, ofInt, toUnsigned, round}
 use mir.Syntax.{w32}
-use mir.Val.{SFits, toZ, ofZ}
+use mir.Val.{SFits}
 use mir.Facts.{toZ-ofZ}
 use borrow.Author.Needs.{needs}
-use Rattle.leaves.specs.Numbers.{zero⁺}
+use Rattle.leaves.specs.Numbers.{zero⁺, count}
 use Rattle.leaves.specs.Scaling.{pow2Scaled, binaryExponent}
 use Rattle.leaves.specs.Root.{sticky, halfExponent, radicand, sqrt}
-use Rattle.leaves.proofs.Whole.{over, under, one-side, minus}
-use Rattle.leaves.proofs.Ints.{fits-i32, back-i32}
+use Rattle.leaves.proofs.Whole.{posPart, negPart, one-side, minus}
+use Rattle.leaves.proofs.Ints.{fits-i32, back-i32, readBack}
 use Rattle.leaves.proofs.Laws.{Room}
 use Rattle.leaves.proofs.Zero.{no, zero-not-below, not-below, is-below, is-above}
 use Rattle.leaves.proofs.Sqrts.{halved, M, M-lt, radicand-is}
@@ -24,15 +24,12 @@ use Rattle.leaves.proofs.RootBits.{Positive, positive, positive-of}
 use Rattle.leaves.proofs.root.sqrt.Statement.{statement}
 use Rattle.leaves.proofs.root.sqrt.Tie as tie
 
--- what the machine reads back from a number's bits; half of b so, and the exponent of the first scaling
-abbrev rd : ℤ → ℤ
-rd z = toZ w32 (ofZ w32 z)
-
+-- half of b, and the exponent of the first scaling, as the machine reads them back
 abbrev halfOf : ℤ → ℤ
-halfOf b = rd (shrZ (rd b) 2)
+halfOf b = readBack (shrZ (readBack b) 2)
 
 abbrev firstOf : ℤ → ℤ
-firstOf b = rd (rd (pos 52 -ℤ halfOf b) -ℤ halfOf b)
+firstOf b = readBack (readBack (pos 52 -ℤ halfOf b) -ℤ halfOf b)
 
 -- ---- the values that the tests turn away
 negative : (x : Float) → lt x zero⁺ ≡ true → nan ≡ sqrt x
@@ -54,12 +51,12 @@ other (fin s zero e) h k = refl
 other (fin true (suc m) e) h k = no (is-below m e) h
 other (fin false (suc m) e) h k = no (is-above m e) k
 
-endless : (x : Float) → lt zero⁺ x ≡ true → lt x (inf false) ≡ false → x ≡ sqrt x
+infinite : (x : Float) → lt zero⁺ x ≡ true → lt x (inf false) ≡ false → x ≡ sqrt x
 unfolding lt sqrt
-endless nan h k = refl
-endless (inf true) h k = no h refl
-endless (inf false) h k = refl
-endless (fin s m e) h k = no refl k
+infinite nan h k = refl
+infinite (inf true) h k = no h refl
+infinite (inf false) h k = refl
+infinite (fin s m e) h k = no refl k
 
 -- ---- the steps
 module _ (m : ℕ) (e : ℤ) (p : Room (suc m) e) (b : ℤ) (fb : mag b < 2 ^ 31) (is-b : b ≡ binaryExponent (fin false (suc m) e)) where
@@ -69,7 +66,7 @@ module _ (m : ℕ) (e : ℤ) (p : Room (suc m) e) (b : ℤ) (fb : mag b < 2 ^ 31
   abbrev H : ℤ
   H = halfOf b
 
-  shr-is : shrZ (rd b) 2 ≡ h
+  shr-is : shrZ (readBack b) 2 ≡ h
   unfolding binaryExponent halfExponent
   shr-is = ap (λ (z : ℤ). shrZ z 2) (back-i32 b fb ∙ is-b)
 
@@ -77,23 +74,23 @@ module _ (m : ℕ) (e : ℤ) (p : Room (suc m) e) (b : ℤ) (fb : mag b < 2 ^ 31
   H-is = rw shr-is (toZ-ofZ (fits-i32 h (omega (arith, halved m e p))))
 
   fits-1 : SFits w32 (pos 52 -ℤ h)
-  unfolding over under
+  unfolding posPart negPart
   fits-1 = fits-i32 (pos 52 -ℤ h) (omega (arith, halved m e p, minus (pos 52) h, one-side (pos 52 -ℤ h)))
 
   fits-2 : SFits w32 (pos 52 -ℤ h -ℤ h)
-  unfolding over under
+  unfolding posPart negPart
   fits-2 =
       let z = pos 52 -ℤ h -ℤ h in
       fits-i32 z (omega (arith, halved m e p, minus (pos 52) h, minus (pos 52 -ℤ h) h, one-side z))
 
   fits-3 : SFits w32 (h -ℤ pos 55)
-  unfolding over under
+  unfolding posPart negPart
   fits-3 = fits-i32 (h -ℤ pos 55) (omega (arith, halved m e p, minus h (pos 55), one-side (h -ℤ pos 55)))
 
   sub-1 : SFits w32 (pos 52 -ℤ H)
   sub-1 = rw H-is fits-1
 
-  sub-2 : SFits w32 (rd (pos 52 -ℤ H) -ℤ H)
+  sub-2 : SFits w32 (readBack (pos 52 -ℤ H) -ℤ H)
   sub-2 = rw (H-is, toZ-ofZ fits-1) fits-2
 
   sub-3 : SFits w32 (H -ℤ pos 55)
@@ -113,7 +110,7 @@ module _ (m : ℕ) (e : ℤ) (p : Room (suc m) e) (b : ℤ) (fb : mag b < 2 ^ 31
       n-lt : n < 2 ^ 54
       n-lt = rw n-is (M-lt m e p)
 
-      module _ (w : Float) (is-w : w ≡ ofInt binary64 (pos (sticky (n * 2 ^ 56)))) (r : Float) (is-r : r ≡ pow2Scaled w (rd (H -ℤ pos 55))) where
+      module _ (w : Float) (is-w : w ≡ count (sticky (n * 2 ^ 56))) (r : Float) (is-r : r ≡ pow2Scaled w (readBack (H -ℤ pos 55))) where
         w-is : w ≡ round binary64 false (sticky (radicand (suc m) e)) 1
         unfolding ofInt
         w-is = is-w ∙ ap (λ (k : ℕ). round binary64 false (sticky k) 1) (ap (λ (k : ℕ). k * 2 ^ 56) n-is ∙ sym (radicand-is m e p))
@@ -125,7 +122,7 @@ module _ (m : ℕ) (e : ℤ) (p : Room (suc m) e) (b : ℤ) (fb : mag b < 2 ^ 31
 step-1 : {x : Float} → Positive x → (b : ℤ) → mag b < 2 ^ 31 → b ≡ binaryExponent x → SFits w32 (pos 52 -ℤ halfOf b)
 step-1 (positive m e p) b fb ib = sub-1 m e p b fb ib
 
-step-2 : {x : Float} → Positive x → (b : ℤ) → mag b < 2 ^ 31 → b ≡ binaryExponent x → SFits w32 (rd (pos 52 -ℤ halfOf b) -ℤ halfOf b)
+step-2 : {x : Float} → Positive x → (b : ℤ) → mag b < 2 ^ 31 → b ≡ binaryExponent x → SFits w32 (readBack (pos 52 -ℤ halfOf b) -ℤ halfOf b)
 step-2 (positive m e p) b fb ib = sub-2 m e p b fb ib
 
 step-3 : {x : Float} → Positive x → (b : ℤ) → mag b < 2 ^ 31 → b ≡ binaryExponent x → SFits w32 (halfOf b -ℤ pos 55)
@@ -140,8 +137,8 @@ step-n : {x : Float} → Positive x → (b : ℤ) → mag b < 2 ^ 31 → b ≡ b
 step-n (positive m e p) b fb ib y iy n i = n-lt m e p b fb ib y iy n i
 
 step-r : {x : Float} → Positive x → (b : ℤ) → mag b < 2 ^ 31 → b ≡ binaryExponent x → (y : Float) → y ≡ pow2Scaled x (firstOf b)
-    → (n : ℕ) → n ≡ toUnsigned 64 y → (w : Float) → w ≡ ofInt binary64 (pos (sticky (n * 2 ^ 56)))
-    → (r : Float) → r ≡ pow2Scaled w (rd (halfOf b -ℤ pos 55)) → r ≡ sqrt x
+    → (n : ℕ) → n ≡ toUnsigned 64 y → (w : Float) → w ≡ count (sticky (n * 2 ^ 56))
+    → (r : Float) → r ≡ pow2Scaled w (readBack (halfOf b -ℤ pos 55)) → r ≡ sqrt x
 step-r (positive m e p) b fb ib y iy n i w iw r ir = found m e p b fb ib y iy n i w iw r ir
 
 here : (c : tie.Then3) → Positive (c .before .before .before .args .x)
@@ -208,11 +205,11 @@ returns-3 c =
     let n = d .truncating-f64-to-u64 in
     let y = d .before .pow2-scaled in
     let b = d .before .before .binary-exponent in
-    step-r (here (d .before .before .before .before .before .before)) (b .result) (b .ok) (b .ensures) (y .result) (y .ensures) (n .result) (n .ensures) (w .result) (w .ensures ∙ ap (λ (k : ℕ). ofInt binary64 (pos k)) (s .ensures)) (r .result) (r .ensures)
+    step-r (here (d .before .before .before .before .before .before)) (b .result) (b .ok) (b .ensures) (y .result) (y .ensures) (n .result) (n .ensures) (w .result) (w .ensures ∙ ap (λ (k : ℕ). count k) (s .ensures)) (r .result) (r .ensures)
 
 returns-4 : tie.Need-returns-4
 unfolding ofBits div
-returns-4 c = endless (c .before .before .before .args .x) (c .before .if2 .taken) (c .if3 .left)
+returns-4 c = infinite (c .before .before .before .args .x) (c .before .if2 .taken) (c .if3 .left)
 
 returns-5 : tie.Need-returns-5
 unfolding ofBits

@@ -4,15 +4,15 @@ use Prim.Native.Nat.{ℕ, _-_, _^_, _<_}
 use mathlib.Core.Bool.{true, false}
 use lib.IntN.{ℤ, pos, _-ℤ_}
 use lib.Signed.{mag}
-use lib.Ieee.{Float, binary64, fits, mul, ne, eq, ofBits}
+use lib.Ieee.{Float, binary64, fits, ne, eq, ofBits}
 use mir.Syntax.{w32}
-use mir.Val.{SFits, toZ, ofZ}
+use mir.Val.{SFits}
 use mir.Facts.{toZ-ofZ}
 use borrow.Fn.Kinds.{In}
 use borrow.Fn.PlainCycle.{Measures, is, falls, and}
-use Rattle.leaves.specs.Numbers.{zero⁺}
+use Rattle.leaves.specs.Numbers.{_⊗_, zero⁺}
 use Rattle.leaves.specs.Scaling.{pow2, binaryExponent}
-use Rattle.leaves.proofs.Ints.{back-i32}
+use Rattle.leaves.proofs.Ints.{back-i32, readBack}
 use Rattle.leaves.proofs.IsNan.{itself-number}
 use Rattle.leaves.proofs.Exponent.{field, raised, at-nan, at-zero, x-shape, field-fits, last-fits, last}
 use Rattle.leaves.proofs.scaling.binary_exponent.Reads as binary-exponent
@@ -36,14 +36,14 @@ binary-exponent-below t =
 -- ---- where the field is 0
 module _ (x : Float) (fx : fits binary64 x ≡ true) (a : ne x x ≡ false) (b : eq x zero⁺ ≡ false) where
   module _ (h : field x ≡ 0) (p : Float) (is-pow : p ≡ pow2 (pos 64)) where
-    less : (t : ℕ) → 1 - field x ≡ t → 1 - field (mul binary64 x p) < t
+    less : (t : ℕ) → 1 - field x ≡ t → 1 - field (x ⊗ p) < t
     less t e = rw (is-pow, ← e) (raised (x-shape x fx a b) h .falls)
 
-    module _ (z : ℤ) (fz : mag z < 2 ^ 31) (is-b : z ≡ binaryExponent (mul binary64 x p)) where
-      next-fits : SFits w32 (toZ w32 (ofZ w32 z) -ℤ pos 64)
+    module _ (z : ℤ) (fz : mag z < 2 ^ 31) (is-b : z ≡ binaryExponent (x ⊗ p)) where
+      next-fits : SFits w32 (readBack z -ℤ pos 64)
       next-fits = rw (back-i32 z fz, is-b, is-pow) (raised (x-shape x fx a b) h .fits-less)
 
-      next : toZ w32 (ofZ w32 (toZ w32 (ofZ w32 z) -ℤ pos 64)) ≡ binaryExponent x
+      next : readBack (readBack z -ℤ pos 64) ≡ binaryExponent x
       next = rw (toZ-ofZ next-fits, back-i32 z fz, is-b, is-pow) (raised (x-shape x fx a b) h .less)
 
 -- ---- the needs

@@ -6,15 +6,16 @@ use native.Mathlib.Omega.{arith}
 use lib.IntN.{ℤ, pos, negsuc, _-ℤ_}
 use lib.Dec.{T}
 use lib.Signed.{leZ, mag}
-use lib.Ieee.{Float, binary64, mul}
+use lib.Ieee.{Float}
 use mir.Syntax.{w32}
 use mir.Val.{SFits, toZ, ofZ}
 use mir.Facts.{toZ-ofZ}
 use borrow.Fn.Kinds.{In}
 use borrow.Fn.PlainCycle.{Measures, is, falls, and}
+use Rattle.leaves.specs.Numbers.{_⊗_}
 use Rattle.leaves.specs.Scaling.{pow2, pow2Scaled, cut}
-use Rattle.leaves.proofs.Whole.{over, under, one-side, minus, same}
-use Rattle.leaves.proofs.Ints.{yes-le}
+use Rattle.leaves.proofs.Whole.{posPart, negPart, one-side, minus, same}
+use Rattle.leaves.proofs.Ints.{yes-le, readBack}
 use Rattle.leaves.proofs.ScaleSteps.{cut-range, scale-last, scale-step}
 use Rattle.leaves.proofs.CutRead.{cut-is, step-read, left-fits, left-read}
 use Rattle.leaves.proofs.scaling.pow2_scaled.Reads as pow2-scaled
@@ -26,7 +27,7 @@ use Rattle.leaves.proofs.scaling.+pow2_scaled.{statement}
 use Rattle.leaves.proofs.scaling.+pow2_scaled.Tie.{close}
 
 abbrev μ-pow2-scaled : Measures 0 pow2-scaled-kinds.ps ℕ
-μ-pow2-scaled κs a = over (a .1 .0) + under (a .1 .0)
+μ-pow2-scaled κs a = posPart (a .1 .0) + negPart (a .1 .0)
 
 abbrev pow2-scaled-at : ℕ → In 0 pow2-scaled-kinds.ps
 pow2-scaled-at t =
@@ -37,32 +38,32 @@ pow2-scaled-below t =
     and 0 pow2-scaled-kinds.ps (falls 0 pow2-scaled-kinds.ps _<_ μ-pow2-scaled t) pow2-scaled.Pre
 
 -- what is left of k is nearer to 0 than k, where k is cut
-nearer : (k : ℤ) → (cut k ≡ k → ⊥) → over (k -ℤ cut k) + under (k -ℤ cut k) < over k + under k
-nearer k h = lt-of-not-le (λ (g : over k + under k ≤ over (k -ℤ cut k) + under (k -ℤ cut k)). h (same (cut k) k (omega (arith, minus k (cut k), cut-range k, one-side (k -ℤ cut k)))))
+nearer : (k : ℤ) → (cut k ≡ k → ⊥) → posPart (k -ℤ cut k) + negPart (k -ℤ cut k) < posPart k + negPart k
+nearer k h = lt-of-not-le (λ (g : posPart k + negPart k ≤ posPart (k -ℤ cut k) + negPart (k -ℤ cut k)). h (same (cut k) k (omega (arith, minus k (cut k), cut-range k, one-side (k -ℤ cut k)))))
 
 -- What the code holds at each place: s is what `cut` gave, and y what `pow2` gave. The machine reads a number back from its bits.
-module _ (k s : ℤ) (fk : SFits w32 k) (fs : mag s < 2 ^ 31) (is-cut : s ≡ cut (toZ w32 (ofZ w32 k))) where
-  in-range : T (leZ (negsuc 1021) (toZ w32 (ofZ w32 s))) × T (leZ (toZ w32 (ofZ w32 s)) (pos 1023))
-  unfolding over under
+module _ (k s : ℤ) (fk : SFits w32 k) (fs : mag s < 2 ^ 31) (is-cut : s ≡ cut (readBack k)) where
+  in-range : T (leZ (negsuc 1021) (readBack s)) × T (leZ (readBack s) (pos 1023))
+  unfolding posPart negPart
   in-range = rw (step-read k s fk fs is-cut) (yes-le (negsuc 1021) (cut k) (omega (arith, cut-range k)), yes-le (cut k) (pos 1023) (omega (arith, cut-range k)))
 
   differ : (ofZ w32 s ≡ ofZ w32 k → ⊥) → cut k ≡ k → ⊥
   differ ne e = ne (ap (ofZ w32) (cut-is k s fk fs is-cut ∙ e))
 
-  less : (t : ℕ) → over k + under k ≡ t → (ofZ w32 s ≡ ofZ w32 k → ⊥)
-      → over (toZ w32 (ofZ w32 (toZ w32 (ofZ w32 k) -ℤ toZ w32 (ofZ w32 s)))) + under (toZ w32 (ofZ w32 (toZ w32 (ofZ w32 k) -ℤ toZ w32 (ofZ w32 s)))) < t
+  less : (t : ℕ) → posPart k + negPart k ≡ t → (ofZ w32 s ≡ ofZ w32 k → ⊥)
+      → posPart (readBack (readBack k -ℤ readBack s)) + negPart (readBack (readBack k -ℤ readBack s)) < t
   less t e ne = rw (left-read k s fk fs is-cut, ← e) (nearer k (differ ne))
 
-  module _ (x y : Float) (is-pow : y ≡ pow2 (toZ w32 (ofZ w32 s))) where
+  module _ (x y : Float) (is-pow : y ≡ pow2 (readBack s)) where
     y-is : y ≡ pow2 (cut k)
     y-is = is-pow ∙ ap pow2 (step-read k s fk fs is-cut)
 
-    last : ofZ w32 s ≡ ofZ w32 k → mul binary64 x y ≡ pow2Scaled x k
+    last : ofZ w32 s ≡ ofZ w32 k → x ⊗ y ≡ pow2Scaled x k
     last e =
         let same-k : cut k ≡ k = sym (step-read k s fk fs is-cut) ∙ ap (toZ w32) e ∙ toZ-ofZ fk in
         rw (y-is, same-k) (scale-last x k same-k)
 
-    next : (r : Float) → (ofZ w32 s ≡ ofZ w32 k → ⊥) → r ≡ pow2Scaled (mul binary64 x y) (toZ w32 (ofZ w32 (toZ w32 (ofZ w32 k) -ℤ toZ w32 (ofZ w32 s)))) → r ≡ pow2Scaled x k
+    next : (r : Float) → (ofZ w32 s ≡ ofZ w32 k → ⊥) → r ≡ pow2Scaled (x ⊗ y) (readBack (readBack k -ℤ readBack s)) → r ≡ pow2Scaled x k
     next r ne e = rw (e, left-read k s fk fs is-cut, y-is) (scale-step x k (differ ne))
 
 pow2-scaled-cut-requires : (t : ℕ) → pow2-scaled-lts.Need-cut-requires (cut-reads.Asked, cut-reads.Learnt, pow2-reads.Asked, pow2-reads.Learnt, pow2-scaled-below t, pow2-scaled.Post) (pow2-scaled-at t) pow2-scaled.Post

@@ -9,16 +9,17 @@ use lib.Ieee.{fin, binary64, ofBits, isNan}
 use lib.Ieee as Ieee
 use lib.Ieee.Bits.{nanBits-is}
 use mir.Syntax.{w32}
-use mir.Val.{SFits, toZ, ofZ}
+use mir.Val.{SFits}
 use mir.Facts.{toZ-ofZ, fits-of-lt}
 use borrow.Author.Tests.{lt-leb, ne-eqb}
+use Rattle.leaves.specs.Numbers.{float}
 use Rattle.leaves.specs.Scaling.{pow2}
-use Rattle.leaves.proofs.Whole.{over, under, one-side, plus, same}
-use Rattle.leaves.proofs.Ints.{le-yes, is-pos, minus-is, fits-i32}
+use Rattle.leaves.proofs.Whole.{posPart, negPart, one-side, plus, same}
+use Rattle.leaves.proofs.Ints.{le-yes, is-pos, minus-is, fits-i32, readBack}
 use Rattle.leaves.proofs.scaling.pow2.Statement.{statement}
 use Rattle.leaves.proofs.scaling.pow2.Tie as tie
 
-pow2-bits : (x : ℕ) (k : ℤ) → over k + 1022 ≡ x + under k → x ≤ 2045 → ofBits binary64 (suc x * 2 ^ 52 % 2 ^ 64) ≡ fin false 1 k
+pow2-bits : (x : ℕ) (k : ℤ) → posPart k + 1022 ≡ x + negPart k → x ≤ 2045 → float (suc x * 2 ^ 52 % 2 ^ 64) ≡ fin false 1 k
 unfolding ofBits
 pow2-bits x k h l =
     let b = suc x * 2 ^ 52 % 2 ^ 64 in
@@ -32,15 +33,15 @@ module _ (c : tie.Start) where
   abbrev z : ℤ
   z = c .args .k +ℤ pos 1023
 
-  range : (under z ≡ 0) × (over (c .args .k) + 1023 ≡ over z + under (c .args .k)) × (0 < over z) × (over z ≤ 2046)
-  unfolding over under
+  range : (negPart z ≡ 0) × (posPart (c .args .k) + 1023 ≡ posPart z + negPart (c .args .k)) × (0 < posPart z) × (posPart z ≤ 2046)
+  unfolding posPart negPart
   range = omega (arith, le-yes (negsuc 1021) (c .args .k) (c .pre .0), le-yes (c .args .k) (pos 1023) (c .pre .1), plus (c .args .k) (pos 1023), one-side z)
 
   in-i32 : SFits w32 z
   in-i32 = fits-i32 z (omega (arith, range))
 
   -- what the machine reads of the sum
-  read : toZ w32 (ofZ w32 (toZ w32 (ofZ w32 (c .args .k)) +ℤ pos 1023)) ≡ pos (over z)
+  read : readBack (readBack (c .args .k) +ℤ pos 1023) ≡ pos (posPart z)
   read = rw (toZ-ofZ (c .fits .k), toZ-ofZ in-i32) (is-pos z (range .0))
 
 add-result : tie.Need-add-result
@@ -49,10 +50,10 @@ add-result c = rw (toZ-ofZ (c .fits .k)) (in-i32 c)
 cast-result : tie.Need-cast-result
 cast-result c = rw (read c) (tt, fits-of-lt (omega (arith, range c)))
 
-value : (c : tie.Start) → ofBits binary64 (natAbs (toZ w32 (ofZ w32 (toZ w32 (ofZ w32 (c .args .k)) +ℤ pos 1023))) * 2 ^ 52 % 2 ^ 64) ≡ pow2 (c .args .k)
+value : (c : tie.Start) → ofBits binary64 (natAbs (readBack (readBack (c .args .k) +ℤ pos 1023)) * 2 ^ 52 % 2 ^ 64) ≡ pow2 (c .args .k)
 value c =
-    let n : suc (over (z c) - 1) ≡ over (z c) = omega (arith, range c) in
-    rw (read c, ← n) (pow2-bits (over (z c) - 1) (c .args .k) (omega (arith, range c)) (omega (arith, range c)))
+    let n : suc (posPart (z c) - 1) ≡ posPart (z c) = omega (arith, range c) in
+    rw (read c, ← n) (pow2-bits (posPart (z c) - 1) (c .args .k) (omega (arith, range c)) (omega (arith, range c)))
 
 float-from-bits-result : tie.Need-float-from-bits-result
 unfolding isNan

@@ -1,4 +1,4 @@
--- `leaves::sums::amax` meets its contract. The invariant: the largest of the numbers passed.
+-- `leaves::sums::amax` meets its contract. The invariant: the largest size of the numbers passed.
 use mathlib.Core.Path.{_≡_}
 use Prim.Native.Nat.{_≤_, _-_}
 use native.Mathlib.Omega.{arith}

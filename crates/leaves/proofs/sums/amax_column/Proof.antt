@@ -1,17 +1,17 @@
 -- `leaves::sums::amax_column` meets its contract. The invariant: the largest size of the rows passed.
 use mathlib.Core.Path.{_≡_, ap, _∙_}
-use Prim.Native.Nat.{ℕ, _≤_, _-_, _+_, _*_}
+use Prim.Native.Nat.{ℕ, _≤_, _-_}
 use native.Mathlib.Omega.{arith}
 use borrow.Author.Needs.{needs}
 use lib.Ieee.{Float, ofBits}
-use Rattle.leaves.specs.Loops.{amaxTo, nth}
+use Rattle.leaves.specs.Loops.{amaxTo, column}
 use Rattle.leaves.proofs.Invariants.{amax-none, amax-turn, at-end}
 use Rattle.leaves.proofs.Cells.{column-in}
 use Rattle.leaves.proofs.sums.amax_column.Statement.{statement}
 use Rattle.leaves.proofs.sums.amax_column.Tie as tie
 
 abbrev Inv-loop : tie.InvT-loop
-Inv-loop xs n j rows m₀ t₀ m t = (t ≤ rows) × (m ≡ amaxTo t (λ k. nth xs (k * n + j)))
+Inv-loop xs n j rows m₀ t₀ m t = (t ≤ rows) × (m ≡ amaxTo t (column xs n j))
 
 abbrev μ-loop : tie.MeasureT-loop
 μ-loop xs n j rows m₀ t₀ m t = rows - t
@@ -53,7 +53,7 @@ loop-again c = (omega arith, amax-turn _ _ _ _ _ (c .before .before .before .bef
 returns : tie.Need-returns Inv-loop μ-loop
 returns c =
     let a = c .before .before .before .before .args in
-    let amax : ℕ → Float = λ k. amaxTo k (λ t. nth (a .xs .now) (t * a .n + a .j)) in
+    let amax : ℕ → Float = λ k. amaxTo k (column (a .xs .now) (a .n) (a .j)) in
     at-end amax _ _ _ (c .before .loop .inv .1) (c .before .loop .inv .0) (c .loop-test .left) ∙ ap amax (c .before .before .column-length .ensures)
 
 pub amax-column-spec : {M : Type 1} → statement M

@@ -1,17 +1,17 @@
 -- `leaves::sums::sum_column` meets its contract. The invariant: the sum of the rows passed.
 use mathlib.Core.Path.{_≡_, refl, ap, _∙_}
-use Prim.Native.Nat.{ℕ, _≤_, _-_, _+_, _*_}
+use Prim.Native.Nat.{ℕ, _≤_, _-_}
 use native.Mathlib.Omega.{arith}
 use borrow.Author.Needs.{needs}
 use lib.Ieee.{Float, ofBits}
-use Rattle.leaves.specs.Loops.{sumTo, nth}
+use Rattle.leaves.specs.Loops.{sumTo, column}
 use Rattle.leaves.proofs.Invariants.{sum-none, sum-turn, at-end}
 use Rattle.leaves.proofs.Cells.{column-in}
 use Rattle.leaves.proofs.sums.sum_column.Statement.{statement}
 use Rattle.leaves.proofs.sums.sum_column.Tie as tie
 
 abbrev Inv-loop : tie.InvT-loop
-Inv-loop xs n j rows s₀ t₀ s t = (t ≤ rows) × (s ≡ sumTo t (λ k. nth xs (k * n + j)))
+Inv-loop xs n j rows s₀ t₀ s t = (t ≤ rows) × (s ≡ sumTo t (column xs n j))
 
 abbrev μ-loop : tie.MeasureT-loop
 μ-loop xs n j rows s₀ t₀ s t = rows - t
@@ -47,7 +47,7 @@ loop-again c = (omega arith, sum-turn _ _ _ _ (c .before .before .loop .inv .1) 
 returns : tie.Need-returns Inv-loop μ-loop
 returns c =
     let a = c .before .before .before .before .args in
-    let sum : ℕ → Float = λ k. sumTo k (λ t. nth (a .xs .now) (t * a .n + a .j)) in
+    let sum : ℕ → Float = λ k. sumTo k (column (a .xs .now) (a .n) (a .j)) in
     at-end sum _ _ _ (c .before .loop .inv .1) (c .before .loop .inv .0) (c .loop-test .left) ∙ ap sum (c .before .before .column-length .ensures)
 
 pub sum-column-spec : {M : Type 1} → statement M

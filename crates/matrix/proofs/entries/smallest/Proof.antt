@@ -4,7 +4,6 @@ use Prim.Native.Nat.{_≤_, _-_}
 use native.Mathlib.Omega.{arith}
 use borrow.Author.Needs.{needs}
 use lib.ListN.{length}
-use Rattle.leaves.specs.Numbers.{smaller}
 use Rattle.leaves.specs.Loops.{minTo, nth}
 use Rattle.leaves.proofs.Invariants.{loop-turn, loop-start, at-end}
 use Rattle.matrix.proofs.entries.smallest.Statement.{statement}

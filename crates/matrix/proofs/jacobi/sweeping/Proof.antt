@@ -9,7 +9,7 @@ use borrow.Author.Needs.{needs}
 use lib.ListN.{length}
 use lib.Ieee.{Float, ofBits, ne, le, isNan}
 use Rattle.leaves.specs.Numbers.{_⊗_, two}
-use Rattle.leaves.specs.Loops.{loop, firstTo}
+use Rattle.leaves.specs.Loops.{firstTo}
 use Rattle.leaves.specs.Root.{sqrt}
 use Rattle.leaves.proofs.Invariants.{loop-turn, loop-start}
 use Rattle.leaves.proofs.IsNan.{nan-yes, nan-no}

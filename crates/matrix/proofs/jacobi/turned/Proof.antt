@@ -9,10 +9,10 @@ use lib.Ieee.{Float, binary64, fits, eq, ofBits}
 use Rattle.leaves.specs.Numbers.{_⊗_, _⊘_, zero⁺, ε, isFinite}
 use Rattle.leaves.specs.Loops.{tab}
 use Rattle.leaves.specs.Root.{sqrt}
-use Rattle.matrix.specs.Matrix.{Matrix, at, rows, identity, amax, squares, allFinite, Symmetric}
+use Rattle.matrix.specs.Matrix.{Matrix, at, rows, identity, amax, squares, allFinite}
 use Rattle.matrix.specs.Jacobi.{start, sweeping, swept, scaledBack}
-use Rattle.matrix.specs.Inner.{state, sweptTo, decomposed, byColumns}
-use Rattle.matrix.proofs.Identity.{quotients-finite}
+use Rattle.matrix.specs.Inner.{state, sweptTo, decomposed, byColumns, Symmetric}
+use Rattle.matrix.proofs.Quotients.{quotients-finite}
 use Rattle.matrix.proofs.Flip.{flip-identity}
 use Rattle.matrix.proofs.Symmetry.{start-symmetric}
 use Rattle.matrix.proofs.jacobi.turned.Statement.{statement}

@@ -7,7 +7,6 @@ use borrow.Author.Needs.{needs}
 use lib.Dec.{ltb}
 use lib.Ieee.{Float}
 use Rattle.leaves.specs.Numbers.{_⊕_, _⊗_}
-use Rattle.leaves.specs.Loops.{loop}
 use Rattle.leaves.proofs.Invariants.{loop-turn, at-end}
 use Rattle.matrix.specs.Matrix.{at, squared, addKept, sumRow}
 use Rattle.matrix.proofs.SumOver.{above-none, above-more}

@@ -5,9 +5,9 @@ use Prim.Native.Nat.{ℕ, _*_, _<_}
 use borrow.Author.Needs.{needs}
 use lib.ListN.{length}
 use lib.Ieee.{Float}
-use Rattle.matrix.specs.Matrix.{at, rows, Symmetric}
+use Rattle.matrix.specs.Matrix.{at, rows}
 use Rattle.matrix.specs.Rotation.{turnRows, turnedBoth}
-use Rattle.matrix.specs.Inner.{turnedBlock, mirrored}
+use Rattle.matrix.specs.Inner.{turnedBlock, mirrored, Symmetric}
 use Rattle.matrix.proofs.Symmetry.{mirrored-both, blocked-meet}
 use Rattle.matrix.proofs.symmetric.turn_symmetric.Statement.{statement}
 use Rattle.matrix.proofs.symmetric.turn_symmetric.Tie as tie

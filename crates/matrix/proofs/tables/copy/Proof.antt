@@ -4,10 +4,10 @@ use Prim.Native.Nat.{_-_}
 use native.Mathlib.Omega.{arith}
 use lib.ListN.{length}
 use lib.Ieee.{nan}
+use borrow.Author.Needs.{needs}
 use Rattle.leaves.specs.Loops.{nth}
 use Rattle.leaves.proofs.Invariants.{Filled, filled-more, filled-whole, filled-none}
 use Rattle.leaves.proofs.Loops.{tab-is}
-use borrow.Author.Needs.{needs}
 use Rattle.matrix.proofs.tables.copy.Statement.{statement}
 use Rattle.matrix.proofs.tables.copy.Tie as tie
 

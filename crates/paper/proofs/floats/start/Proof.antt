@@ -1,5 +1,6 @@
 -- `paper::floats::start` meets its contract. The invariant: the sum of the counts passed.
 use mathlib.Core.Path.{_≡_, refl}
+use mathlib.Core.List.{sum}
 use Prim.Native.Nat.{_+_, _≤_, _-_}
 use native.Mathlib.Omega.{arith}
 use lib.ListN.{take}
@@ -16,7 +17,7 @@ abbrev μ-loop : tie.MeasureT-loop
 μ-loop p counts s₀ i₀ s i = p - i
 
 loop-holds : tie.Need-loop-holds Inv-loop μ-loop
-unfolding total
+unfolding sum
 loop-holds c = (omega arith, refl)
 
 mul-s : tie.Need-mul-s Inv-loop μ-loop

@@ -2,7 +2,8 @@
 use native.Mathlib.Omega.{arith}
 use lib.ListN.{List·getD-map}
 use Rattle.paper.specs.declared.kinds.Kind.{Kind}
-use Rattle.paper.specs.Grammar.{kinds, missing}
+use Rattle.paper.specs.Grammar.{kinds}
+use Rattle.paper.specs.Inner.{missing}
 use Rattle.paper.proofs.Table.{how-many}
 use Rattle.paper.proofs.kinds.kind_at.Statement.{statement}
 use Rattle.paper.proofs.kinds.kind_at.Tie as tie

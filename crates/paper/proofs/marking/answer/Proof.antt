@@ -5,8 +5,8 @@ use native.Mathlib.Nat.{mul-zero}
 use native.Mathlib.Omega.{arith}
 use lib.ListN.{replicate}
 use lib.Seq.{length-take-le}
-use lib.Ieee.{binary64, ofBits}
 use borrow.Author.Needs.{needs}
+use Rattle.leaves.specs.Numbers.{float}
 use Rattle.paper.specs.Grammar.{fileAssets}
 use Rattle.paper.specs.Text.{write}
 use Rattle.paper.specs.Answer.{outcomeText}
@@ -35,7 +35,7 @@ array-borrow-prefix-entries : tie.Need-array-borrow-prefix-entries
 array-borrow-prefix-entries c = fits c
 
 slice-aggregate-put-asked : tie.Need-slice-aggregate-put-asked
-slice-aggregate-put-asked c = sym (length-take-le _ (replicate (fileAssets * fileAssets) (ofBits binary64 0)) (fits (c .before)))
+slice-aggregate-put-asked c = sym (length-take-le _ (replicate (fileAssets * fileAssets) (float 0)) (fits (c .before)))
 
 put-asked-requires : tie.Need-put-asked-requires
 put-asked-requires c κs e = rw (e, mul-zero)

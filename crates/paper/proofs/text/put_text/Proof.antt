@@ -5,7 +5,7 @@ use native.Mathlib.Omega.{arith}
 use lib.ListN.{length, drop, drop-of-length-le}
 use borrow.Author.Needs.{needs}
 use Rattle.paper.specs.Text.{out as into, write}
-use Rattle.paper.proofs.Writes.{onward, ended, text-more}
+use Rattle.paper.proofs.Writes.{onward, ended, drop-next}
 use Rattle.paper.proofs.text.put_text.Statement.{statement}
 use Rattle.paper.proofs.text.put_text.Tie as tie
 
@@ -34,7 +34,7 @@ loop-again : tie.Need-loop-again Inv-loop μ-loop
 loop-again c =
     let l = c .before .before .before .before .before .before .loop in
     let text = c .before .before .before .before .before .before .before .before .before .args .text .now in
-    (omega arith, omega arith, onward (into (l .out) (l .at)) _ _ (drop (l .i) text) (c .before .before .put .ensures) (text-more text (l .i) (omega arith)) ∙ l .inv .2)
+    (omega arith, omega arith, onward (into (l .out) (l .at)) _ _ (drop (l .i) text) (c .before .before .put .ensures) (drop-next text (l .i) 0 (omega arith)) ∙ l .inv .2)
 
 same-length : tie.Need-same-length Inv-loop μ-loop
 same-length c = omega arith

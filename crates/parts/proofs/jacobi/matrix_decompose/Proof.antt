@@ -8,10 +8,10 @@ use borrow.Author.Needs.{needs}
 use borrow.Author.Tests.{lt-ltb, le-ltb, eq-eqb, ne-eqb}
 use lib.ListN.{length}
 use lib.Ieee.{Float}
-use Rattle.matrix.proofs.Counts.{square-most}
 use Rattle.matrix.specs.Limits.{maxSide, maxSweeps}
 use Rattle.matrix.specs.Matrix.{at}
 use Rattle.matrix.specs.Jacobi.{Decomposition, decompose}
+use Rattle.matrix.proofs.Counts.{square-most}
 use Rattle.parts.specs.Jacobi.{left, fits, matrixDecompose}
 use Rattle.parts.proofs.jacobi.matrix_decompose.Statement.{statement}
 use Rattle.parts.proofs.jacobi.matrix_decompose.Tie as tie
