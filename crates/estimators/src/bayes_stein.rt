@@ -71,10 +71,10 @@ fn shrinkage_by(n: usize, periods: f64, ratio: f64, squared: f64, a: i32, b: i32
     requires { ⌜ (natAbs a ≤ twoExponents) × (natAbs b ≤ twoExponents) ⌝ }
     ensures { λ r. ⌜ meanShrinkage (r .intensity) (r .target) ≡ shrinkageBy n periods ratio squared a b ⌝ }
 {
-    let prior = std::num::nearest_u64_to_f64(n as u64) + 2.0;
+    let numerator = std::num::nearest_u64_to_f64(n as u64) + 2.0;
     let weighted = periods * pow2_scaled(leaves::numbers::max0(squared), b + b);
     MeanShrinkage {
-        intensity: prior / (prior + weighted),
+        intensity: numerator / (numerator + weighted),
         target: pow2_scaled(ratio, b - a),
     }
 }
@@ -104,6 +104,7 @@ fn shrinkage_in(
     shrinkage_by(n, periods, ratio, squared, a, b)
 }
 
+// The same, in four arrays of the largest size.
 fn shrinkage(
     means: &[f64],
     volatilities: &[f64],
