@@ -9,7 +9,7 @@ use Rattle.leaves.specs.Numbers.{_⊖_, _⊗_, _⊘_, count, min0}
 use Rattle.leaves.specs.Loops.{tab, nth}
 use Rattle.leaves.specs.Root.{sqrt}
 use Rattle.leaves.proofs.Lists.{nth-stored}
-use Rattle.matrix.specs.Matrix.{Matrix, rows}
+use Rattle.matrix.specs.Matrix.{Matrix, rows, divided}
 use Rattle.matrix.proofs.Stored.{rows-ext}
 use Rattle.matrix.proofs.OfStored.{entrywise}
 use Rattle.estimators.specs.Sample.{gram}
@@ -25,7 +25,7 @@ pub below-over : (T n d : ℕ) (x : Matrix) (f : ℕ → Float) {floors l out : 
     → out ≡ rows n n (below f d T x)
 unfolding formed shortfall
 below-over T n d x f {floors} {y = y} ey ef e eo =
-    entrywise n (gram T (shortfall f x)) (λ a z. z ⊘ y) [] (e ∙ rows-ext n n _ _ (gram-ext T n _ (shortfall f x) alike)) eo ∙ ap (λ (c : Float). rows n n (λ i j. gram T (shortfall f x) i j ⊘ c)) ey
+    entrywise n (gram T (shortfall f x)) (λ a z. z ⊘ y) [] (e ∙ rows-ext n n _ _ (gram-ext T n _ (shortfall f x) alike)) eo ∙ ap (λ (c : Float). rows n n (divided (gram T (shortfall f x)) c)) ey
   where
     alike : (t i : ℕ) → t < T → i < n → rowsOf Row.Shortfall n [] floors [] x t i ≡ shortfall f x t i
     alike t i ht hi = row-bare Row.Shortfall n floors [] x t i hi ∙ ap (λ (c : Float). min0 (x t i ⊖ c)) (nth-stored n f ef i hi)

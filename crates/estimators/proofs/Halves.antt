@@ -13,7 +13,7 @@ use Rattle.leaves.specs.Numbers.{_⊘_, zero⁺, count}
 use Rattle.leaves.specs.Loops.{loop, sumTo, tab, nth}
 use Rattle.leaves.proofs.Loops.{sum-ext}
 use Rattle.leaves.proofs.Commutative.{⊗-comm}
-use Rattle.matrix.specs.Matrix.{Matrix, at, rows}
+use Rattle.matrix.specs.Matrix.{Matrix, at, rows, divided}
 use Rattle.matrix.specs.Inner.{Symmetric}
 use Rattle.matrix.proofs.Stored.{rows-ext}
 use Rattle.matrix.proofs.OfStored.{at-stored, entrywise}
@@ -56,11 +56,11 @@ module _ (s : List Float) (z : Matrix) (n T : ℕ) (table : List Float) {out : L
   variation-over symmetric e e′ eo =
       entrywise n (sums Variation (at s n) n T z) (λ a y. y ⊘ x) []
       (e′ ∙ half-mirrored Variation (at s n) n T z (λ t i j hi hj k. distance² (⊗-comm (z t i) (z t j) k) (symmetric i j hi hj k)) table e) eo
-      ∙ ap (λ (c : Float). rows n n (λ i j. sums Variation (at s n) n T z i j ⊘ c)) ex
+      ∙ ap (λ (c : Float). rows n n (divided (sums Variation (at s n) n T z) c)) ex
 
   pub covariation-over : table ≡ summed n (λ t. plus Covariation (at s n) (z t)) T → out ≡ tab (length table) (λ k. nth table k ⊘ x) → out ≡ rows n n (covariation T z (at s n))
   unfolding covariation joined factor firstColumn
   covariation-over e eo =
       entrywise n (sums Covariation (at s n) n T z) (λ a y. y ⊘ x) []
       (e ∙ rows-ext n n _ (sums Covariation (at s n) n T z) (λ i j hi hj. whole-sum Covariation (at s n) z T i j (omega arith))) eo
-      ∙ ap (λ (c : Float). rows n n (λ i j. sums Covariation (at s n) n T z i j ⊘ c)) ex
+      ∙ ap (λ (c : Float). rows n n (divided (sums Covariation (at s n) n T z) c)) ex

@@ -15,7 +15,7 @@ use Rattle.leaves.specs.Loops.{nth}
 use Rattle.leaves.specs.Scaling.{binaryExponent, pow2Scaled}
 use Rattle.leaves.proofs.Loops.{getD-tab}
 use Rattle.leaves.proofs.First.{first-ext}
-use Rattle.leaves.proofs.Whole.{posPart, negPart}
+use Rattle.leaves.proofs.Whole.{posPart, negPart, Within}
 use Rattle.leaves.proofs.SqrtNearest.{moved-sqrt}
 use Rattle.leaves.proofs.Rounding.{near-least, representable-pow}
 use Rattle.leaves.proofs.Units.{oneBits, U, U-pos, U-is, sign, mag, eq-zero}
@@ -37,7 +37,7 @@ use Rattle.law.proofs.Ranges.{zeroBounds, returnBounds, tenBillionthBou
 use Rattle.law.proofs.Comparisons.{plus-val, le-no}
 use Rattle.law.proofs.Sample.{Returns, entries-as, covariance-moved, largest-moved, largest-above, means-moved}
 use Rattle.law.proofs.Constant.{ten-billionth-moved, ten-billionth-above, sign-variance, sign-largest, above-zero}
-use Rattle.law.proofs.Scaled.{Within, scaled-least, exponent-within}
+use Rattle.law.proofs.Scaled.{scaled-least, exponent-within}
 use Rattle.law.proofs.Shrinkage.{one-moved}
 use Rattle.law.proofs.Opening.{returns-scalable, column}
 use Rattle.law.proofs.Ratio.{product-is, quotient-is}
@@ -54,6 +54,13 @@ decomposedCorrelations limit n m = decompose limit n (correlations n m)
 
 abbrev pub sizeOf : ℕ → ℕ → Matrix → ℕ → Float
 sizeOf P n x = largestIn (exponentsOf P n x) P x
+
+-- of asset i, the inverse of the volatility, and the mean over it
+abbrev pub inverse : ℕ → Moments → ℕ → Float
+inverse n m i = one ⊘ volatility (Σ n m) i
+
+abbrev pub meanOver : ℕ → Moments → ℕ → Float
+meanOver n m i = nth (m .mean) i ⊘ volatility (Σ n m) i
 
 pub exponent-at : (P n : ℕ) (x : Matrix) (i : ℕ) → i < n → exponentsOf P n x i ≡ binaryExponent (largest P x i)
 exponent-at P n x i l = getD-tab n (λ i. binaryExponent (largest P x i)) i (pos 0) l
@@ -93,17 +100,17 @@ module _ {k n P : ℕ} {x y : Matrix} (small : k ≤ maxPower) (r : Returns k n 
   pub μ-range : (i : ℕ) → i < n → Bounded unitMeanBounds (nth (m .mean) i)
   μ-range i a = means-moved units zero-le i a .range
 
-  variance-is : (i : ℕ) → i < n → Σ n (m) i i ≡ covariance P (u) i i
+  variance-is : (i : ℕ) → i < n → Σ n m i i ≡ covariance P (u) i i
   unfolding moments
   variance-is i a = rows-at (covariance P u) n n i i a a
 
-  variance-range : (i : ℕ) → i < n → Bounded unitVarianceBounds (Σ n (m) i i)
+  variance-range : (i : ℕ) → i < n → Bounded unitVarianceBounds (Σ n m i i)
   variance-range i a = rw (variance-is i a) (covariance-moved units (lit≤ tt, lit≤ tt, lit≤ tt, lit≤ tt) i i a a .range)
 
-  variance-plus : (i : ℕ) → i < n → sign (Σ n (m) i i) ≡ false
+  variance-plus : (i : ℕ) → i < n → sign (Σ n m i i) ≡ false
   variance-plus i a = ap sign (variance-is i a) ∙ sign-variance P u i
 
-  v-range : (i : ℕ) → i < n → Bounded unitVolatilityBounds (volatility (Σ n (m)) i)
+  v-range : (i : ℕ) → i < n → Bounded unitVolatilityBounds (volatility (Σ n m) i)
   v-range i a = moved-sqrt {k = 0} (still unitVarianceBounds (variance-range i a)) (sign-not-below (Σ n m i i) (variance-plus i a)) .range
 
   -- ---- a column that is accepted
@@ -123,7 +130,7 @@ module _ {k n P : ℕ} {x y : Matrix} (small : k ≤ maxPower) (r : Returns k n 
     tolerance-range : Bounded toleranceBounds (1e-10 ⊗ sizeOf P n x i)
     tolerance-range = moved-mul ten-billionth-moved (still unitBounds size-range) (lit≤ tt) (lit≤ tt) .range
 
-    v-above : 0 < mag (volatility (Σ n (m)) i)
+    v-above : 0 < mag (volatility (Σ n m) i)
     v-above = above-zero (Σ n m i i) (sizeOf P n x i) (v-range i a) tolerance-range (variance-plus i a) size-plus h
 
     -- the column is not zero: the volatility of zeros is a zero, for their bounds leave room for nothing else
@@ -152,7 +159,7 @@ module _ {k n P : ℕ} {x y : Matrix} (small : k ≤ maxPower) (r : Returns k n 
     exponent-small = rw (exponent-at P n x i a) (column small r i a .small)
 
     -- at least the tolerance of a column whose largest is at least 1
-    v-least : 2 ^ tenBillionthBounds .least ≤ mag (volatility (Σ n (m)) i)
+    v-least : 2 ^ tenBillionthBounds .least ≤ mag (volatility (Σ n m) i)
     v-least =
         let t = 1e-10 ⊗ sizeOf P n x i in
         let one : 2 ^ oneBits ≤ mag (sizeOf P n x i) = rw (exponent-at P n x i a) (scaled-least returnBounds A A-range not-zero returns-scalable) in
@@ -160,14 +167,14 @@ module _ {k n P : ℕ} {x y : Matrix} (small : k ≤ maxPower) (r : Returns k n 
         (near-least (mag 1e-10 * mag (sizeOf P n x i)) U (2 ^ tenBillionthBounds .least) U-pos (representable-pow (tenBillionthBounds .least)) (le-trans (le-of-eq (ap (λ (z : ℕ). 2 ^ tenBillionthBounds .least * z) U-is)) (mul-le-mul (ten-billionth-moved .range .least ten-billionth-above) one))) in
         le-of-lt (lt-of-le-of-lt least (le-no (volatility (Σ n m) i) t (plus-val (volatility (Σ n m) i) (v-range i a .fit) (v-range i a .finite) (sign-sqrt (Σ n m i i) (variance-plus i a))) (plus-val t (tolerance-range .fit) (tolerance-range .finite) (sign-mul 1e-10 (sizeOf P n x i) (unfold sign ofBits in sym size-plus))) h))
 
-    v-moved : Moved 0 steadyVolatilityBounds (volatility (Σ n (m)) i) (volatility (Σ n (m)) i)
+    v-moved : Moved 0 steadyVolatilityBounds (volatility (Σ n m) i) (volatility (Σ n m) i)
     v-moved = still steadyVolatilityBounds (range-size (steadyVolatilityBounds .least) (2 ^ steadyVolatilityBounds .most) (volatility (Σ n m) i) (lit≤ tt) (v-range i a .fit) (v-range i a .finite) (inr v-least) (v-range i a .most))
 
     -- its inverse, and the mean over it
-    inverse-range : Bounded inverseBounds (one ⊘ volatility (Σ n (m)) i)
+    inverse-range : Bounded inverseBounds (inverse n m i)
     inverse-range = moved-over one-moved v-moved v-above (lit≤ tt) (lit≤ tt) .range
 
-    inverse-above : 0 < mag (one ⊘ volatility (Σ n (m)) i)
+    inverse-above : 0 < mag (inverse n m i)
     inverse-above = rw (quotient-is one (volatility (Σ n m) i) (one-moved .range .fit) (v-range i a .fit) (v-range i a .finite) v-above (inverse-range .finite))
         (lt-of-lt-of-le (pow-pos (inverseBounds .least)) (near-least (mag one * U) (mag (volatility (Σ n m) i)) (2 ^ inverseBounds .least) v-above (representable-pow (inverseBounds .least))
         (le-trans (mul-le-mul-left (2 ^ inverseBounds .least) (v-range i a .most)) (le-trans powers (mul-le-mul-right U one-least)))))
@@ -178,18 +185,18 @@ module _ {k n P : ℕ} {x y : Matrix} (small : k ≤ maxPower) (r : Returns k n 
         powers : 2 ^ inverseBounds .least * 2 ^ unitVolatilityBounds .most ≤ 2 ^ oneBits * U
         powers = unfold U in lit≤ tt
 
-    pub inverse-some : eq (one ⊘ volatility (Σ n (m)) i) zero⁺ ≡ false
-    inverse-some = eq-zero (one ⊘ volatility (Σ n m) i) (inverse-range .fit) (inverse-range .finite) ∙ ne-eqb (mag (one ⊘ volatility (Σ n m) i)) 0 (λ e. lt-irrefl 0 (subst (λ (n : ℕ). 0 < n) e inverse-above))
+    pub inverse-some : eq (inverse n m i) zero⁺ ≡ false
+    inverse-some = eq-zero (inverse n m i) (inverse-range .fit) (inverse-range .finite) ∙ ne-eqb (mag (inverse n m i)) 0 (λ e. lt-irrefl 0 (subst (λ (n : ℕ). 0 < n) e inverse-above))
 
-    pub inverse-exponent : Within (exponentAbove inverseBounds) (exponentBelow inverseBounds) (binaryExponent (one ⊘ volatility (Σ n (m)) i))
-    inverse-exponent = exponent-within inverseBounds (one ⊘ volatility (Σ n m) i) inverse-range inverse-above (lit≤ tt) (lit≤ tt)
+    pub inverse-exponent : Within (exponentAbove inverseBounds) (exponentBelow inverseBounds) (binaryExponent (inverse n m i))
+    inverse-exponent = exponent-within inverseBounds (inverse n m i) inverse-range inverse-above (lit≤ tt) (lit≤ tt)
 
-    pub mean-over-range : Bounded meanOverBounds (nth (m .mean) i ⊘ volatility (Σ n (m)) i)
+    pub mean-over-range : Bounded meanOverBounds (meanOver n m i)
     mean-over-range = moved-over (still unitMeanBounds (μ-range i a)) v-moved v-above (lit≤ tt) (lit≤ tt) .range
 
-    pub mean-over-exponent : Within (exponentAbove meanOverBounds) (exponentBelow meanOverBounds) (binaryExponent (nth (m .mean) i ⊘ volatility (Σ n (m)) i))
+    pub mean-over-exponent : Within (exponentAbove meanOverBounds) (exponentBelow meanOverBounds) (binaryExponent (meanOver n m i))
     mean-over-exponent =
-        let z = nth (m .mean) i ⊘ volatility (Σ n m) i in
+        let z = meanOver n m i in
         elim (eq-zero-or-pos (mag z)) [
           | inr p ↦ exponent-within meanOverBounds z mean-over-range p (lit≤ tt) (lit≤ tt)
           | inl e ↦ (rw (exponent-null z (range-value mean-over-range) e) (unfold posPart negPart in (zero-le, zero-le)))

@@ -2,7 +2,7 @@
 -- it falls by j. Assumes nothing.
 use mathlib.Core.Path.{_≡_, refl, sym, ap, _∙_, subst}
 use mathlib.Core.Logic.{inl, inr}
-use Prim.Native.Nat.{ℕ, zero, suc, _+_, _≤_, _<_}
+use Prim.Native.Nat.{ℕ, zero, suc, _+_, _<_}
 use native.Mathlib.Nat.{lt-suc-self, lt-trans, le-refl, le-of-suc-le-suc, eq-or-lt-of-le, not-suc-le-zero}
 use native.Mathlib.Omega.{arith}
 use mathlib.Core.Bool.{Bool, true, false, cond}
@@ -13,12 +13,9 @@ use lib.Ieee.{Float, eq}
 use Rattle.leaves.specs.Numbers.{zero⁺}
 use Rattle.leaves.specs.Loops.{loop}
 use Rattle.leaves.specs.Scaling.{binaryExponent}
-use Rattle.leaves.proofs.Whole.{posPart, negPart, plus, same, posPart-neg, negPart-neg, lt-yes, lt-no}
+use Rattle.leaves.proofs.Whole.{posPart, negPart, plus, same, posPart-neg, negPart-neg, lt-yes, lt-no, LeZ}
 use Rattle.leaves.proofs.Zero.{no}
 use Rattle.estimators.specs.BayesStein.{largerZ, orZero, commonExponent, withExponent}
-
-abbrev pub LeZ : ℤ → ℤ → Type 0
-LeZ a b = posPart a + negPart b ≤ posPart b + negPart a
 
 module _ (m : ℕ → Float) (k : ℕ → ℤ) where
   abbrev pub exponent : ℕ → ℤ

@@ -55,5 +55,5 @@ unfolding largest sign
 sign-largest P x i = amax-one (λ z. sign z ≡ false) P (λ t. x t i) refl (λ t l. sign-abs (x t i))
 
 -- a volatility above the tolerance is not zero
-pub above-zero : {g L B g' L' B' : ℕ} (v a : Float) → Range g L B (sqrt v) → Range g' L' B' (1e-10 ⊗ a) → sign v ≡ false → sign a ≡ false → le (sqrt v) (1e-10 ⊗ a) ≡ false → 0 < mag (sqrt v)
+pub above-zero : {g L B g' L' B' : ℕ} (v a : Float) → Range g L B (sqrt v) → Range g' L' B' (1e-10 ⊗ a) → sign v ≡ false → sign a ≡ false → isConstant (sqrt v) a ≡ false → 0 < mag (sqrt v)
 above-zero v a p q sv sa h = lt-of-le-of-lt zero-le (le-no (sqrt v) (1e-10 ⊗ a) (plus-val (sqrt v) (p .fit) (p .finite) (sign-sqrt v sv)) (plus-val (1e-10 ⊗ a) (q .fit) (q .finite) (sign-mul 1e-10 a (unfold sign ofBits in sym sa))) h)

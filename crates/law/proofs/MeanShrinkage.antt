@@ -13,13 +13,13 @@ use lib.Pow.{pow-add, pow-mono}
 use lib.Ieee.{Float, nan, inf, fin, binary64, fits, lt, add, mul}
 use lib.Ieee.Fits.{mul-fits, div-fits}
 use borrow.Author.Tests.{ne-eqb}
-use Rattle.leaves.specs.Numbers.{_⊕_, _⊖_, _⊗_, _⊘_, zero⁺, one, two, count, isFinite, max0}
+use Rattle.leaves.specs.Numbers.{_⊕_, _⊖_, _⊗_, zero⁺, one, two, count, isFinite, max0}
 use Rattle.leaves.specs.Loops.{sumTo, nth}
 use Rattle.leaves.specs.Scaling.{pow2, binaryExponent, pow2Scaled}
 use Rattle.leaves.specs.Shift.{shift}
 use Rattle.leaves.proofs.Nan.{nan-add}
 use Rattle.leaves.proofs.Loops.{tab-ext, getD-tab}
-use Rattle.leaves.proofs.Whole.{posPart, negPart, plus, minus, same, one-side, posPart-neg, negPart-neg}
+use Rattle.leaves.proofs.Whole.{posPart, negPart, plus, minus, same, one-side, posPart-neg, negPart-neg, Within, LeZ}
 use Rattle.leaves.proofs.Shift.{shift-nan, isFinite-shift}
 use Rattle.leaves.proofs.Rounding.{near-most, representable-pow}
 use Rattle.leaves.proofs.Units.{oneBits, topBits, U, U-pos, sign, mag, val-mag, mag-val, eq-zero}
@@ -43,15 +43,15 @@ use Rattle.law.specs.Law.{AtLeast, maxPower, meanRange}
 use Rattle.law.proofs.Ranges.{returnBounds, meanIntensityBounds, exponentAbove, exponentBelow, scaledBackOf, unitMeanBounds, inverseBounds, meanOverBounds, leftMeanBounds}
 use Rattle.law.proofs.Sizes.{at-least, unit-range}
 use Rattle.law.proofs.Sample.{Returns}
-use Rattle.law.proofs.Scaled.{Within, topOf, under-power, scaled-range}
+use Rattle.law.proofs.Scaled.{topOf, under-power, scaled-range}
 use Rattle.law.proofs.Shrinkage.{one-moved}
 use Rattle.law.proofs.Sums.{sum-fits, sum-finite, sum-most}
 use Rattle.law.proofs.JamesStein.{MeanIntensity}
 use Rattle.law.proofs.Share.{max0-plus, share-unit}
-use Rattle.law.proofs.Common.{LeZ, common-in, common-above, common-lower}
+use Rattle.law.proofs.Common.{common-in, common-above, common-lower}
 use Rattle.law.proofs.Rescaled.{rescaled}
 use Rattle.law.proofs.Ratio.{product-is, ratio-most, ratioMost, projectedMost, turnedMost}
-use Rattle.law.proofs.Columns.{exponent-small, columnMoments, grows, inverse-exponent, inverse-some, mean-over-exponent, mean-over-range, sizeOf, decomposedCorrelations, Σ, μ-range}
+use Rattle.law.proofs.Columns.{exponent-small, columnMoments, grows, inverse-exponent, inverse-some, mean-over-exponent, mean-over-range, sizeOf, decomposedCorrelations, Σ, μ-range, inverse, meanOver}
 
 -- ---- the exponents of the two vectors
 -- how far above and below 0: of the ones over the volatilities, of the means over them, and of the target
@@ -135,12 +135,6 @@ pub record Passed (limit n : ℕ) (m : Moments) (s : ℕ → Float) : Type 0 whe
   pub regular : singular n (decomposedCorrelations limit n m) ≡ false
 
 -- the two vectors, their exponents and the ratio
-abbrev inverse : ℕ → Moments → ℕ → Float
-inverse n m i = one ⊘ volatility (Σ n m) i
-
-abbrev meanOver : ℕ → Moments → ℕ → Float
-meanOver n m i = nth (m .mean) i ⊘ volatility (Σ n m) i
-
 abbrev aOf : ℕ → Moments → (ℕ → ℤ) → ℤ
 aOf n m e = commonExponent n (inverse n m) (λ i. negℤ (e i))
 

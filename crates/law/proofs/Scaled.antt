@@ -12,7 +12,7 @@ use lib.Pow.{pow-add, pow-pos, pow-mono}
 use lib.Ieee.{Float, binary64, fits}
 use Rattle.leaves.specs.Scaling.{binaryExponent, pow2Scaled}
 use Rattle.leaves.specs.Shift.{shift}
-use Rattle.leaves.proofs.Whole.{posPart, negPart, plus, one-side, same, posPart-neg, negPart-neg}
+use Rattle.leaves.proofs.Whole.{posPart, negPart, plus, one-side, same, posPart-neg, negPart-neg, Within}
 use Rattle.leaves.proofs.Laws.{pow-back}
 use Rattle.leaves.proofs.Shift.{shift-zero, shift-shift, shift-forth}
 use Rattle.leaves.proofs.Units.{oneBits, topBits, pow-under-Top, sign, mag, fits-shift}
@@ -21,10 +21,6 @@ use Rattle.leaves.proofs.Bounds.{Bounds, Bounded, multiples}
 use Rattle.leaves.proofs.Operations.{Moved}
 use Rattle.leaves.proofs.PowersOfTwo.{fits-move, range-move, scaled-moves, shift-null, lead, exponent-shift, exponent-range, exponent-null, zero-scaled, same-scaled, scaled-copy}
 use Rattle.law.proofs.Ranges.{exponentAbove, exponentBelow, unitOf, scaledBy}
-
--- a number from -lo to hi
-abbrev pub Within : ℕ → ℕ → ℤ → Type 0
-Within hi lo j = (posPart j ≤ hi) × (negPart j ≤ lo)
 
 -- the exponent of a value in bounds is in theirs
 pub exponent-within : (b : Bounds) (x : Float) → Bounded b x → 0 < mag x → b .least ≤ oneBits → oneBits ≤ b .most → Within (exponentAbove b) (exponentBelow b) (binaryExponent x)

@@ -1,6 +1,6 @@
 -- Signed whole numbers as the code has them: the test a ≤ b, `lib.Ieee`'s difference of two naturals, and what an i32 holds, by the positive and the negative part of a number (`posPart`, `negPart` of Whole). Assumes nothing.
 use mathlib.Core.Path.{_≡_, refl}
-use Prim.Native.Nat.{ℕ, suc, _+_, _-_, _^_, _≤_, _<_}
+use Prim.Native.Nat.{ℕ, suc, _-_, _^_, _≤_, _<_}
 use native.Mathlib.Omega.{arith}
 use mathlib.Core.Bool.{Bool, true, false, cond}
 use lib.Dec.{leb→le, le→leb, T, leb}
@@ -11,16 +11,16 @@ use mir.Syntax.{w32}
 use mir.Val.{SFits, toZ, ofZ}
 use mir.Facts.{toZ-ofZ}
 use borrow.Author.Tests.{leb-true, leb-false}
-use Rattle.leaves.proofs.Whole.{posPart, negPart}
+use Rattle.leaves.proofs.Whole.{posPart, negPart, LeZ, IsDifference}
 
-pub le-yes : (a b : ℤ) → T (leZ a b) → posPart a + negPart b ≤ posPart b + negPart a
+pub le-yes : (a b : ℤ) → T (leZ a b) → LeZ a b
 unfolding posPart negPart
 le-yes (pos a) (pos b) h = omega (arith, leb→le a b h)
 le-yes (pos a) (negsuc b) h = absurd h
 le-yes (negsuc a) (pos b) h = omega arith
 le-yes (negsuc a) (negsuc b) h = omega (arith, leb→le b a h)
 
-pub yes-le : (a b : ℤ) → posPart a + negPart b ≤ posPart b + negPart a → T (leZ a b)
+pub yes-le : (a b : ℤ) → LeZ a b → T (leZ a b)
 unfolding posPart negPart
 yes-le (pos a) (pos b) h = le→leb a b (omega arith)
 yes-le (pos a) (negsuc b) h = absurd (omega arith)
@@ -28,11 +28,11 @@ yes-le (negsuc a) (pos b) h = tt
 yes-le (negsuc a) (negsuc b) h = le→leb b a (omega arith)
 
 -- lib.Ieee's a - b
-pub minus-is : (a b : ℕ) → posPart (Ieee.minus a b) + b ≡ a + negPart (Ieee.minus a b)
+pub minus-is : (a b : ℕ) → IsDifference (Ieee.minus a b) a b
 unfolding posPart negPart
 minus-is a b = go (leb b a) refl
   where
-    go : (t : Bool) → leb b a ≡ t → posPart (cond t (pos (a - b)) (negsuc (b - suc a))) + b ≡ a + negPart (cond t (pos (a - b)) (negsuc (b - suc a)))
+    go : (t : Bool) → leb b a ≡ t → IsDifference (cond t (pos (a - b)) (negsuc (b - suc a))) a b
     go true e = omega (arith, leb-true b a e)
     go false e = omega (arith, leb-false b a e)
 

@@ -9,10 +9,10 @@ use lib.ListN.{length}
 use lib.Ieee.{Float}
 use borrow.Author.Tests.{lt-ltb, le-ltb}
 use Rattle.leaves.specs.Numbers.{_⊕_, zero⁺}
-use Rattle.leaves.specs.Loops.{loop, sumTo, nth}
+use Rattle.leaves.specs.Loops.{sumTo, nth}
 use Rattle.leaves.proofs.Loops.{loop-ext, sum-ext, loop-still}
 use Rattle.leaves.proofs.Invariants.{loop-rows}
-use Rattle.matrix.specs.Matrix.{Matrix, at, sumOver, every, addKept}
+use Rattle.matrix.specs.Matrix.{Matrix, at, sumOver, every, addKept, sumRow}
 use Rattle.matrix.proofs.Stored.{entry-at}
 
 -- terms that are alike
@@ -32,7 +32,7 @@ sum-stored g a n e l =
     ∙ sum-every (λ i j. g (at a n i j)) n
 
 -- those right of the diagonal: row p begins with column p + 1
-pub above-none : (f : Matrix) (p : ℕ) (s : Float) → s ≡ loop (p + 1) (addKept ltb f p) s
+pub above-none : (f : Matrix) (p : ℕ) (s : Float) → s ≡ sumRow (p + 1) ltb f p s
 above-none f p s = sym (loop-still (addKept ltb f p) (p + 1) s (λ j h x. let l : j ≤ p = omega arith in rw (addKept, le-ltb p j l)))
 
 pub above-more : (f : Matrix) (p q : ℕ) (s : Float) → p < q → s ⊕ f p q ≡ addKept ltb f p q s

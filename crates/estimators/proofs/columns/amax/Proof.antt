@@ -1,6 +1,6 @@
 -- `estimators::columns::amax` meets its contract. The invariant: each column's number is that of the periods passed.
 use mathlib.Core.Path.{_≡_, _∙_}
-use mathlib.Core.List.{List, []}
+use mathlib.Core.List.{List}
 use Prim.Native.Nat.{ℕ, _-_, _≤_}
 use native.Mathlib.Omega.{arith}
 use borrow.Author.Needs.{needs}
@@ -9,8 +9,7 @@ use lib.Ieee.{Float, ofBits}
 use Rattle.leaves.specs.Numbers.{abs, larger}
 use Rattle.leaves.specs.Loops.{amaxTo}
 use Rattle.leaves.proofs.Invariants.{at-end}
-use Rattle.matrix.specs.Matrix.{at}
-use Rattle.estimators.specs.Rows.{rowsOf}
+use Rattle.estimators.specs.Rows.{centered}
 use Rattle.estimators.specs.declared.rows.Row.{Row}
 use Rattle.estimators.proofs.OverPeriods.{after, after-none, after-more}
 use Rattle.estimators.proofs.columns.amax.Statement.{statement}
@@ -18,7 +17,7 @@ use Rattle.estimators.proofs.columns.amax.Tie as tie
 
 -- what period t makes of column i's number
 abbrev step : Row → List Float → ℕ → List Float → ℕ → ℕ → Float → Float
-step row r n centers t i v = larger v (abs (rowsOf row n [] centers [] (at r n) t i))
+step row r n centers t i v = larger v (abs (centered row n centers r t i))
 
 abbrev Inv-loop : tie.InvT-loop
 Inv-loop row r n periods centers out₀ t₀ out t = (t ≤ periods) × (length out ≡ n) × (out ≡ after n (step row r n centers) t)

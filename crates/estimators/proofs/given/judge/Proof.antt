@@ -6,7 +6,7 @@ use lib.ListN.{length}
 use lib.Ieee.{Float, neg, lt, ofBits, ofInt}
 use borrow.Author.Needs.{needs}
 use Rattle.leaves.specs.Numbers.{_⊗_, count, ε}
-use Rattle.leaves.specs.Loops.{amaxTo, minTo, nth}
+use Rattle.leaves.specs.Loops.{amaxTo, nth}
 use Rattle.matrix.specs.Jacobi.{Decomposition, smallestValue}
 use Rattle.matrix.specs.Inner.{decomposed}
 use Rattle.estimators.specs.Refusals.{first}
@@ -16,10 +16,10 @@ use Rattle.estimators.specs.declared.Refusal.the-variants.{Indefinite}
 use Rattle.estimators.proofs.given.judge.Statement.{statement}
 use Rattle.estimators.proofs.given.judge.Tie as tie
 
-module _ (n : ℕ) (d : Decomposition) {lowest size largest : Float} (el : lowest ≡ minTo (length (d .values)) (nth (d .values))) (es : size ≡ count n)
+module _ (n : ℕ) (d : Decomposition) {lowest size largest : Float} (el : lowest ≡ smallestValue (length (d .values)) d) (es : size ≡ count n)
     (em : largest ≡ amaxTo (length (d .values)) (nth (d .values))) (l : length (d .values) ≡ n) where
   low : lowest ≡ smallestValue n d
-  low = el ∙ ap (λ (k : ℕ). minTo k (nth (d .values))) l
+  low = el ∙ ap (λ (k : ℕ). smallestValue k d) l
 
   -- the test, by what the calls ensure
   bounded : {b : Bool} → lt lowest (neg (count 10) ⊗ size ⊗ ε ⊗ largest) ≡ b → indefinite n d ≡ b

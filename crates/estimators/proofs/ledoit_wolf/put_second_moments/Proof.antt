@@ -7,7 +7,7 @@ use lib.Ieee.{Float}
 use borrow.Author.Needs.{needs}
 use Rattle.leaves.specs.Numbers.{_⊘_, count}
 use Rattle.leaves.specs.Loops.{tab, nth}
-use Rattle.matrix.specs.Matrix.{Matrix, rows}
+use Rattle.matrix.specs.Matrix.{Matrix, rows, divided}
 use Rattle.matrix.specs.Inner.{Symmetric}
 use Rattle.matrix.proofs.OfStored.{entrywise}
 use Rattle.estimators.specs.Sample.{gram}
@@ -19,7 +19,7 @@ use Rattle.estimators.proofs.ledoit_wolf.put_second_moments.Tie as tie
 
 second-moments-are : (T n : ℕ) (z : Matrix) {x : Float} {l s : List Float} → l ≡ rows n n (gram T z) → x ≡ count T → s ≡ tab (length l) (λ k. nth l k ⊘ x) → (s ≡ secondMoments T n z) × Symmetric n s
 second-moments-are T n z {x} {l} el ex es =
-    let e = entrywise n (gram T z) (λ a y. y ⊘ x) [] el es ∙ ap (λ (x : Float). rows n n (λ i j. gram T z i j ⊘ x)) ex in
+    let e = entrywise n (gram T z) (λ a y. y ⊘ x) [] el es ∙ ap (λ (x : Float). rows n n (divided (gram T z) x)) ex in
     (e, second-moments-symmetric T n z e)
 
 slice-aggregate-gram : tie.Need-slice-aggregate-gram

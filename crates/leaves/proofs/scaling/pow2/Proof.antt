@@ -5,7 +5,7 @@ use native.Mathlib.Omega.{arith}
 use mathlib.Core.Bool.{false}
 use lib.Dec.{leb, eqb}
 use lib.IntN.{ℤ, pos, negsuc, natAbs, _+ℤ_}
-use lib.Ieee.{fin, binary64, ofBits, isNan}
+use lib.Ieee.{fin, ofBits, isNan}
 use lib.Ieee as Ieee
 use lib.Ieee.Bits.{nanBits-is}
 use mir.Syntax.{w32}
@@ -50,7 +50,7 @@ add-result c = rw (toZ-ofZ (c .fits .k)) (in-i32 c)
 cast-result : tie.Need-cast-result
 cast-result c = rw (read c) (tt, fits-of-lt (omega (arith, range c)))
 
-value : (c : tie.Start) → ofBits binary64 (natAbs (readBack (readBack (c .args .k) +ℤ pos 1023)) * 2 ^ 52 % 2 ^ 64) ≡ pow2 (c .args .k)
+value : (c : tie.Start) → float (natAbs (readBack (readBack (c .args .k) +ℤ pos 1023)) * 2 ^ 52 % 2 ^ 64) ≡ pow2 (c .args .k)
 value c =
     let n : suc (posPart (z c) - 1) ≡ posPart (z c) = omega (arith, range c) in
     rw (read c, ← n) (pow2-bits (posPart (z c) - 1) (c .args .k) (omega (arith, range c)) (omega (arith, range c)))
