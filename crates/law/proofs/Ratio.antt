@@ -101,7 +101,7 @@ le-key : (x y : Float) → T (fits binary64 x) → T (fits binary64 y) → T (nu
 le-key x y fx fy p q h = ltb-true (key y) (key x) (sym (lt-key y x fy fx q p) ∙ le-or x y p q h)
 
 -- by the largest, Λ
-module _ (n : ℕ) (few : suc n ≤ maxSide) (v : ℕ → Float) (fit : (e : ℕ) → e < suc n → T (fits binary64 (v e))) (nums : (e : ℕ) → e < suc n → T (number (v e))) where
+module _ (n : ℕ) (few : suc n ≤ maxSide) (v : ℕ → Float) (nums : (e : ℕ) → e < suc n → T (number (v e))) where
   by-largest : (Λ : Float) → T (fits binary64 Λ) → T (number Λ) → ((e : ℕ) → e < suc n → key (v e) ≤ key Λ) → (m : Float) → T (fits binary64 m) → T (number m) → ((e : ℕ) → e < suc n → key m ≤ key (v e))
       → le m (count (suc n) ⊗ ε ⊗ Λ) ≡ false → Positive (suc n) v
   unfolding isNan
@@ -204,7 +204,7 @@ positive n few v fit nums h =
     let each : (e : ℕ) → e < suc n → Fine (v e) = λ e l. (fit e l, nums e l) in
     let M = picked key Fine Fine larger (λ a b. b ≤ a) (λ a b c p q. le-trans q p) (λ m x a b. larger-by key Fine m x a b (lt-key m x (a .0) (b .0) (a .1) (b .1))) (suc n) v (v 0) (each 0 (zero-lt-suc n)) each in
     let m = picked key Fine Fine smaller (λ a b. a ≤ b) (λ a b c p q. le-trans p q) (λ m x a b. smaller-by key Fine m x a b (lt-key x m (b .0) (a .0) (b .1) (a .1))) (suc n) v (v 0) (each 0 (zero-lt-suc n)) each in
-    by-largest n few v fit nums (loop (suc n) (λ k m. larger m (v k)) (v 0)) (M .0 .0) (M .0 .1) (M .1) (loop (suc n) (λ k m. smaller m (v k)) (v 0)) (m .0 .0) (m .0 .1) (m .1) h
+    by-largest n few v nums (loop (suc n) (λ k m. larger m (v k)) (v 0)) (M .0 .0) (M .0 .1) (M .1) (loop (suc n) (λ k m. smaller m (v k)) (v 0)) (m .0 .0) (m .0 .1) (m .1) h
 
 -- ---- the largest of numbers
 largest-of : (n : ℕ) (a : ℕ → ℕ) → (e : ℕ) × (e < suc n) × ((i : ℕ) → i < suc n → a i ≤ a e)
