@@ -1,4 +1,4 @@
--- Document 01: "Records", "Estimators" and "Causes".
+-- Document 01: its opening paragraph, "Records", "Estimators", "Causes" and "How tight", a.
 pub mod Refusals
 pub mod Sample
 pub mod Rows

@@ -94,13 +94,13 @@ module _ {k n P : ℕ} {x y : Matrix} (small : k ≤ maxPower) (r : Returns k n 
   entry-is t i b = ap (λ (e : ℤ). pow2Scaled (x t i) (negℤ e)) (exponent-at P n x i b)
 
   -- below 2 in size
-  units : Returns 0 n P unitBounds (u) (u)
+  units : Returns 0 n P unitBounds u u
   units = entries-as r (λ t i a b. still unitBounds (subst (Bounded unitBounds) (sym (entry-is t i b)) (column small r i b .moved (r .entries t i a b) (largest-above r t i a b) .range)))
 
   pub μ-range : (i : ℕ) → i < n → Bounded unitMeanBounds (nth (m .mean) i)
   μ-range i a = means-moved units zero-le i a .range
 
-  variance-is : (i : ℕ) → i < n → Σ n m i i ≡ covariance P (u) i i
+  variance-is : (i : ℕ) → i < n → Σ n m i i ≡ covariance P u i i
   unfolding moments
   variance-is i a = rows-at (covariance P u) n n i i a a
 
@@ -137,7 +137,7 @@ module _ {k n P : ℕ} {x y : Matrix} (small : k ≤ maxPower) (r : Returns k n 
     not-zero : 0 < mag (largest P x i)
     not-zero = elim (eq-zero-or-pos (mag A)) [ inr p ↦ p | inl z ↦ absurd (zeros z) ]
       where
-        same-column : covariance P (λ t j. u t i) i i ≡ covariance P (u) i i
+        same-column : covariance P (λ t j. u t i) i i ≡ covariance P u i i
         same-column = unfold covariance gram deviation mean in refl
 
         zeros : mag (largest P x i) ≡ 0 → ⊥

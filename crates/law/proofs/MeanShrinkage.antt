@@ -134,7 +134,7 @@ pub record Passed (limit n : ℕ) (m : Moments) (s : ℕ → Float) : Type 0 whe
   pub above : (i : ℕ) → i < n → isConstant (volatility (Σ n m) i) (s i) ≡ false
   pub regular : singular n (decomposedCorrelations limit n m) ≡ false
 
--- the two vectors, their exponents and the ratio
+-- the exponents of the two vectors, the vectors, and the squared distance times the number of periods
 abbrev aOf : ℕ → Moments → (ℕ → ℤ) → ℤ
 aOf n m e = commonExponent n (inverse n m) (λ i. negℤ (e i))
 

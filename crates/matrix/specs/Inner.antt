@@ -1,4 +1,4 @@
--- What only the contracts of inner functions cite: records put together from their parts, and layouts of the code. Definitions only.
+-- What only the contracts of inner functions cite: records put together from their parts, layouts of the code, and symmetry to the last bit. Definitions only.
 use Prim.Native.Nat.{ℕ, suc, _+_, _*_, _<_}
 use mathlib.Core.Path.{_≡_}
 use mathlib.Core.Bool.{Bool, cond}

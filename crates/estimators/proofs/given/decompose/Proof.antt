@@ -16,9 +16,9 @@ use Rattle.estimators.proofs.given.decompose.Tie as tie
 
 -- by what the code computed
 module _ (n limit : ℕ) (a : List Float) {scale : Float} (es : scale ≡ amax n n (at a n)) (d : Decomposition) where
-  apart : {over : List Float} → length a ≡ n * n → over ≡ rows n n (divided (at a n) scale) → lt zero⁺ scale ≡ true → d ≡ decompose limit n (at over n) → d ≡ decomposeGiven limit n (at a n)
+  over-largest : {over : List Float} → length a ≡ n * n → over ≡ rows n n (divided (at a n) scale) → lt zero⁺ scale ≡ true → d ≡ decompose limit n (at over n) → d ≡ decomposeGiven limit n (at a n)
   unfolding decomposeGiven div
-  apart l eo t e =
+  over-largest l eo t e =
       e ∙ ap (decompose limit n) (ap (λ (o : List Float). at o n) eo ∙ mapped-at (λ x. x ⊘ scale) refl a n l)
       ∙ ap (λ (s : Float). decompose limit n (divided (at a n) s)) es
       ∙ rw (decomposeGiven, ap (lt zero⁺) (sym es) ∙ t)
@@ -52,7 +52,7 @@ returns c =
     let m = o .before .before .before in
     let s = m .before .before .before .before .before in
     let a = s .args in
-    apart (a .n) (a .limit) (a .a .now) (m .amax .ensures) _ (s .pre .2) (o .divide .ensures) (o .before .before .if1 .taken) (c .before .before .before .before .decompose .ensures)
+    over-largest (a .n) (a .limit) (a .a .now) (m .amax .ensures) _ (s .pre .2) (o .divide .ensures) (o .before .before .if1 .taken) (c .before .before .before .before .decompose .ensures)
 
 unturned-requires : tie.Need-unturned-requires
 unturned-requires c κs = search needs
