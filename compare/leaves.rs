@@ -16,13 +16,12 @@ fn main() {
     let pairs = pairs(&random, &floats);
     let scalings = scalings(&random, &floats);
     let slices = slices(&random, &floats);
-    let columns = columns(&random, &slices);
 
     let mut table = Table { different: 0 };
     table.heading();
     of_one(&random, &floats, &mut table);
     of_two(&pairs, &scalings, &mut table);
-    of_slices(&slices, &columns, &mut table);
+    of_slices(&slices, &mut table);
     if table.different > 0 {
         std::process::exit(1);
     }
@@ -65,20 +64,12 @@ fn of_two(pairs: &[(f64, f64)], scalings: &[(f64, i32)], table: &mut Table) {
     });
 }
 
-fn of_slices(slices: &[Vec<f64>], columns: &[(&[f64], usize, usize)], table: &mut Table) {
+fn of_slices(slices: &[Vec<f64>], table: &mut Table) {
     table.leaf("sum", slices, |xs| {
         (bits(copy::sum(xs)), bits(engine::sum(xs)))
     });
     table.leaf("amax", slices, |xs| {
         (bits(copy::amax(xs)), bits(engine::amax(xs)))
-    });
-    table.leaf("sum_column", columns, |&(xs, n, j)| {
-        let computed = engine::sum_column(xs, n, j);
-        (bits(copy::sum_column(xs, n, j)), bits(computed))
-    });
-    table.leaf("amax_column", columns, |&(xs, n, j)| {
-        let computed = engine::amax_column(xs, n, j);
-        (bits(copy::amax_column(xs, n, j)), bits(computed))
     });
 }
 
@@ -235,20 +226,4 @@ fn slices(random: &Random, floats: &[f64]) -> Vec<Vec<f64>> {
         (0..random.below(41)).map(entry).collect()
     };
     (0..100_000).map(slice).collect()
-}
-
-/// Each slice as rows of some width, with a column of it or one that is not there.
-fn columns<'a>(random: &Random, slices: &'a [Vec<f64>]) -> Vec<(&'a [f64], usize, usize)> {
-    let with_column = |xs: &'a Vec<f64>| {
-        let n = match random.below(10) {
-            0 => random.pick(&[0, xs.len(), xs.len() + 1, usize::MAX]),
-            _ => 1 + random.below(8),
-        };
-        let j = match random.below(10) {
-            0 => random.pick(&[n, n.wrapping_add(1), usize::MAX - 1, usize::MAX]),
-            _ => random.below(n.clamp(1, 100)),
-        };
-        (xs.as_slice(), n, j)
-    };
-    slices.iter().map(with_column).collect()
 }

@@ -41,9 +41,6 @@ double leaf_exp(double y); /* NaN above 0 */
 double leaf_exp_m1(double y);
 double leaf_sum(const double *xs, size_t xs_len);
 double leaf_amax(const double *xs, size_t xs_len);
-/* Column j of xs as whole rows of n numbers; none where j is not below n. */
-double leaf_sum_column(const double *xs, size_t xs_len, size_t n, size_t j);
-double leaf_amax_column(const double *xs, size_t xs_len, size_t n, size_t j);
 
 #ifdef __cplusplus
 }

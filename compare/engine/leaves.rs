@@ -29,8 +29,6 @@ unsafe extern "C" {
     pub safe fn exp_m1(y: f64) -> f64;
     fn leaf_sum(xs: *const f64, len: usize) -> f64;
     fn leaf_amax(xs: *const f64, len: usize) -> f64;
-    fn leaf_sum_column(xs: *const f64, len: usize, n: usize, j: usize) -> f64;
-    fn leaf_amax_column(xs: *const f64, len: usize, n: usize, j: usize) -> f64;
 }
 
 pub fn sum(xs: &[f64]) -> f64 {
@@ -39,12 +37,4 @@ pub fn sum(xs: &[f64]) -> f64 {
 
 pub fn amax(xs: &[f64]) -> f64 {
     unsafe { leaf_amax(xs.as_ptr(), xs.len()) }
-}
-
-pub fn sum_column(xs: &[f64], n: usize, j: usize) -> f64 {
-    unsafe { leaf_sum_column(xs.as_ptr(), xs.len(), n, j) }
-}
-
-pub fn amax_column(xs: &[f64], n: usize, j: usize) -> f64 {
-    unsafe { leaf_amax_column(xs.as_ptr(), xs.len(), n, j) }
 }

@@ -1,13 +1,9 @@
 -- Where the numbers of a table stored row by row stand: row t, column j at t * n + j, of n columns. Assumes nothing.
-use mathlib.Core.Path.{_≡_, refl, sym, ap, _∙_, subst}
+use mathlib.Core.Path.{_≡_, sym, ap, _∙_}
 use Prim.Native.Nat.{ℕ, zero, suc, _+_, _*_, _/_, _%_, _≤_, _<_, zero-le, suc-le-suc}
-use native.Mathlib.Nat.{lt-of-lt-of-le, mul-zero, mul-le-mul-right, mod-lt, div-lt-iff-lt-mul, div-mul-le-self, not-suc-le-zero}
+use native.Mathlib.Nat.{mul-zero, mul-le-mul-right, mod-lt, div-lt-iff-lt-mul, not-suc-le-zero}
 use native.Mathlib.Omega.{arith}
-use mathlib.Core.Bool.{Bool, true, false, cond}
-use lib.Arith.{digits-lt, digits-div, digits-mod}
-use lib.Dec.{ltb}
-use borrow.Author.Tests.{ltb-true}
-use Rattle.leaves.specs.Loops.{columnLength}
+use lib.Arith.{digits-div, digits-mod}
 
 -- row t lies within a table of T rows. With it in hand, or in an invariant, omega does the cells: j < n is linear
 pub row : (t T n : ℕ) → t < T → t * n + n ≤ T * n
@@ -35,12 +31,3 @@ same-row n i k j m hj hm e = sym (digits-div k hj) ∙ ap (λ (a : ℕ). a / n) 
 
 pub same-column : (n i k j m : ℕ) → j < n → m < n → k * n + j ≡ i * n + m → j ≡ m
 same-column n i k j m hj hm e = sym (digits-mod k hj) ∙ ap (λ (a : ℕ). a % n) e ∙ digits-mod i hm
-
--- the numbers of a column lie within the table
-pub column-in : (size n j t rows : ℕ) → rows ≡ columnLength size n j → t < rows → t * n + j < size
-unfolding columnLength
-column-in size n j t rows e h = go (ltb j n) refl (subst (λ (r : ℕ). t < r) e h)
-  where
-    go : (b : Bool) → ltb j n ≡ b → t < cond b (size / n) 0 → t * n + j < size
-    go false e l = absurd (not-suc-le-zero l)
-    go true e l = lt-of-lt-of-le (digits-lt l (ltb-true j n e)) (div-mul-le-self size n)

@@ -1,10 +1,9 @@
 -- Document 01, "Float leaves", sums, means, amax, min and max: what is done for each index from 0 up, in rising order; the first index at which a
 -- test holds; and tables of numbers. Definitions only.
-use Prim.Native.Nat.{ℕ, zero, suc, _+_, _*_, _/_}
+use Prim.Native.Nat.{ℕ, zero, suc, _+_, _*_}
 use mathlib.Core.Bool.{Bool, cond}
 use mathlib.Core.List.{List, [], _∷_, _++_}
 use mathlib.Core.Option.{Option, none, some}
-use lib.Dec.{ltb}
 use lib.ListN.{drop, getD}
 use lib.Ieee.{Float, nan}
 use Rattle.leaves.specs.Numbers.{_⊕_, _⊘_, count, zero⁺, abs, larger, smaller}
@@ -54,7 +53,3 @@ nth l i = getD l i nan
 -- number t of column j of a list that stands row by row in n columns
 abbrev pub column : List Float → ℕ → ℕ → ℕ → Float
 column l n j t = nth l (t * n + j)
-
--- how many numbers column j has, where `size` numbers stand row by row in n columns: one for each full row, none where there is no such column
-unfoldable pub columnLength : ℕ → ℕ → ℕ → ℕ
-columnLength size n j = cond (ltb j n) (size / n) 0

@@ -111,17 +111,3 @@ pub extern "C" fn leaf_amax(xs: &[f64]) -> f64
 {
     leaves::sums::amax(xs)
 }
-
-#[no_mangle]
-pub extern "C" fn leaf_sum_column(xs: &[f64], n: usize, j: usize) -> f64
-    ensures { λ r. ⌜ r ≡ Loops.sumTo (Loops.columnLength (length (now (xs .entry))) n j) (Loops.column (now (xs .entry)) n j) ⌝ }
-{
-    leaves::sums::sum_column(xs, n, j)
-}
-
-#[no_mangle]
-pub extern "C" fn leaf_amax_column(xs: &[f64], n: usize, j: usize) -> f64
-    ensures { λ r. ⌜ r ≡ Loops.amaxTo (Loops.columnLength (length (now (xs .entry))) n j) (Loops.column (now (xs .entry)) n j) ⌝ }
-{
-    leaves::sums::amax_column(xs, n, j)
-}
