@@ -2,4 +2,3 @@
 pub mod Evaluated
 pub mod Cases
 pub mod Sweeps
-pub mod Vectors
