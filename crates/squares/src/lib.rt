@@ -1,12 +1,12 @@
 // Where the guess of a square root begins. From 2^25 to 2^26, and from there to 2^27, lie 64 equal steps each, 129 numbers
 // with the ends. For number i: the whole number nearest to its root (2^13 at i = 64, the root itself), that number's square,
-// and half its reciprocal, as the patterns of floats. A `match` becomes a table in the program; an array would be written
-// anew at each call. Nothing is promised of the values but that they are numbers, their patterns below infinity's,
-// 0x7ff0_0000_0000_0000: the guess is tested.
-ghost use Prim.Native.Nat.{_<_};
+// and half its reciprocal, as the patterns of the nearest floats; past the last number, as for the last. A `match` becomes a
+// table in the program; an array would be written anew at each call.
+ghost use mathlib.Core.Path.{_≡_};
+ghost use Rattle.squares.specs.Squares as Squares;
 
 pub fn root(i: u64) -> u64
-    ensures { λ r. ⌜ r < 0x7ff0_0000_0000_0000 ⌝ }
+    ensures { λ r. ⌜ r ≡ Squares.root i ⌝ }
 {
     match i {
         0 => 0x40b6_a100_0000_0000,
@@ -142,7 +142,7 @@ pub fn root(i: u64) -> u64
 }
 
 pub fn square(i: u64) -> u64
-    ensures { λ r. ⌜ r < 0x7ff0_0000_0000_0000 ⌝ }
+    ensures { λ r. ⌜ r ≡ Squares.square i ⌝ }
 {
     match i {
         0 => 0x4180_008a_0800_0000,
@@ -278,7 +278,7 @@ pub fn square(i: u64) -> u64
 }
 
 pub fn half_reciprocal(i: u64) -> u64
-    ensures { λ r. ⌜ r < 0x7ff0_0000_0000_0000 ⌝ }
+    ensures { λ r. ⌜ r ≡ Squares.halfReciprocal i ⌝ }
 {
     match i {
         0 => 0x3f16_a03c_cea3_6b57,

@@ -2,6 +2,7 @@
 use native.Mathlib.Omega.{arith}
 use lib.Ieee.{ofBits}
 use borrow.Author.Needs.{needs}
+use Rattle.squares.proofs.Number as Squares
 use Rattle.leaves.proofs.IsNan.{above-number, pattern-number}
 use Rattle.leaves.proofs.root.near_root.Statement.{statement}
 use Rattle.leaves.proofs.root.near_root.Tie as tie
@@ -32,19 +33,19 @@ root-requires : tie.Need-root-requires
 root-requires c κs = search needs
 
 float-from-bits-r : tie.Need-float-from-bits-r
-float-from-bits-r c = pattern-number _ (omega arith)
+float-from-bits-r c = rw (c .root .ensures) (Squares.pattern-number _ _)
 
 half-reciprocal-requires : tie.Need-half-reciprocal-requires
 half-reciprocal-requires c κs = search needs
 
 float-from-bits-y : tie.Need-float-from-bits-y
-float-from-bits-y c = pattern-number _ (omega arith)
+float-from-bits-y c = rw (c .half-reciprocal .ensures) (Squares.pattern-number _ _)
 
 square-requires : tie.Need-square-requires
 square-requires c κs = search needs
 
 float-from-bits-d : tie.Need-float-from-bits-d
-float-from-bits-d c = pattern-number _ (omega arith)
+float-from-bits-d c = rw (c .square .ensures) (Squares.pattern-number _ _)
 
 returns : tie.Need-returns
 returns c = search needs

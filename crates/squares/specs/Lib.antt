@@ -1,0 +1,2 @@
+-- Where the guess of a square root begins.
+pub mod Squares
