@@ -4,8 +4,8 @@ use mathlib.Core.Bool.{Bool, true, false}
 use mathlib.Core.List.{List}
 use lib.Ieee.{Float}
 use Rattle.leaves.specs.Numbers.{zero⁺}
-use Rattle.estimators.specs.Calls.{Answered, answered}
-use Rattle.estimators.specs.declared.Answer.{Answer}
+use Rattle.rules.specs.Calls.{Answered, answered}
+use Rattle.rules.specs.declared.Answer.{Answer}
 use Rattle.capi.specs.Report.{reported, reportOf}
 use Rattle.capi.specs.Calls.{left, told, unknownKind, whenKnown}
 use Rattle.capi.specs.declared.report.Report.{Report}

@@ -4,9 +4,8 @@ use mathlib.Core.Bool.{Bool, true, false}
 use mathlib.Core.List.{List, []}
 use lib.Ieee.{Float}
 use Rattle.leaves.specs.Numbers.{zero⁺}
-use Rattle.estimators.specs.Calls.{Answered, answered, adjustedCovariance, ledoitWolfIntensity}
-use Rattle.paper.specs.Rules.{isTarget}
-use Rattle.paper.specs.Marking.{targetOf}
+use Rattle.rules.specs.Settings.{isTarget, targetOf}
+use Rattle.rules.specs.Calls.{Answered, answered, adjustedCovariance, ledoitWolfIntensity}
 use Rattle.capi.specs.Settings.{known, settingsOf}
 use Rattle.capi.specs.Report.{reported, reportOf}
 use Rattle.capi.specs.declared.report.Report.{Report}

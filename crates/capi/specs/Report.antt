@@ -4,10 +4,12 @@ use Prim.Native.Nat.{ℕ}
 use mathlib.Core.List.{List, [], _∷_}
 use lib.Ieee.{Float}
 use Rattle.leaves.specs.Numbers.{zero⁺}
-use Rattle.estimators.specs.Refusals.{Detail, nothing, only, entry, value, number, detail}
-use Rattle.estimators.specs.declared.Refusal.{Refusal}
-use Rattle.estimators.specs.declared.Answer.{Answer}
-use Rattle.estimators.specs.declared.Answer.the-variants.{Refused, Covariance, Intensity, Mean, Shrunk}
+use Rattle.rules.specs.Refusals.{number, detail}
+use Rattle.rules.specs.declared.Detail.{Detail}
+use Rattle.rules.specs.declared.Detail.the-variants.{Nothing as nothing, Only as only, Entry as entry, Value as value}
+use Rattle.rules.specs.declared.Refusal.{Refusal}
+use Rattle.rules.specs.declared.Answer.{Answer}
+use Rattle.rules.specs.declared.Answer.the-variants.{Refused, Covariance, Intensity, Mean, Shrunk}
 use Rattle.capi.specs.declared.report.Report.{Report}
 
 abbrev pub handed : ℕ → List Float → List ℕ → Report

@@ -1,6 +1,6 @@
 // The five calls with C linkage (include/engine.h): settings in numbers, the answer as a report and the slice.
 ghost use mathlib.Core.Path.{_≡_};
-ghost use Rattle.estimators.specs.Calls as Estimators;
+ghost use Rattle.rules.specs.Calls as Estimators;
 ghost use Rattle.capi.specs.Report as Reports;
 ghost use Rattle.capi.specs.Calls as Calls;
 use crate::report::hand_out;
@@ -68,7 +68,7 @@ pub extern "C" fn engine_ledoit_wolf(
         returns,
         assets,
         periods,
-        paper::settings::target(target as u64),
+        rules::targets::target(target as u64),
     );
     hand_out(report_of(told), numbers, wholes)
 }

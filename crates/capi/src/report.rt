@@ -1,11 +1,11 @@
 // An answer in numbers (include/engine.h).
 ghost use mathlib.Core.Path.{_≡_};
-ghost use Rattle.estimators.specs.Refusals as Refusals;
 ghost use Rattle.capi.specs.Report as Reports;
-use estimators::Answer;
-use estimators::Field;
-use estimators::Refusal;
-use estimators::refusals::number;
+use rules::Answer;
+use rules::Detail;
+use rules::Refusal;
+use rules::refusals::detail;
+use rules::refusals::number;
 
 pub(crate) struct Report {
     pub number: u32,
@@ -13,88 +13,48 @@ pub(crate) struct Report {
     pub wholes: [usize; 2],
 }
 
-fn field_number(field: Field) -> usize
-    ensures { λ r. ⌜ r ≡ Refusals.fieldNumber field ⌝ }
+// What stands in the report for a detail: one or two whole numbers, or a float.
+fn first_of(detail: Detail) -> usize
+    ensures { λ r. ⌜ r ≡ Reports.firstOf detail ⌝ }
 {
-    match field {
-        Field::RegularizationField => 1,
-        Field::ShrinkageField => 2,
-        Field::HalfLifeField => 3,
-        Field::ThresholdField => 4,
-        Field::SweepLimitField => 5,
+    match detail {
+        Detail::Nothing => 0,
+        Detail::Only(i) => i,
+        Detail::Entry(i, _) => i,
+        Detail::Value(_) => 0,
     }
 }
 
-fn first_of(refusal: Refusal) -> usize
-    ensures { λ r. ⌜ r ≡ Reports.firstOf (Refusals.detail refusal) ⌝ }
+fn second_of(detail: Detail) -> usize
+    ensures { λ r. ⌜ r ≡ Reports.secondOf detail ⌝ }
 {
-    match refusal {
-        Refusal::NoAssets => 0,
-        Refusal::TooLarge => 0,
-        Refusal::TooFewPeriods(periods) => periods,
-        Refusal::WrongLength => 0,
-        Refusal::NotFinite(row, _) => row,
-        Refusal::CovarianceNotFinite => 0,
-        Refusal::BadSetting(field) => field_number(field),
-        Refusal::NotTheSample => 0,
-        Refusal::ZeroVariance(column) => column,
-        Refusal::WrongSide(side) => side,
-        Refusal::Asymmetric(row, _) => row,
-        Refusal::Indefinite(_) => 0,
-        Refusal::NotDecomposed => 0,
-        Refusal::Singular => 0,
+    match detail {
+        Detail::Nothing => 0,
+        Detail::Only(_) => 0,
+        Detail::Entry(_, j) => j,
+        Detail::Value(_) => 0,
     }
 }
 
-fn second_of(refusal: Refusal) -> usize
-    ensures { λ r. ⌜ r ≡ Reports.secondOf (Refusals.detail refusal) ⌝ }
+fn value_or(otherwise: f64, detail: Detail) -> f64
+    ensures { λ r. ⌜ r ≡ Reports.valueOr otherwise detail ⌝ }
 {
-    match refusal {
-        Refusal::NoAssets => 0,
-        Refusal::TooLarge => 0,
-        Refusal::TooFewPeriods(_) => 0,
-        Refusal::WrongLength => 0,
-        Refusal::NotFinite(_, column) => column,
-        Refusal::CovarianceNotFinite => 0,
-        Refusal::BadSetting(_) => 0,
-        Refusal::NotTheSample => 0,
-        Refusal::ZeroVariance(_) => 0,
-        Refusal::WrongSide(_) => 0,
-        Refusal::Asymmetric(_, column) => column,
-        Refusal::Indefinite(_) => 0,
-        Refusal::NotDecomposed => 0,
-        Refusal::Singular => 0,
-    }
-}
-
-fn value_or(otherwise: f64, refusal: Refusal) -> f64
-    ensures { λ r. ⌜ r ≡ Reports.valueOr otherwise (Refusals.detail refusal) ⌝ }
-{
-    match refusal {
-        Refusal::NoAssets => otherwise,
-        Refusal::TooLarge => otherwise,
-        Refusal::TooFewPeriods(_) => otherwise,
-        Refusal::WrongLength => otherwise,
-        Refusal::NotFinite(_, _) => otherwise,
-        Refusal::CovarianceNotFinite => otherwise,
-        Refusal::BadSetting(_) => otherwise,
-        Refusal::NotTheSample => otherwise,
-        Refusal::ZeroVariance(_) => otherwise,
-        Refusal::WrongSide(_) => otherwise,
-        Refusal::Asymmetric(_, _) => otherwise,
-        Refusal::Indefinite(value) => value,
-        Refusal::NotDecomposed => otherwise,
-        Refusal::Singular => otherwise,
+    match detail {
+        Detail::Nothing => otherwise,
+        Detail::Only(_) => otherwise,
+        Detail::Entry(_, _) => otherwise,
+        Detail::Value(x) => x,
     }
 }
 
 fn refused(refusal: Refusal) -> Report
     ensures { λ r. ⌜ r ≡ Reports.refused refusal ⌝ }
 {
+    let with = detail(refusal);
     Report {
         number: number(refusal),
-        numbers: [value_or(0.0, refusal), 0.0],
-        wholes: [first_of(refusal), second_of(refusal)],
+        numbers: [value_or(0.0, with), 0.0],
+        wholes: [first_of(with), second_of(with)],
     }
 }
 

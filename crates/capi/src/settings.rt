@@ -1,10 +1,10 @@
 // Settings from numbers: a kind each, with the value that some kinds have (include/engine.h).
 ghost use mathlib.Core.Path.{_≡_};
 ghost use Rattle.capi.specs.Settings as Kinds;
-use estimators::Estimate;
-use estimators::Regularization;
-use estimators::Settings;
-use estimators::Shrinkage;
+use rules::Estimate;
+use rules::Regularization;
+use rules::Settings;
+use rules::Shrinkage;
 
 // How many kinds there are: the definitions' `estimateKinds`, `shrinkageKinds` and `regularizationKinds`.
 const ESTIMATE_KINDS: u32 = 5;
@@ -52,7 +52,7 @@ fn shrinkage_of(kind: u32, value: f64) -> Shrinkage
     if kind == 1 {
         return Shrinkage::Fixed(value);
     }
-    Shrinkage::LedoitWolf(paper::settings::target((kind - 2) as u64))
+    Shrinkage::LedoitWolf(rules::targets::target((kind - 2) as u64))
 }
 
 fn regularization_of(kind: u32, value: f64) -> Regularization

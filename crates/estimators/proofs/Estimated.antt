@@ -13,22 +13,23 @@ use Rattle.leaves.proofs.Loops.{tab-is}
 use Rattle.matrix.specs.Matrix.{Matrix, at, rows}
 use Rattle.matrix.specs.Jacobi.{Decomposition}
 use Rattle.matrix.proofs.Stored.{length-rows}
-use Rattle.estimators.specs.Refusals.{Check, passes, refuses, first}
-use Rattle.estimators.specs.Given.{average}
-use Rattle.estimators.specs.Adjusted.{isGiven, decompositionOf, base, intensity, isAdjusted, baseOf, adjustedOf}
-use Rattle.estimators.specs.Order.{opening, ofGiven, ofSettings, adjustedOrder, noVariance, byReturns, bySettings, byAnswer, byEstimate}
-use Rattle.estimators.specs.Shapes.{Shaped}
-use Rattle.estimators.specs.Calls.{answered, settle, adjustedCovariance}
+use Rattle.rules.specs.Refusals.{Check, passes, refuses, first}
+use Rattle.rules.specs.Given.{average}
+use Rattle.rules.specs.Adjusted.{isGiven, decompositionOf, base, intensity, isAdjusted, baseOf, adjustedOf}
+use Rattle.rules.specs.Order.{ofGiven, ofSettings, noVariance, byReturns, bySettings, byAnswer, byEstimate}
+use Rattle.rules.specs.Shapes.{Shaped}
+use Rattle.rules.specs.Calls.{answered, settle, adjustedCovariance}
+use Rattle.rules.specs.declared.Estimate.{Estimate}
+use Rattle.rules.specs.declared.Estimate.the-variants.{Sample, Given, Weighted, Semi, SemiBelow}
+use Rattle.rules.specs.declared.Settings.{Settings}
+use Rattle.rules.specs.declared.Refusal.{Refusal}
+use Rattle.rules.specs.declared.Answer.{Answer}
+use Rattle.rules.specs.declared.Answer.the-variants.{Refused, Covariance}
+use Rattle.rules.proofs.Firsts.{first-then, first-join}
+use Rattle.rules.proofs.Passed.{pass-cons, first-passes}
+use Rattle.rules.proofs.Opened.{settle-refused, settle-accepted, shaped}
+use Rattle.rules.proofs.AdjustedCall.{covariances, ofAnswer, adjusted-is}
 use Rattle.estimators.specs.Estimated.{finished, estimated}
-use Rattle.estimators.specs.declared.Estimate.{Estimate}
-use Rattle.estimators.specs.declared.Estimate.the-variants.{Sample, Given, Weighted, Semi, SemiBelow}
-use Rattle.estimators.specs.declared.Settings.{Settings}
-use Rattle.estimators.specs.declared.Refusal.{Refusal}
-use Rattle.estimators.specs.declared.Answer.{Answer}
-use Rattle.estimators.specs.declared.Answer.the-variants.{Refused, Covariance}
-use Rattle.estimators.proofs.Firsts.{first-then, first-join}
-use Rattle.estimators.proofs.Passed.{pass-cons, first-passes}
-use Rattle.estimators.proofs.Opened.{settle-refused, settle-accepted, shaped}
 
 -- ---- from the estimate b on
 
@@ -102,21 +103,17 @@ module _ (r : List Float) (n T : ℕ) (s : Settings) (given : List Float) (side 
   abbrev δ : Float
   δ = intensity (s .shrinkage) T n x
 
-  abbrev b : List Float
-  b = baseOf s T n x (average given side)
-
   abbrev a : List Float
-  a = adjustedOf s δ n b
+  a = covariances r n T s given side
 
   abbrev later : List Check
-  later = ofSettings s δ T n side x (at b n) (at a n)
+  later = ofAnswer r n T s given side
 
   -- the answer, by the first check that refuses
   whole : {k : Check} → k ≡ first (byReturns T n x ++ ofGiven s given side ++ later) → settle k slice (answered (Covariance δ (d .sweeps) (d .rotations)) a) ≡ adjustedCovariance r n T s given side slice
-  unfolding adjustedCovariance adjustedOrder opening
   whole {k} e =
       ap (λ (l : List Float). settle k slice (answered (Covariance δ (d .sweeps) (d .rotations)) l)) (tab-is nan a (n * n) (nth a) (length-rows _ n n) (λ k h. refl))
-      ∙ shaped r n T (n * n) slice (ofGiven s given side ++ later) (Covariance δ (d .sweeps) (d .rotations)) (nth a) shape long e
+      ∙ shaped r n T (n * n) slice (ofGiven s given side ++ later) (Covariance δ (d .sweeps) (d .rotations)) (nth a) shape long e ∙ sym (adjusted-is r n T s given side slice)
 
   pub returns-refuse : {c : Refusal} → refuses c ≡ first (byReturns T n x) → answered (Refused c) slice ≡ adjustedCovariance r n T s given side slice
   unfolding first

@@ -8,18 +8,18 @@ use lib.Ieee.{Float}
 use Rattle.leaves.specs.Numbers.{zero⁺}
 use Rattle.leaves.specs.Loops.{fill, tab}
 use Rattle.matrix.specs.Matrix.{at}
-use Rattle.estimators.specs.Refusals.{Check, passes, refuses, first}
-use Rattle.estimators.specs.LedoitWolf.{ledoitWolf}
-use Rattle.estimators.specs.Order.{noCorrelation, ledoitWolfOrder, byShape, byReturns}
-use Rattle.estimators.specs.Shapes.{Shaped}
-use Rattle.estimators.specs.Calls.{Answered, settle, ledoitWolfIntensity}
-use Rattle.estimators.specs.declared.Target.{Target}
-use Rattle.estimators.specs.declared.Shrinkage.the-variants.{LedoitWolf}
-use Rattle.estimators.specs.declared.Refusal.{Refusal}
-use Rattle.estimators.specs.declared.Answer.{Answer}
-use Rattle.estimators.specs.declared.Answer.the-variants.{Refused, Intensity}
-use Rattle.estimators.proofs.Opened.{answerOf}
-use Rattle.estimators.proofs.Opened as Opened
+use Rattle.rules.specs.Refusals.{Check, passes, refuses, first}
+use Rattle.rules.specs.LedoitWolf.{ledoitWolf}
+use Rattle.rules.specs.Order.{noCorrelation, ledoitWolfOrder, byShape, byReturns}
+use Rattle.rules.specs.Shapes.{Shaped}
+use Rattle.rules.specs.Calls.{Answered, settle, ledoitWolfIntensity}
+use Rattle.rules.specs.declared.Target.{Target}
+use Rattle.rules.specs.declared.Shrinkage.the-variants.{LedoitWolf}
+use Rattle.rules.specs.declared.Refusal.{Refusal}
+use Rattle.rules.specs.declared.Answer.{Answer}
+use Rattle.rules.specs.declared.Answer.the-variants.{Refused, Intensity}
+use Rattle.rules.proofs.Opened.{answerOf}
+use Rattle.rules.proofs.Opened as Opened
 
 module _ (r : List Float) (n T : ℕ) (F : Target) where
   abbrev intensity : Answer

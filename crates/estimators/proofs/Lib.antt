@@ -1,27 +1,5 @@
--- The laws that the proofs of the estimators share.
-pub mod Formed
-pub mod Sums
-pub mod OverPeriods
-pub mod Mirror
-pub mod Halves
-pub mod Passed
-pub mod Firsts
-pub mod Shapes
-pub mod Opened
+-- The laws that the proofs of the calls share.
 pub mod Estimated
 pub mod LedoitWolfCall
-pub mod LedoitWolf
-pub mod Centered
 pub mod OfGiven
-pub mod Exponents
-pub mod Factors
-pub mod SameReturns
-pub mod Samples
-pub mod Gathered
-pub mod Constant
-pub mod Grams
-pub mod GramSymmetric
-pub mod WeightedMeans
-pub mod Lent
 pub mod MeanCalls
-pub mod BayesSteinLists

@@ -12,24 +12,24 @@ use Rattle.leaves.specs.Loops.{tab}
 use Rattle.leaves.specs.Scaling.{binaryExponent}
 use Rattle.matrix.specs.Limits.{maxSweeps}
 use Rattle.matrix.specs.Matrix.{at, amax}
-use Rattle.estimators.specs.Refusals.{Check, passes, refuses, first}
-use Rattle.estimators.specs.Sample.{scaled}
-use Rattle.estimators.specs.Weighted.{logDecay, weights, weightedMean}
-use Rattle.estimators.specs.Moments.{Moments, moments}
-use Rattle.estimators.specs.Shrinking.{Shrinking, shrunkBy}
-use Rattle.estimators.specs.JamesStein.{jamesStein}
-use Rattle.estimators.specs.BayesStein.{exponentsOf, largestIn, correlations, bayesStein}
-use Rattle.estimators.specs.Order.{badSweepLimit, badHalfLife, weightedOrder, jamesSteinOrder, bayesSteinOrder, byReturns, notFound, ofCorrelations}
-use Rattle.estimators.specs.Shapes.{Shaped}
-use Rattle.estimators.specs.Calls.{answered, settle, exponentiallyWeightedMean, jamesSteinMean, bayesSteinMean}
-use Rattle.estimators.specs.Stein.{jamesSteinOf, bayesSteinFrom}
-use Rattle.estimators.specs.declared.Refusal.{Refusal}
-use Rattle.estimators.specs.declared.Refusal.the-variants.{BadSetting}
-use Rattle.estimators.specs.declared.Field.the-variants.{SweepLimitField}
-use Rattle.estimators.specs.declared.Answer.the-variants.{Refused, Mean}
-use Rattle.estimators.proofs.Firsts.{first-alone}
-use Rattle.estimators.proofs.Passed.{pass-cons, first-passes}
-use Rattle.estimators.proofs.Opened.{setting-refused, setting-accepted}
+use Rattle.rules.specs.Refusals.{Check, passes, refuses, first}
+use Rattle.rules.specs.Sample.{scaled}
+use Rattle.rules.specs.Weighted.{logDecay, weights, weightedMean}
+use Rattle.rules.specs.Moments.{Moments, moments}
+use Rattle.rules.specs.Shrinking.{Shrinking, shrunkBy}
+use Rattle.rules.specs.JamesStein.{jamesStein}
+use Rattle.rules.specs.BayesStein.{exponentsOf, largestIn, correlations, bayesStein}
+use Rattle.rules.specs.Order.{badSweepLimit, badHalfLife, weightedOrder, jamesSteinOrder, bayesSteinOrder, byReturns, notFound, ofCorrelations}
+use Rattle.rules.specs.Shapes.{Shaped}
+use Rattle.rules.specs.Calls.{answered, settle, exponentiallyWeightedMean, jamesSteinMean, bayesSteinMean}
+use Rattle.rules.specs.declared.Refusal.{Refusal}
+use Rattle.rules.specs.declared.Refusal.the-variants.{BadSetting}
+use Rattle.rules.specs.declared.Field.the-variants.{SweepLimitField}
+use Rattle.rules.specs.declared.Answer.the-variants.{Refused, Mean}
+use Rattle.rules.proofs.Firsts.{first-alone}
+use Rattle.rules.proofs.Passed.{pass-cons, first-passes}
+use Rattle.rules.proofs.Opened.{setting-refused, setting-accepted}
+use Rattle.means.specs.Stein.{jamesSteinOf, bayesSteinFrom}
 
 -- a limit that passes is within document 01's
 pub within : (limit : ℕ) (opens : Check) {k own : Check} → own ≡ badSweepLimit limit → k ≡ first (opens ∷ own ∷ []) → k ≡ passes → limit ≤ maxSweeps

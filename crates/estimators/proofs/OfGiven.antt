@@ -2,7 +2,7 @@
 -- Assumes nothing.
 use mathlib.Core.Path.{_≡_, sym, ap, _∙_}
 use mathlib.Core.Bool.{true, false, not}
-use mathlib.Core.List.{List, _++_}
+use mathlib.Core.List.{List, _∷_, _++_}
 use Prim.Native.Nat.{ℕ, _*_, _<_, _≤_}
 use native.Mathlib.Omega.{arith}
 use borrow.Author.Tests.{eqb-true, eqb-false, ltb-false, not-false}
@@ -12,19 +12,19 @@ use lib.Ieee.{Float}
 use Rattle.matrix.specs.Limits.{maxSide, maxSweeps}
 use Rattle.matrix.specs.Matrix.{at}
 use Rattle.matrix.specs.Jacobi.{Decomposition, unturned}
-use Rattle.estimators.specs.Refusals.{Check, passes, refuses, first}
-use Rattle.estimators.specs.Given.{averagedOf, average, decomposeGiven}
-use Rattle.estimators.specs.Adjusted.{isGiven, decompositionOf}
-use Rattle.estimators.specs.Order.{badSweepLimit, ofGiven, bySizes, byNumbers}
-use Rattle.estimators.specs.Checks.{examined}
-use Rattle.estimators.specs.declared.Settings.{Settings}
-use Rattle.estimators.specs.declared.Refusal.{Refusal}
-use Rattle.estimators.specs.declared.given.Examined.{Examined}
-use Rattle.estimators.specs.declared.given.Examined.the-variants as Found
-use Rattle.estimators.proofs.Firsts.{first-then}
-use Rattle.estimators.proofs.Passed.{first-passes}
+use Rattle.rules.specs.Refusals.{Check, passes, refuses, first}
+use Rattle.rules.specs.Given.{averagedOf, average, decomposeGiven}
+use Rattle.rules.specs.Adjusted.{isGiven, decompositionOf}
+use Rattle.rules.specs.Order.{badSweepLimit, ofGiven, bySizes, byNumbers}
+use Rattle.rules.specs.declared.Settings.{Settings}
+use Rattle.rules.specs.declared.Refusal.{Refusal}
+use Rattle.rules.proofs.Firsts.{first-then}
+use Rattle.rules.proofs.Passed.{first-passes}
+use Rattle.inputs.specs.Checks.{examined}
+use Rattle.inputs.specs.declared.given.Examined.{Examined}
+use Rattle.inputs.specs.declared.given.Examined.the-variants as Found
 
-pub sizes-pass : (limit size n : ℕ) {k : Check} → k ≡ passes → k ≡ first (bySizes limit size n) → (limit ≤ maxSweeps) × (0 < n) × (n ≤ maxSide) × (size ≡ n * n)
+pub sizes-pass : (limit size n : ℕ) {k : Check} → k ≡ passes → k ≡ first (badSweepLimit limit ∷ bySizes size n) → (limit ≤ maxSweeps) × (0 < n) × (n ≤ maxSide) × (size ≡ n * n)
 unfolding badSweepLimit
 sizes-pass limit size n pass e =
     let a = first-passes (ltb maxSweeps limit) _ _ (sym e ∙ pass) in
@@ -59,6 +59,10 @@ module _ (s : Settings) (given : List Float) (side : ℕ) where
   abbrev limit : ℕ
   limit = s .limit
 
+  -- the sweep limit, and the sizes
+  abbrev sizes : List Check
+  sizes = badSweepLimit limit ∷ bySizes (length given) side
+
   abbrev parts : Decomposition
   parts = decomposeGiven limit side (average given side)
 
@@ -67,24 +71,24 @@ module _ (s : Settings) (given : List Float) (side : ℕ) where
   unfolding decompositionOf
   by-given e = rw (decompositionOf, e)
 
-  checks-given : isGiven (s .estimate) ≡ true → first (ofGiven s given side) ≡ first (bySizes limit (length given) side ++ byNumbers side (at given side) parts)
+  checks-given : isGiven (s .estimate) ≡ true → first (ofGiven s given side) ≡ first (sizes ++ byNumbers side (at given side) parts)
   unfolding ofGiven
   checks-given e = rw (ofGiven, e, by-given e)
 
-  pub sizes-refuse : {c : Refusal} → isGiven (s .estimate) ≡ true → refuses c ≡ first (bySizes limit (length given) side)
+  pub sizes-refuse : {c : Refusal} → isGiven (s .estimate) ≡ true → refuses c ≡ first (sizes)
       → (Found.Refused c ≡ examined (first (ofGiven s given side)) (decompositionOf s given side)) × (first (ofGiven s given side) ≡ refuses c)
   unfolding first
   sizes-refuse {c} e h =
       let rest = byNumbers side (at given side) parts in
-      let refused : first (ofGiven s given side) ≡ refuses c = checks-given e ∙ sym (first-then (bySizes limit (length given) side) rest h) in
+      let refused : first (ofGiven s given side) ≡ refuses c = checks-given e ∙ sym (first-then (sizes) rest h) in
       (ap (λ (k : Check). examined k (decompositionOf s given side)) (sym refused), refused)
 
-  pub sizes-fit : {k : Examined} {table : List Float} → isGiven (s .estimate) ≡ true → passes ≡ first (bySizes limit (length given) side) → table ≡ averagedOf given side
+  pub sizes-fit : {k : Examined} {table : List Float} → isGiven (s .estimate) ≡ true → passes ≡ first (sizes) → table ≡ averagedOf given side
       → k ≡ examined (first (byNumbers side (at given side) (decomposeGiven limit side (at table side)))) (decomposeGiven limit side (at table side))
       → k ≡ examined (first (ofGiven s given side)) (decompositionOf s given side)
   unfolding first
   sizes-fit e h et ek =
       let rest = byNumbers side (at given side) parts in
-      let last : first (ofGiven s given side) ≡ first rest = checks-given e ∙ sym (first-then (bySizes limit (length given) side) rest h) in
+      let last : first (ofGiven s given side) ≡ first rest = checks-given e ∙ sym (first-then (sizes) rest h) in
       ek ∙ ap (λ (l : List Float). examined (first (byNumbers side (at given side) (decomposeGiven limit side (at l side)))) (decomposeGiven limit side (at l side))) et
       ∙ ap (λ (k : Check). examined k parts) (sym last) ∙ ap (λ (d : Decomposition). examined (first (ofGiven s given side)) d) (sym (by-given e))

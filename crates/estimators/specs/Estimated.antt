@@ -1,14 +1,14 @@
--- What only the contracts of this crate's inner functions cite: the adjusted covariance's last parts, on an answer slice of n × n numbers. Definitions only.
+-- What only the contracts of inner functions cite: the adjusted covariance's last parts, on an answer slice of n × n numbers. Definitions only.
 use Prim.Native.Nat.{ℕ}
 use mathlib.Core.List.{List}
 use lib.Ieee.{Float}
 use Rattle.matrix.specs.Matrix.{Matrix, at}
-use Rattle.estimators.specs.Refusals.{first}
-use Rattle.estimators.specs.Adjusted.{intensity, baseOf, adjustedOf}
-use Rattle.estimators.specs.Order.{byEstimate, ofSettings}
-use Rattle.estimators.specs.Calls.{Answered, answered, settle}
-use Rattle.estimators.specs.declared.Settings.{Settings}
-use Rattle.estimators.specs.declared.Answer.the-variants.{Covariance}
+use Rattle.rules.specs.Refusals.{first}
+use Rattle.rules.specs.Adjusted.{intensity, baseOf, adjustedOf}
+use Rattle.rules.specs.Order.{byEstimate, ofSettings}
+use Rattle.rules.specs.Calls.{Answered, answered, settle}
+use Rattle.rules.specs.declared.Settings.{Settings}
+use Rattle.rules.specs.declared.Answer.the-variants.{Covariance}
 
 -- from the estimate b on
 abbrev pub finished : Settings → Float → ℕ → ℕ → Matrix → ℕ → ℕ → List Float → List Float → Answered

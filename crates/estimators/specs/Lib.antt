@@ -1,25 +1,2 @@
--- Document 01: its opening paragraph, "Records", "Estimators", "Causes" and "How tight", a.
-pub mod Refusals
-pub mod Sample
-pub mod Rows
-pub mod Powers
-pub mod Weighted
-pub mod Semi
-pub mod Given
-pub mod LedoitWolf
-pub mod Settings
-pub mod Adjusted
-pub mod Moments
-pub mod Held
-pub mod Exponents
-pub mod Shrinking
-pub mod JamesStein
-pub mod BayesStein
-pub mod Gather
-pub mod Stein
-pub mod Order
-pub mod Checks
-pub mod Shapes
-pub mod Opening
-pub mod Calls
+-- What only contracts of inner functions cite: the adjusted covariance in parts.
 pub mod Estimated

@@ -1,16 +1,16 @@
 // The five calls of document 01. Each looks at shapes and lengths, refusals 1 to 4, then fills as much of the answer slice as its answer needs; a refusal
 // leaves the slice as it was.
 ghost use mathlib.Core.Path.{_≡_};
-ghost use Rattle.estimators.specs.Calls as Calls;
-ghost use Rattle.estimators.specs.Calls.{answered};
-use crate::Answer;
-use crate::Settings;
-use crate::Target;
-use crate::checks::Check;
+ghost use Rattle.rules.specs.Calls as Calls;
+ghost use Rattle.rules.specs.Calls.{answered};
 use crate::covariance;
 use crate::expected_returns;
-use crate::opening::AnswerShape;
-use crate::opening::check_shape;
+use inputs::checks::Check;
+use inputs::shapes::AnswerShape;
+use inputs::shapes::check_shape;
+use rules::Answer;
+use rules::Settings;
+use rules::Target;
 
 // The covariance of n assets, estimated, shrunk and regularized as the settings say: n * n numbers, row by row. `given`, `side` rows of as many
 // numbers, is looked at for the given estimate alone.

@@ -5,40 +5,41 @@ ghost use Prim.Native.Nat.{_*_, _≤_, _<_};
 ghost use lib.ListN.{length, take};
 ghost use Rattle.matrix.specs.Limits.{maxSide};
 ghost use Rattle.matrix.specs.Matrix.{Matrix, at, rows};
-ghost use Rattle.estimators.specs.Refusals as Refusals;
-ghost use Rattle.estimators.specs.Sample as Sample;
-ghost use Rattle.estimators.specs.Adjusted as Adjusted;
-ghost use Rattle.estimators.specs.Order as Order;
-ghost use Rattle.estimators.specs.Order.{ofGiven, bySettings, byAnswer};
-ghost use Rattle.estimators.specs.Shapes.{Shaped};
-ghost use Rattle.estimators.specs.Checks.{checked, examined};
-ghost use Rattle.estimators.specs.Calls as Calls;
-ghost use Rattle.estimators.specs.Calls.{answered};
+ghost use Rattle.rules.specs.Refusals as Refusals;
+ghost use Rattle.rules.specs.Sample as Sample;
+ghost use Rattle.rules.specs.Adjusted as Adjusted;
+ghost use Rattle.rules.specs.Order as Order;
+ghost use Rattle.rules.specs.Order.{ofGiven, bySettings, byAnswer};
+ghost use Rattle.rules.specs.Shapes.{Shaped};
+ghost use Rattle.rules.specs.Calls as Calls;
+ghost use Rattle.rules.specs.Calls.{answered};
+ghost use Rattle.rules.specs.Given.{averagedOf};
+ghost use Rattle.inputs.specs.Checks.{checked, examined};
 ghost use Rattle.estimators.specs.Estimated.{finished, estimated};
-ghost use Rattle.estimators.specs.Given.{averagedOf};
-use crate::Answer;
-use crate::Estimate;
-use crate::Refusal;
-use crate::Settings;
-use crate::Shrinkage;
-use crate::Target;
-use crate::adjusted::adjust;
-use crate::adjusted::is_adjusted;
-use crate::base::put_base;
-use crate::checks::Check;
-use crate::checks::first;
-use crate::checks::when;
-use crate::given::Examined;
-use crate::given::check_sizes;
-use crate::given::examine;
-use crate::ledoit_wolf;
 use crate::opening::check_returns;
-use crate::sample;
 use crate::validate::bad_estimate;
 use crate::validate::bad_regularization;
 use crate::validate::bad_shrinkage;
 use crate::validate::is_given;
 use crate::validate::not_the_sample;
+use covariances::adjusted::adjust;
+use covariances::adjusted::is_adjusted;
+use covariances::base::put_base;
+use covariances::ledoit_wolf;
+use covariances::sample;
+use inputs::checks::Check;
+use inputs::checks::first;
+use inputs::checks::when;
+use inputs::given::Examined;
+use inputs::given::check_sizes;
+use inputs::given::examine;
+use inputs::limits::bad_sweep_limit;
+use rules::Answer;
+use rules::Estimate;
+use rules::Refusal;
+use rules::Settings;
+use rules::Shrinkage;
+use rules::Target;
 
 // Refusal 9: the first asset whose volatility under the covariance s is at most 1e-10 of its largest return.
 fn check_constant(s: &[f64], r: &[f64], n: usize, periods: usize) -> Check
@@ -245,7 +246,7 @@ fn examine_given(settings: Settings, given: &[f64], side: usize, out: &mut [f64]
     if !is_given(estimate) {
         return Examined::Accepted(0, 0);
     }
-    let bad = check_sizes(limit, given.len(), side);
+    let bad = first(bad_sweep_limit(limit), check_sizes(given.len(), side));
     if let Check::Refuses(refusal) = bad {
         return Examined::Refused(refusal);
     }

@@ -1,16 +1,16 @@
 // The checks of the settings, refusals 7 and 8 (covariance.rs, `validate`).
 ghost use mathlib.Core.Path.{_≡_};
-ghost use Rattle.estimators.specs.Checks.{checked};
-ghost use Rattle.estimators.specs.Adjusted as Adjusted;
-ghost use Rattle.estimators.specs.Order as Order;
-use crate::Estimate;
-use crate::Field;
-use crate::Refusal;
-use crate::Regularization;
-use crate::Shrinkage;
-use crate::checks::Check;
-use crate::checks::when;
-use crate::weighted;
+ghost use Rattle.rules.specs.Adjusted as Adjusted;
+ghost use Rattle.rules.specs.Order as Order;
+ghost use Rattle.inputs.specs.Checks.{checked};
+use covariances::weighted;
+use inputs::checks::Check;
+use inputs::checks::when;
+use rules::Estimate;
+use rules::Field;
+use rules::Refusal;
+use rules::Regularization;
+use rules::Shrinkage;
 
 fn is_sample(estimate: Estimate) -> bool
     ensures { λ r. ⌜ r ≡ Adjusted.isSample estimate ⌝ }
@@ -88,13 +88,4 @@ pub(crate) fn not_the_sample(shrinkage: Shrinkage, estimate: Estimate) -> Check
         Shrinkage::Fixed(_) => Check::Passes,
         Shrinkage::LedoitWolf(_) => when(!is_sample(estimate), Refusal::NotTheSample),
     }
-}
-
-pub(crate) fn bad_sweep_limit(limit: usize) -> Check
-    ensures { λ r. ⌜ checked r ≡ Order.badSweepLimit limit ⌝ }
-{
-    when(
-        limit > matrix::MAX_SWEEPS,
-        Refusal::BadSetting(Field::SweepLimitField),
-    )
 }

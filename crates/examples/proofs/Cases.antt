@@ -9,19 +9,19 @@ use Rattle.leaves.specs.Numbers.{float, count, zero⁺, half, one, two}
 use Rattle.leaves.specs.Scaling.{binaryExponent, pow2, pow2Scaled}
 use Rattle.leaves.specs.Root.{sqrt}
 use Rattle.matrix.specs.Limits.{maxSweeps}
-use Rattle.estimators.specs.Settings.{settings}
-use Rattle.estimators.specs.Refusals.{passes, refuses}
-use Rattle.estimators.specs.Weighted.{logDecay, weights}
-use Rattle.estimators.specs.Order.{badHalfLife}
-use Rattle.estimators.specs.Calls.{Answered, answered, adjustedCovariance, exponentiallyWeightedMean, jamesSteinMean}
-use Rattle.estimators.specs.declared.Estimate.the-variants.{Sample, Given}
-use Rattle.estimators.specs.declared.Shrinkage.{Shrinkage}
-use Rattle.estimators.specs.declared.Shrinkage.the-variants.{Unshrunk, Fixed}
-use Rattle.estimators.specs.declared.Regularization.{Regularization}
-use Rattle.estimators.specs.declared.Regularization.the-variants.{Unregularized, Ridge}
-use Rattle.estimators.specs.declared.Field.the-variants.{HalfLifeField}
-use Rattle.estimators.specs.declared.Refusal.the-variants.{BadSetting, ZeroVariance, Indefinite, NotDecomposed, Singular}
-use Rattle.estimators.specs.declared.Answer.the-variants.{Refused, Covariance, Mean, Shrunk}
+use Rattle.rules.specs.Settings.{settings}
+use Rattle.rules.specs.Refusals.{passes, refuses}
+use Rattle.rules.specs.Weighted.{logDecay, weights}
+use Rattle.rules.specs.Order.{badHalfLife}
+use Rattle.rules.specs.Calls.{Answered, answered, adjustedCovariance, exponentiallyWeightedMean, jamesSteinMean}
+use Rattle.rules.specs.declared.Estimate.the-variants.{Sample, Given}
+use Rattle.rules.specs.declared.Shrinkage.{Shrinkage}
+use Rattle.rules.specs.declared.Shrinkage.the-variants.{Unshrunk, Fixed}
+use Rattle.rules.specs.declared.Regularization.{Regularization}
+use Rattle.rules.specs.declared.Regularization.the-variants.{Unregularized, Ridge}
+use Rattle.rules.specs.declared.Field.the-variants.{HalfLifeField}
+use Rattle.rules.specs.declared.Refusal.the-variants.{BadSetting, ZeroVariance, Indefinite, NotDecomposed, Singular}
+use Rattle.rules.specs.declared.Answer.the-variants.{Refused, Covariance, Mean, Shrunk}
 use Rattle.examples.proofs.Evaluated.{evaluated}
 
 -- rows (1,2), (3,6) or (1,1), (1,1)

@@ -28,25 +28,26 @@ use Rattle.matrix.specs.Jacobi.{Decomposition}
 use Rattle.matrix.proofs.Stored.{entry-at, rows-at, by-cell}
 use Rattle.matrix.proofs.Alike.{finite-same}
 use Rattle.matrix.proofs.Finite.{finite-all}
-use Rattle.estimators.specs.Refusals.{Check, passes, when, first}
-use Rattle.estimators.specs.Sample.{covariance, largest, constantAsset, volatility, isConstant}
-use Rattle.estimators.specs.Given.{average}
-use Rattle.estimators.specs.LedoitWolf.{constantCorrelation, ledoitWolf}
-use Rattle.estimators.specs.Adjusted.{isSample, isGiven, decompositionOf, base, intensity, shrunk, regularized, isAdjusted, baseOf}
-use Rattle.estimators.specs.Adjusted as Spec
-use Rattle.estimators.specs.Order.{opening, badRegularization, badShrinkage, badEstimate, notTheSample, noCorrelation, noVariance, ofSettings, ledoitWolfOrder, adjustedOrder, byAnswer}
-use Rattle.estimators.specs.Calls.{answered, settle, ledoitWolfIntensity, adjustedCovariance}
-use Rattle.estimators.specs.Settings.{settings}
-use Rattle.estimators.specs.declared.Estimate.{Estimate}
-use Rattle.estimators.specs.declared.Target.{Target}
-use Rattle.estimators.specs.declared.Target.the-variants.{ConstantVariance, ConstantCorrelation}
-use Rattle.estimators.specs.declared.Shrinkage.{Shrinkage}
-use Rattle.estimators.specs.declared.Shrinkage.the-variants.{Unshrunk, Fixed, LedoitWolf}
-use Rattle.estimators.specs.declared.Regularization.{Regularization}
-use Rattle.estimators.specs.declared.Field.the-variants.{ShrinkageField}
-use Rattle.estimators.specs.declared.Refusal.the-variants.{BadSetting, CovarianceNotFinite, NotTheSample, ZeroVariance, WrongSide, Singular}
-use Rattle.estimators.specs.declared.Answer.{Answer}
-use Rattle.estimators.specs.declared.Answer.the-variants.{Covariance, Intensity}
+use Rattle.rules.specs.Refusals.{Check, passes, when, first}
+use Rattle.rules.specs.Sample.{covariance, largest, constantAsset, volatility, isConstant}
+use Rattle.rules.specs.Given.{average}
+use Rattle.rules.specs.LedoitWolf.{constantCorrelation, ledoitWolf}
+use Rattle.rules.specs.Adjusted.{isSample, isGiven, decompositionOf, base, intensity, shrunk, regularized, isAdjusted, baseOf}
+use Rattle.rules.specs.Adjusted as Spec
+use Rattle.rules.specs.Order.{opening, badRegularization, badShrinkage, badEstimate, notTheSample, noCorrelation, noVariance, ofGiven, ofSettings, ledoitWolfOrder, byAnswer}
+use Rattle.rules.specs.Calls.{answered, settle, ledoitWolfIntensity}
+use Rattle.rules.specs.Settings.{settings}
+use Rattle.rules.specs.declared.Estimate.{Estimate}
+use Rattle.rules.specs.declared.Target.{Target}
+use Rattle.rules.specs.declared.Target.the-variants.{ConstantVariance, ConstantCorrelation}
+use Rattle.rules.specs.declared.Shrinkage.{Shrinkage}
+use Rattle.rules.specs.declared.Shrinkage.the-variants.{Unshrunk, Fixed, LedoitWolf}
+use Rattle.rules.specs.declared.Regularization.{Regularization}
+use Rattle.rules.specs.declared.Field.the-variants.{ShrinkageField}
+use Rattle.rules.specs.declared.Refusal.the-variants.{BadSetting, CovarianceNotFinite, NotTheSample, ZeroVariance, WrongSide, Singular}
+use Rattle.rules.specs.declared.Answer.{Answer}
+use Rattle.rules.specs.declared.Answer.the-variants.{Covariance, Intensity}
+use Rattle.rules.proofs.AdjustedCall.{adjusted-is}
 use Rattle.law.specs.Law.{All, Sized, AtLeast, answerParts, Alike, ask, EstimateInRange, ShrinkageInRange, CopiedEstimate, maxPower, returnRange, covarianceRange, intensityRange, parts}
 use Rattle.law.specs.Law as Law
 use Rattle.law.proofs.Ranges.{intensityBounds, shrunkBounds}
@@ -231,9 +232,8 @@ module _ (k : ℕ) (small : k ≤ maxPower) (r : List Float) (sizes : All (Sized
 
   order : (slice slice' : List Float) → length slice' ≡ length slice
       → Chain (Outcome k n (δ r) (δ r') (d E H g) (d E' H' g') (at (adjusted (δ r) E H r g) n) (at (adjusted (δ r') E' H' r' g') n))
-      (adjustedOrder r n P (settings E S H limit) g side slice (δ r) (at (estimate E r g) n) (at (adjusted (δ r) E H r g) n))
-      (adjustedOrder r' n P (settings E' S H' limit) g' side slice' (δ r') (at (estimate E' r' g') n) (at (adjusted (δ r') E' H' r' g') n))
-  unfolding adjustedOrder
+      (opening r n P (n * n) slice ++ ofGiven (settings E S H limit) g side ++ asked (δ r) E H r g)
+      (opening r' n P (n * n) slice' ++ ofGiven (settings E' S H' limit) g' side ++ asked (δ r') E' H' r' g')
   order slice slice' e =
       chain-append (opening-chain k small r sizes n P (n * n) slice slice' e (λ s opens.
       estimate-chain k small r sizes n P s side limit S H H' E E' g g' copied q q' given (λ based same.
@@ -243,11 +243,14 @@ module _ (k : ℕ) (small : k ≤ maxPower) (r : List Float) (sizes : All (Sized
 
   pub covariance-law : (slice slice' : List Float) → length slice' ≡ length slice
       → Alike (pos k) (parts n (ask r n P (Law.adjusted (settings E S H limit) g side) slice)) (parts n (ask r' n P (Law.adjusted (settings E' S H' limit) g' side) slice'))
-  unfolding adjustedCovariance Spec.adjusted
+  unfolding Spec.adjusted opening
   covariance-law slice slice' e =
       let a = adjusted (δ r) E H r g in
       let a' = adjusted (δ r') E' H' r' g' in
-      settled (chained (order slice slice' e)) (pos k) n slice slice' (answered (Covariance (δ r) (d E H g .sweeps) (d E H g .rotations)) (fill (n * n) (nth a) slice)) (answered (Covariance (δ r') (d E' H' g' .sweeps) (d E' H' g' .rotations)) (fill (n * n) (nth a') slice'))
+      let w = answered (Covariance (δ r) (d E H g .sweeps) (d E H g .rotations)) (fill (n * n) (nth a) slice) in
+      let w' = answered (Covariance (δ r') (d E' H' g' .sweeps) (d E' H' g' .rotations)) (fill (n * n) (nth a') slice') in
+      rw (adjusted-is r n P (settings E S H limit) g side slice, adjusted-is r' n P (settings E' S H' limit) g' side slice')
+      (settled (chained (order slice slice' e)) (pos k) n slice slice' w w'
       (λ p p' o. record {
         refusal = refl;
         entries = filled-alike (k + k) (n * n) (nth a) (nth a') slice slice' (λ c l.
@@ -256,4 +259,4 @@ module _ (k : ℕ) (small : k ≤ maxPower) (r : List Float) (sizes : All (Sized
         meansAndTarget = tt;
         intensity = (rw (o .intensity) (times-itself (δ r)), tt);
         sweepsAndRotations = ap (λ (z : Decomposition). z .sweeps ∷ z .rotations ∷ []) (sym (o .decomposition));
-      })
+      }))

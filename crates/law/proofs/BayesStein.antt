@@ -13,16 +13,16 @@ use Rattle.leaves.proofs.First.{first-all}
 use Rattle.leaves.proofs.Whole.{posPart}
 use Rattle.matrix.specs.Limits.{maxSweeps}
 use Rattle.matrix.specs.Matrix.{at, allFinite}
-use Rattle.estimators.specs.Refusals.{Check}
-use Rattle.estimators.specs.Sample.{constantAsset, volatility, isConstant}
-use Rattle.estimators.specs.Moments.{Moments}
-use Rattle.estimators.specs.BayesStein.{singular, shrunkMean, exponentsOf, correlations, bayesStein}
-use Rattle.estimators.specs.Shrinking.{Shrinking}
-use Rattle.estimators.specs.Order.{badSweepLimit, bayesSteinOrder}
-use Rattle.estimators.specs.Calls.{bayesSteinMean}
-use Rattle.estimators.specs.declared.Field.the-variants.{SweepLimitField}
-use Rattle.estimators.specs.declared.Refusal.the-variants.{BadSetting, ZeroVariance, Singular}
-use Rattle.estimators.proofs.Passed.{pass-test}
+use Rattle.rules.specs.Refusals.{Check}
+use Rattle.rules.specs.Sample.{constantAsset, volatility, isConstant}
+use Rattle.rules.specs.Moments.{Moments}
+use Rattle.rules.specs.BayesStein.{singular, shrunkMean, exponentsOf, correlations, bayesStein}
+use Rattle.rules.specs.Shrinking.{Shrinking}
+use Rattle.rules.specs.Order.{badSweepLimit, bayesSteinOrder}
+use Rattle.rules.specs.Calls.{bayesSteinMean}
+use Rattle.rules.specs.declared.Field.the-variants.{SweepLimitField}
+use Rattle.rules.specs.declared.Refusal.the-variants.{BadSetting, ZeroVariance, Singular}
+use Rattle.rules.proofs.Passed.{pass-test}
 use Rattle.law.specs.Law.{All, Sized, AtLeast, Alike, ask, maxPower, returnRange, meanRange, parts, Large}
 use Rattle.law.specs.Law as Law
 use Rattle.law.proofs.Ranges.{returnBounds, exponentAbove}

@@ -5,7 +5,7 @@ use mathlib.Core.Path.{sym}
 use lib.Dec.{lit≤}
 use lib.Pow.{pow-add}
 use Rattle.matrix.specs.Limits.{maxSide}
-use Rattle.estimators.specs.Order.{maxPeriods}
+use Rattle.rules.specs.Order.{maxPeriods}
 
 abbrev pub sideBits : ℕ
 sideBits = 5

@@ -8,37 +8,30 @@ use Rattle.leaves.specs.Loops.{fill, nth}
 use Rattle.leaves.specs.Scaling.{binaryExponent, pow2Scaled}
 use Rattle.matrix.specs.Matrix.{at, amax}
 use Rattle.matrix.specs.Jacobi.{Decomposition}
-use Rattle.estimators.specs.Refusals.{Check, first}
-use Rattle.estimators.specs.Moments.{Moments}
-use Rattle.estimators.specs.Given.{average}
-use Rattle.estimators.specs.Adjusted.{decompositionOf, intensity, baseOf, adjustedOf}
-use Rattle.estimators.specs.JamesStein.{jamesSteinIntensity, towards}
-use Rattle.estimators.specs.BayesStein.{MeanShrinkage, bayesSteinShrinkage, shrunkMean, exponentsOf, correlations}
-use Rattle.estimators.specs.Order.{opening, badSweepLimit, ofGiven, ofSettings, notFound, ofCorrelations, adjustedOrder, jamesSteinOrder, bayesSteinOrder}
-use Rattle.estimators.specs.Calls.{Answered, answered, settle, adjustedCovariance, jamesSteinMean, bayesSteinMean}
-use Rattle.estimators.specs.declared.Settings.{Settings}
-use Rattle.estimators.specs.declared.Answer.the-variants.{Covariance, Shrunk}
-use Rattle.estimators.proofs.Opened.{answerOf}
+use Rattle.rules.specs.Refusals.{Check, first}
+use Rattle.rules.specs.Moments.{Moments}
+use Rattle.rules.specs.Adjusted.{decompositionOf}
+use Rattle.rules.specs.JamesStein.{jamesSteinIntensity, towards}
+use Rattle.rules.specs.BayesStein.{MeanShrinkage, bayesSteinShrinkage, shrunkMean, exponentsOf, correlations}
+use Rattle.rules.specs.Order.{opening, badSweepLimit, ofGiven, notFound, ofCorrelations, jamesSteinOrder, bayesSteinOrder}
+use Rattle.rules.specs.Calls.{Answered, answered, settle, adjustedCovariance, jamesSteinMean, bayesSteinMean}
+use Rattle.rules.specs.declared.Settings.{Settings}
+use Rattle.rules.specs.declared.Answer.the-variants.{Covariance, Shrunk}
+use Rattle.rules.proofs.Opened.{answerOf}
+use Rattle.rules.proofs.AdjustedCall.{asked, covariances, ofAnswer, adjusted-is}
 use Rattle.law.proofs.JamesStein as James
 use Rattle.law.proofs.Columns.{columnMoments, Σ, decomposedCorrelations, sizeOf}
 
 -- ---- the adjusted covariance
 module _ (r : List Float) (n P : ℕ) (s : Settings) (given : List Float) (side : ℕ) where
-  abbrev pub estimated : List Float
-  estimated = baseOf s P n (at r n) (average given side)
-
-  abbrev pub covariances : List Float
-  covariances = adjustedOf s (intensity (s .shrinkage) P n (at r n)) n estimated
-
-  abbrev pub ofAnswer : List Check
-  ofAnswer = ofSettings s (intensity (s .shrinkage) P n (at r n)) P n side (at r n) (at estimated n) (at covariances n)
-
   abbrev pub covarianceBy : List Float → Decomposition → List Check → Answered
-  covarianceBy slice d cs = settle (first (opening r n P (n * n) slice ++ cs ++ ofAnswer)) slice (answered (Covariance (intensity (s .shrinkage) P n (at r n)) (d .sweeps) (d .rotations)) (fill (n * n) (nth covariances) slice))
+  covarianceBy slice d cs =
+      settle (first (opening r n P (n * n) slice ++ cs ++ ofAnswer r n P s given side)) slice
+      (answered (Covariance (asked r n P s given side) (d .sweeps) (d .rotations)) (fill (n * n) (nth (covariances r n P s given side)) slice))
 
   pub covariance-is : (slice : List Float) → adjustedCovariance r n P s given side slice ≡ covarianceBy slice (decompositionOf s given side) (ofGiven s given side)
-  unfolding adjustedCovariance adjustedOrder
-  covariance-is slice = refl
+  unfolding opening
+  covariance-is slice = adjusted-is r n P s given side slice
 
 -- ---- the James-Stein mean
 module _ (r : List Float) (n P : ℕ) where

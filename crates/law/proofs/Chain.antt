@@ -8,10 +8,11 @@ use mathlib.Core.Option.{Option, none, some}
 use lib.IntN.{ℤ}
 use lib.Ieee.{Float}
 use borrow.Author.Tests.{not-false}
-use Rattle.estimators.specs.Refusals.{Detail, number, detail, Check, passes, refuses, when, whenSome, first}
-use Rattle.estimators.specs.Calls.{Answered, settle}
-use Rattle.estimators.specs.declared.Refusal.{Refusal}
-use Rattle.estimators.proofs.Passed.{passes-not, pass-test}
+use Rattle.rules.specs.declared.Detail.{Detail}
+use Rattle.rules.specs.Refusals.{number, detail, Check, passes, refuses, when, whenSome, first}
+use Rattle.rules.specs.Calls.{Answered, settle}
+use Rattle.rules.specs.declared.Refusal.{Refusal}
+use Rattle.rules.proofs.Passed.{passes-not, pass-test}
 use Rattle.law.specs.Law.{compared, Alike, parts}
 
 -- both checks pass, and P holds; or both refuse with the same number and what is compared of its detail

@@ -28,10 +28,10 @@ use Rattle.leaves.proofs.Scale.{sign-scaled}
 use Rattle.matrix.specs.Matrix.{Matrix, at}
 use Rattle.matrix.specs.Jacobi.{Decomposition, decompose}
 use Rattle.matrix.proofs.Stored.{rows-at}
-use Rattle.estimators.specs.Sample.{mean, deviation, gram, covariance, volatility, largest, isConstant, constantAsset, scaled}
-use Rattle.estimators.specs.Moments.{Moments, moments}
-use Rattle.estimators.specs.BayesStein.{exponentsOf, largestIn, correlations}
-use Rattle.estimators.proofs.SameReturns.{moments-same}
+use Rattle.rules.specs.Sample.{mean, deviation, gram, covariance, volatility, largest, isConstant, constantAsset, scaled}
+use Rattle.rules.specs.Moments.{Moments, moments}
+use Rattle.rules.specs.BayesStein.{exponentsOf, largestIn, correlations}
+use Rattle.rules.proofs.SameReturns.{moments-same}
 use Rattle.law.specs.Law.{maxPower}
 use Rattle.law.proofs.Ranges.{zeroBounds, returnBounds, tenBillionthBounds, covarianceOf, exponentAbove, exponentBelow, unitBounds, unitMeanBounds, unitVarianceBounds, unitVolatilityBounds, toleranceBounds, steadyVolatilityBounds, inverseBounds, meanOverBounds}
 use Rattle.law.proofs.Comparisons.{plus-val, le-no}

@@ -15,7 +15,7 @@ use Rattle.leaves.specs.Loops.{loop}
 use Rattle.leaves.specs.Scaling.{binaryExponent}
 use Rattle.leaves.proofs.Whole.{posPart, negPart, plus, same, posPart-neg, negPart-neg, lt-yes, lt-no, LeZ}
 use Rattle.leaves.proofs.Zero.{no}
-use Rattle.estimators.specs.BayesStein.{largerZ, orZero, commonExponent, withExponent}
+use Rattle.rules.specs.BayesStein.{largerZ, orZero, commonExponent, withExponent}
 
 module _ (m : ℕ → Float) (k : ℕ → ℤ) where
   abbrev pub exponent : ℕ → ℤ

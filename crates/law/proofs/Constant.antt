@@ -20,7 +20,7 @@ use Rattle.leaves.proofs.Operations.{Moved, moved-mul, still}
 use Rattle.leaves.proofs.Totals.{amax-one}
 use Rattle.leaves.proofs.Signs.{sign-mul, sign-div, sign-sum, sign-count, sign-sqrt, sign-abs}
 use Rattle.matrix.specs.Matrix.{Matrix}
-use Rattle.estimators.specs.Sample.{deviation, gram, covariance, volatility, largest, isConstant, constantAsset}
+use Rattle.rules.specs.Sample.{deviation, gram, covariance, volatility, largest, isConstant, constantAsset}
 use Rattle.law.proofs.Ranges.{tenBillionthBounds}
 use Rattle.law.proofs.Comparisons.{plus-val, le-no}
 use Rattle.law.proofs.Sample.{Returns, largest-moved}

@@ -16,8 +16,8 @@ use Rattle.leaves.proofs.Signs.{sign-not-below}
 use Rattle.leaves.proofs.SqrtNearest.{moved-sqrt}
 use Rattle.matrix.specs.Matrix.{Matrix}
 use Rattle.matrix.specs.Limits.{maxSide}
-use Rattle.estimators.specs.Sample.{volatility, correlation}
-use Rattle.estimators.specs.LedoitWolf.{apart, averageCorrelation, constantCorrelation}
+use Rattle.rules.specs.Sample.{volatility, correlation}
+use Rattle.rules.specs.LedoitWolf.{apart, averageCorrelation, constantCorrelation}
 use Rattle.law.specs.Law.{maxPower}
 use Rattle.law.proofs.Bits.{cellBits, cell-bits}
 use Rattle.law.proofs.Ranges.{volatilityBounds, correlationBounds, averageCorrelationBounds, targetBounds}

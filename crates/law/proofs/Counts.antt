@@ -13,14 +13,14 @@ use Rattle.matrix.specs.Rotation.{State}
 use Rattle.matrix.specs.Jacobi.{Decomposition, Test, test, converged, stops, isConverged, afterSweeps, stopping, sweeping, start, tolerance, initial, swept, scaledBack, decompose, unturned}
 use Rattle.matrix.proofs.Sweeps.{sweeping-is, sweeps-bound, decompose-is}
 use Rattle.matrix.proofs.Rotations.{rotations-bound}
-use Rattle.estimators.specs.Given.{average, decomposeGiven}
-use Rattle.estimators.specs.JamesStein.{decomposeUnequal}
-use Rattle.estimators.specs.Adjusted.{isGiven, decompositionOf}
-use Rattle.estimators.specs.Calls.{ledoitWolfIntensity, exponentiallyWeightedMean}
-use Rattle.estimators.specs.declared.Settings.{Settings}
-use Rattle.estimators.specs.declared.Answer.{Answer}
-use Rattle.estimators.specs.declared.Answer.the-variants.{Refused, Covariance, Intensity, Mean, Shrunk}
-use Rattle.estimators.specs.BayesStein.{correlations}
+use Rattle.rules.specs.Given.{average, decomposeGiven}
+use Rattle.rules.specs.JamesStein.{decomposeUnequal}
+use Rattle.rules.specs.Adjusted.{isGiven, decompositionOf}
+use Rattle.rules.specs.Calls.{ledoitWolfIntensity, exponentiallyWeightedMean}
+use Rattle.rules.specs.declared.Settings.{Settings}
+use Rattle.rules.specs.declared.Answer.{Answer}
+use Rattle.rules.specs.declared.Answer.the-variants.{Refused, Covariance, Intensity, Mean, Shrunk}
+use Rattle.rules.specs.BayesStein.{correlations}
 use Rattle.law.specs.Law as Law
 use Rattle.law.specs.Law.{Question, ask}
 use Rattle.law.proofs.Columns.{columnMoments}

@@ -26,7 +26,7 @@ use Rattle.matrix.proofs.Identity.{scaledEntry, start-is}
 use Rattle.matrix.proofs.Quotients.{quotients-finite}
 use Rattle.matrix.proofs.Finite.{finite-all, amax-finite}
 use Rattle.matrix.proofs.Sweeps.{decompose-is}
-use Rattle.estimators.specs.Given.{average, decomposeGiven}
+use Rattle.rules.specs.Given.{average, decomposeGiven}
 use Rattle.law.proofs.Counts.{firstTest, found-at-once}
 use Rattle.law.proofs.Zeros.{Plus, zero-is, zero-add, zero-square, zero-half, zero-double, zero-average, is-zero, zero-over, number-zero-plus, number-twice, number-half, plus-square, plus-add, plus-tolerance, zero-below}
 

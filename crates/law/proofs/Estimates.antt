@@ -19,19 +19,19 @@ use Rattle.leaves.proofs.Shift.{isFinite-shift, eq-shift, shift-zero⁺}
 use Rattle.leaves.proofs.Zero.{no}
 use Rattle.leaves.proofs.Operations.{moved-within}
 use Rattle.matrix.specs.Matrix.{Matrix, at}
-use Rattle.estimators.specs.Refusals.{passes, when, whenSome}
-use Rattle.estimators.specs.Sample.{covariance, largest}
-use Rattle.estimators.specs.Weighted.{logDecay, accepted}
-use Rattle.estimators.specs.Given.{average}
-use Rattle.estimators.specs.Adjusted.{isSample, isGiven, decompositionOf, base}
-use Rattle.estimators.specs.Order.{badHalfLife, badEstimate, constantReturns, noVariance, ofGiven}
-use Rattle.estimators.specs.Settings.{settings}
-use Rattle.estimators.specs.declared.Estimate.{Estimate}
-use Rattle.estimators.specs.declared.Estimate.the-variants.{Sample, Given, Weighted, Semi, SemiBelow}
-use Rattle.estimators.specs.declared.Shrinkage.{Shrinkage}
-use Rattle.estimators.specs.declared.Regularization.{Regularization}
-use Rattle.estimators.specs.declared.Field.the-variants.{HalfLifeField, ThresholdField}
-use Rattle.estimators.specs.declared.Refusal.the-variants.{BadSetting, ZeroVariance}
+use Rattle.rules.specs.Refusals.{passes, when, whenSome}
+use Rattle.rules.specs.Sample.{covariance, largest}
+use Rattle.rules.specs.Weighted.{logDecay, accepted}
+use Rattle.rules.specs.Given.{average}
+use Rattle.rules.specs.Adjusted.{isSample, isGiven, decompositionOf, base}
+use Rattle.rules.specs.Order.{badHalfLife, badEstimate, constantReturns, noVariance, ofGiven}
+use Rattle.rules.specs.Settings.{settings}
+use Rattle.rules.specs.declared.Estimate.{Estimate}
+use Rattle.rules.specs.declared.Estimate.the-variants.{Sample, Given, Weighted, Semi, SemiBelow}
+use Rattle.rules.specs.declared.Shrinkage.{Shrinkage}
+use Rattle.rules.specs.declared.Regularization.{Regularization}
+use Rattle.rules.specs.declared.Field.the-variants.{HalfLifeField, ThresholdField}
+use Rattle.rules.specs.declared.Refusal.the-variants.{BadSetting, ZeroVariance}
 use Rattle.law.specs.Law.{All, Sized, EstimateInRange, CopiedEstimate, sample, given, weighted, semi, semiBelow, maxPower, returnRange, covarianceRange}
 use Rattle.law.proofs.Ranges.{returnBounds, estimateBounds}
 use Rattle.law.proofs.Numbers.{copy-shift}

@@ -23,14 +23,14 @@ use Rattle.matrix.specs.Limits.{maxSide}
 use Rattle.matrix.specs.Matrix.{at, amax, averaged, divided}
 use Rattle.matrix.specs.Jacobi.{Decomposition, smallestValue, unturned}
 use Rattle.matrix.proofs.Alike.{first-entry-alike, decompose-alike}
-use Rattle.estimators.specs.Given.{asymmetry, indefinite, average, decomposeGiven}
-use Rattle.estimators.specs.Adjusted.{decompositionOf}
-use Rattle.estimators.specs.Order.{notFinite, badSweepLimit, ofGiven}
-use Rattle.estimators.specs.Settings.{settings}
-use Rattle.estimators.specs.declared.Estimate.the-variants.{Given}
-use Rattle.estimators.specs.declared.Shrinkage.{Shrinkage}
-use Rattle.estimators.specs.declared.Regularization.{Regularization}
-use Rattle.estimators.specs.declared.Refusal.the-variants.{NoAssets, TooLarge, WrongSide, Asymmetric, Indefinite, NotDecomposed}
+use Rattle.rules.specs.Given.{asymmetry, indefinite, average, decomposeGiven}
+use Rattle.rules.specs.Adjusted.{decompositionOf}
+use Rattle.rules.specs.Order.{notFinite, badSweepLimit, ofGiven}
+use Rattle.rules.specs.Settings.{settings}
+use Rattle.rules.specs.declared.Estimate.the-variants.{Given}
+use Rattle.rules.specs.declared.Shrinkage.{Shrinkage}
+use Rattle.rules.specs.declared.Regularization.{Regularization}
+use Rattle.rules.specs.declared.Refusal.the-variants.{NoAssets, TooLarge, WrongSide, Asymmetric, Indefinite, NotDecomposed}
 use Rattle.law.specs.Law.{All, Sized, maxPower, covarianceRange}
 use Rattle.law.proofs.Ranges.{covarianceBounds, trillionthBounds, averagedBounds}
 use Rattle.law.proofs.Chain.{Chain, ends, chain-same, chain-when, chain-test, chain-must, chain-some}

@@ -11,22 +11,23 @@ use Rattle.leaves.proofs.Signs.{sign-count}
 use Rattle.matrix.specs.Limits.{maxSide}
 use Rattle.matrix.specs.Matrix.{Matrix, at}
 use Rattle.matrix.specs.Jacobi.{Decomposition}
-use Rattle.estimators.specs.Refusals.{passes, first}
-use Rattle.estimators.specs.Moments.{Moments, moments}
-use Rattle.estimators.specs.LedoitWolf.{ledoitWolf}
-use Rattle.estimators.specs.Adjusted.{intensity}
-use Rattle.estimators.specs.JamesStein.{jamesSteinIntensity}
-use Rattle.estimators.specs.Order.{opening, ofGiven, badShrinkage, ofSettings}
-use Rattle.estimators.specs.Calls.{ledoitWolfIntensity, exponentiallyWeightedMean}
-use Rattle.estimators.specs.declared.Target.{Target}
-use Rattle.estimators.specs.declared.Shrinkage.{Shrinkage}
-use Rattle.estimators.specs.declared.Shrinkage.the-variants.{Unshrunk, Fixed, LedoitWolf}
-use Rattle.estimators.specs.declared.Field.the-variants.{ShrinkageField}
-use Rattle.estimators.specs.declared.Refusal.the-variants.{BadSetting}
-use Rattle.estimators.specs.declared.Answer.{Answer}
-use Rattle.estimators.specs.declared.Answer.the-variants.{Refused, Covariance, Intensity, Mean, Shrunk}
-use Rattle.estimators.specs.BayesStein.{exponentsOf, bayesStein}
-use Rattle.estimators.proofs.Passed.{pass-cons}
+use Rattle.rules.specs.Refusals.{passes, first}
+use Rattle.rules.specs.Moments.{Moments, moments}
+use Rattle.rules.specs.LedoitWolf.{ledoitWolf}
+use Rattle.rules.specs.Adjusted.{intensity}
+use Rattle.rules.specs.JamesStein.{jamesSteinIntensity}
+use Rattle.rules.specs.Order.{opening, ofGiven, badShrinkage, ofSettings}
+use Rattle.rules.specs.Calls.{ledoitWolfIntensity, exponentiallyWeightedMean}
+use Rattle.rules.specs.declared.Target.{Target}
+use Rattle.rules.specs.declared.Shrinkage.{Shrinkage}
+use Rattle.rules.specs.declared.Shrinkage.the-variants.{Unshrunk, Fixed, LedoitWolf}
+use Rattle.rules.specs.declared.Field.the-variants.{ShrinkageField}
+use Rattle.rules.specs.declared.Refusal.the-variants.{BadSetting}
+use Rattle.rules.specs.declared.Answer.{Answer}
+use Rattle.rules.specs.declared.Answer.the-variants.{Refused, Covariance, Intensity, Mean, Shrunk}
+use Rattle.rules.specs.BayesStein.{exponentsOf, bayesStein}
+use Rattle.rules.proofs.Passed.{pass-cons}
+use Rattle.rules.proofs.AdjustedCall.{ofAnswer}
 use Rattle.law.specs.Law as Law
 use Rattle.law.specs.Law.{Question, ask}
 use Rattle.law.proofs.Sizes.{clamp-cases}
@@ -37,7 +38,7 @@ use Rattle.law.proofs.JamesStein.{james-cases}
 use Rattle.law.proofs.MeanShrinkage.{shrinkage-unit}
 use Rattle.law.proofs.Chain.{pass-must}
 use Rattle.law.proofs.Passing.{pass-append, pass-opening, settle-cases}
-use Rattle.law.proofs.Calls.{ofAnswer, covariance-is, inUnit, unitGrandMean, jamesDecomposition, james-is, bayes-is}
+use Rattle.law.proofs.Calls.{covariance-is, inUnit, unitGrandMean, jamesDecomposition, james-is, bayes-is}
 
 abbrev pub Share : Float → Type 0
 Share x = (x ≡ nan) ⊎ ((le zero⁺ x ≡ true) × (le x one ≡ true))

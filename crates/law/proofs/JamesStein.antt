@@ -26,15 +26,15 @@ use Rattle.leaves.proofs.Totals.{moved-sum}
 use Rattle.leaves.proofs.Scale.{scaled-fits, nan-scaled}
 use Rattle.matrix.specs.Matrix.{Matrix, at, amax}
 use Rattle.matrix.specs.Jacobi.{Decomposition}
-use Rattle.estimators.specs.Refusals.{Check}
-use Rattle.estimators.specs.Sample.{scaled}
-use Rattle.estimators.specs.Moments.{Moments, moments}
-use Rattle.estimators.specs.JamesStein.{grandMean, jamesSteinIntensity, towards, jamesStein}
-use Rattle.estimators.specs.Shrinking.{Shrinking}
-use Rattle.estimators.specs.Order.{badSweepLimit, jamesSteinOrder}
-use Rattle.estimators.specs.Calls.{jamesSteinMean}
-use Rattle.estimators.specs.declared.Refusal.the-variants.{Singular}
-use Rattle.estimators.proofs.SameReturns.{moments-same}
+use Rattle.rules.specs.Refusals.{Check}
+use Rattle.rules.specs.Sample.{scaled}
+use Rattle.rules.specs.Moments.{Moments, moments}
+use Rattle.rules.specs.JamesStein.{grandMean, jamesSteinIntensity, towards, jamesStein}
+use Rattle.rules.specs.Shrinking.{Shrinking}
+use Rattle.rules.specs.Order.{badSweepLimit, jamesSteinOrder}
+use Rattle.rules.specs.Calls.{jamesSteinMean}
+use Rattle.rules.specs.declared.Refusal.the-variants.{Singular}
+use Rattle.rules.proofs.SameReturns.{moments-same}
 use Rattle.law.specs.Law.{All, Sized, AtLeast, Alike, ask, maxPower, returnRange, meanRange, parts, Large}
 use Rattle.law.specs.Law as Law
 use Rattle.law.proofs.Bits.{sideBits, side-bits}

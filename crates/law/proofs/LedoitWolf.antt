@@ -15,16 +15,16 @@ use Rattle.leaves.specs.Scaling.{binaryExponent}
 use Rattle.leaves.specs.Shift.{shift}
 use Rattle.matrix.specs.Matrix.{Matrix, at, amax}
 use Rattle.matrix.proofs.Stored.{rows-ext}
-use Rattle.estimators.specs.Refusals.{Check, passes, refuses, whenSome, first}
-use Rattle.estimators.specs.Sample.{deviation, covariance, scaled}
-use Rattle.estimators.specs.LedoitWolf.{intensityFrom, intensityOf, ledoitWolf, intensityBy}
-use Rattle.estimators.specs.Order.{noCorrelation, ledoitWolfOrder}
-use Rattle.estimators.specs.Calls.{Answered, answered, settle, ledoitWolfIntensity}
-use Rattle.estimators.specs.declared.Target.{Target}
-use Rattle.estimators.specs.declared.Target.the-variants.{ConstantVariance, ConstantCorrelation}
-use Rattle.estimators.specs.declared.Shrinkage.the-variants.{LedoitWolf}
-use Rattle.estimators.specs.declared.Refusal.the-variants.{ZeroVariance}
-use Rattle.estimators.specs.declared.Answer.the-variants.{Intensity}
+use Rattle.rules.specs.Refusals.{Check, passes, refuses, whenSome, first}
+use Rattle.rules.specs.Sample.{deviation, covariance, scaled}
+use Rattle.rules.specs.LedoitWolf.{intensityFrom, intensityOf, ledoitWolf, intensityBy}
+use Rattle.rules.specs.Order.{noCorrelation, ledoitWolfOrder}
+use Rattle.rules.specs.Calls.{Answered, answered, settle, ledoitWolfIntensity}
+use Rattle.rules.specs.declared.Target.{Target}
+use Rattle.rules.specs.declared.Target.the-variants.{ConstantVariance, ConstantCorrelation}
+use Rattle.rules.specs.declared.Shrinkage.the-variants.{LedoitWolf}
+use Rattle.rules.specs.declared.Refusal.the-variants.{ZeroVariance}
+use Rattle.rules.specs.declared.Answer.the-variants.{Intensity}
 use Rattle.law.specs.Law.{All, Sized, answerParts, Alike, ask, maxPower, returnRange, parts}
 use Rattle.law.specs.Law as Law
 use Rattle.law.proofs.Ranges.{returnBounds, deviationOf}

@@ -13,28 +13,29 @@ use Rattle.matrix.specs.Limits.{maxSweeps}
 use Rattle.matrix.specs.Matrix.{Matrix, at, amax, divided}
 use Rattle.matrix.specs.Jacobi.{Decomposition, decompose, unturned}
 use Rattle.matrix.proofs.LargerLimit.{larger-limit}
-use Rattle.estimators.specs.Refusals.{Check, passes, when, first}
-use Rattle.estimators.specs.Given.{average, decomposeGiven}
-use Rattle.estimators.specs.JamesStein.{largestDeviation, decomposeUnequal}
-use Rattle.estimators.specs.Adjusted.{decompositionOf, adjusted}
-use Rattle.estimators.specs.Order.{opening, badSweepLimit, ofGiven, ofSettings, notFound}
-use Rattle.estimators.specs.Calls.{adjustedCovariance, jamesSteinMean, bayesSteinMean}
-use Rattle.estimators.specs.Settings.{settings}
-use Rattle.estimators.specs.declared.Field.the-variants.{SweepLimitField}
-use Rattle.estimators.specs.declared.Estimate.{Estimate}
-use Rattle.estimators.specs.declared.Estimate.the-variants.{Sample, Given, Weighted, Semi, SemiBelow}
-use Rattle.estimators.specs.declared.Shrinkage.{Shrinkage}
-use Rattle.estimators.specs.declared.Regularization.{Regularization}
-use Rattle.estimators.specs.declared.Settings.{Settings}
-use Rattle.estimators.specs.declared.Refusal.the-variants.{BadSetting, NotDecomposed, Singular}
-use Rattle.estimators.specs.BayesStein.{correlations}
-use Rattle.estimators.proofs.Passed.{pass-cons}
+use Rattle.rules.specs.Refusals.{Check, passes, when, first}
+use Rattle.rules.specs.Given.{average, decomposeGiven}
+use Rattle.rules.specs.JamesStein.{largestDeviation, decomposeUnequal}
+use Rattle.rules.specs.Adjusted.{decompositionOf, adjusted}
+use Rattle.rules.specs.Order.{opening, badSweepLimit, ofGiven, ofSettings, notFound}
+use Rattle.rules.specs.Calls.{adjustedCovariance, jamesSteinMean, bayesSteinMean}
+use Rattle.rules.specs.Settings.{settings}
+use Rattle.rules.specs.declared.Field.the-variants.{SweepLimitField}
+use Rattle.rules.specs.declared.Estimate.{Estimate}
+use Rattle.rules.specs.declared.Estimate.the-variants.{Sample, Given, Weighted, Semi, SemiBelow}
+use Rattle.rules.specs.declared.Shrinkage.{Shrinkage}
+use Rattle.rules.specs.declared.Regularization.{Regularization}
+use Rattle.rules.specs.declared.Settings.{Settings}
+use Rattle.rules.specs.declared.Refusal.the-variants.{BadSetting, NotDecomposed, Singular}
+use Rattle.rules.specs.BayesStein.{correlations}
+use Rattle.rules.proofs.Passed.{pass-cons}
+use Rattle.rules.proofs.AdjustedCall.{ofAnswer}
 use Rattle.law.specs.Law as Law
 use Rattle.law.specs.Law.{Question, ask}
 use Rattle.law.proofs.Columns.{columnMoments, decomposedCorrelations}
 use Rattle.law.proofs.Chain.{pass-must}
 use Rattle.law.proofs.Passing.{pass-append, Accepted, all-pass}
-use Rattle.law.proofs.Calls.{ofAnswer, covarianceBy, covariance-is, inUnit, unitGrandMean, jamesDecomposition, jamesBy, james-is, bayesBy, bayes-is}
+use Rattle.law.proofs.Calls.{covarianceBy, covariance-is, inUnit, unitGrandMean, jamesDecomposition, jamesBy, james-is, bayesBy, bayes-is}
 
 -- ---- the check of the limit
 limit-passes : (limit : ℕ) → limit ≤ maxSweeps → badSweepLimit limit ≡ passes

@@ -36,9 +36,9 @@ use Rattle.matrix.specs.Jacobi.{Decomposition, decompose, unturned, scaledBack,
 use Rattle.matrix.proofs.Sweeps.{decompose-cases}
 use Rattle.matrix.proofs.Turn.{TurnMost}
 use Rattle.matrix.proofs.Vectors.{NanOrBounded, vectors-small}
-use Rattle.estimators.specs.Sample.{volatility, isConstant}
-use Rattle.estimators.specs.Moments.{Moments, moments}
-use Rattle.estimators.specs.BayesStein.{singular, commonExponent, gathered, project, form, ratioOf, squaredDistanceOf, intensityAt, bayesSteinShrinkage, shrunkMean, exponentsOf, correlations, bayesStein}
+use Rattle.rules.specs.Sample.{volatility, isConstant}
+use Rattle.rules.specs.Moments.{Moments, moments}
+use Rattle.rules.specs.BayesStein.{singular, commonExponent, gathered, project, form, ratioOf, squaredDistanceOf, intensityAt, bayesSteinShrinkage, shrunkMean, exponentsOf, correlations, bayesStein}
 use Rattle.law.specs.Law.{AtLeast, maxPower, meanRange}
 use Rattle.law.proofs.Ranges.{returnBounds, meanIntensityBounds, exponentAbove, exponentBelow, scaledBackOf, unitMeanBounds, inverseBounds, meanOverBounds, leftMeanBounds}
 use Rattle.law.proofs.Sizes.{at-least, unit-range}

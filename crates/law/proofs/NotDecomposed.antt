@@ -13,29 +13,30 @@ use Rattle.leaves.specs.Loops.{firstTo}
 use Rattle.matrix.specs.Limits.{maxSide, maxSweeps}
 use Rattle.matrix.specs.Matrix.{Matrix, at, amax, trace, averaged, firstNotFinite, allFinite}
 use Rattle.matrix.specs.Jacobi.{Decomposition, smallestValue, unturned}
-use Rattle.estimators.specs.Refusals.{number, Check, passes, refuses, when, whenSome, first}
-use Rattle.estimators.specs.Sample.{covariance, largest, constantAsset}
-use Rattle.estimators.specs.Weighted.{logDecay, accepted}
-use Rattle.estimators.specs.Given.{asymmetry, average, decomposeGiven, indefinite}
-use Rattle.estimators.specs.Adjusted.{isSample, isGiven, decompositionOf, intensity, isAdjusted}
-use Rattle.estimators.specs.Order.{maxPeriods, notFinite, opening, badSweepLimit, ofGiven, badRegularization, badShrinkage, badHalfLife, badEstimate, notTheSample, noCorrelation, noVariance, ofSettings}
-use Rattle.estimators.specs.Calls.{Answered, settle, adjustedCovariance}
-use Rattle.estimators.specs.Settings.{settings}
-use Rattle.estimators.specs.declared.Estimate.{Estimate}
-use Rattle.estimators.specs.declared.Estimate.the-variants.{Sample, Given, Weighted, Semi, SemiBelow}
-use Rattle.estimators.specs.declared.Target.the-variants.{ConstantVariance, ConstantCorrelation}
-use Rattle.estimators.specs.declared.Shrinkage.{Shrinkage}
-use Rattle.estimators.specs.declared.Shrinkage.the-variants.{Unshrunk, Fixed, LedoitWolf}
-use Rattle.estimators.specs.declared.Regularization.{Regularization}
-use Rattle.estimators.specs.declared.Regularization.the-variants.{Unregularized, Ridge}
-use Rattle.estimators.specs.declared.Settings.{Settings}
-use Rattle.estimators.specs.declared.Field.the-variants.{RegularizationField, ShrinkageField, HalfLifeField, ThresholdField, SweepLimitField}
-use Rattle.estimators.specs.declared.Refusal.{Refusal}
-use Rattle.estimators.specs.declared.Refusal.the-variants.{NoAssets, TooLarge, TooFewPeriods, WrongLength, NotFinite, CovarianceNotFinite, BadSetting, NotTheSample, ZeroVariance, WrongSide, Asymmetric, Indefinite, NotDecomposed, Singular}
-use Rattle.estimators.specs.declared.Answer.{Answer}
-use Rattle.estimators.specs.declared.Answer.the-variants.{Refused, Covariance, Intensity, Mean, Shrunk}
+use Rattle.rules.specs.Refusals.{number, Check, passes, refuses, when, whenSome, first}
+use Rattle.rules.specs.Sample.{covariance, largest, constantAsset}
+use Rattle.rules.specs.Weighted.{logDecay, accepted}
+use Rattle.rules.specs.Given.{asymmetry, average, decomposeGiven, indefinite}
+use Rattle.rules.specs.Adjusted.{isSample, isGiven, decompositionOf, intensity, isAdjusted}
+use Rattle.rules.specs.Order.{maxPeriods, notFinite, opening, badSweepLimit, ofGiven, badRegularization, badShrinkage, badHalfLife, badEstimate, notTheSample, noCorrelation, noVariance, ofSettings}
+use Rattle.rules.specs.Calls.{Answered, settle, adjustedCovariance}
+use Rattle.rules.specs.Settings.{settings}
+use Rattle.rules.specs.declared.Estimate.{Estimate}
+use Rattle.rules.specs.declared.Estimate.the-variants.{Sample, Given, Weighted, Semi, SemiBelow}
+use Rattle.rules.specs.declared.Target.the-variants.{ConstantVariance, ConstantCorrelation}
+use Rattle.rules.specs.declared.Shrinkage.{Shrinkage}
+use Rattle.rules.specs.declared.Shrinkage.the-variants.{Unshrunk, Fixed, LedoitWolf}
+use Rattle.rules.specs.declared.Regularization.{Regularization}
+use Rattle.rules.specs.declared.Regularization.the-variants.{Unregularized, Ridge}
+use Rattle.rules.specs.declared.Settings.{Settings}
+use Rattle.rules.specs.declared.Field.the-variants.{RegularizationField, ShrinkageField, HalfLifeField, ThresholdField, SweepLimitField}
+use Rattle.rules.specs.declared.Refusal.{Refusal}
+use Rattle.rules.specs.declared.Refusal.the-variants.{NoAssets, TooLarge, TooFewPeriods, WrongLength, NotFinite, CovarianceNotFinite, BadSetting, NotTheSample, ZeroVariance, WrongSide, Asymmetric, Indefinite, NotDecomposed, Singular}
+use Rattle.rules.specs.declared.Answer.{Answer}
+use Rattle.rules.specs.declared.Answer.the-variants.{Refused, Covariance, Intensity, Mean, Shrunk}
+use Rattle.rules.proofs.AdjustedCall.{estimated, covariances, ofAnswer}
 use Rattle.law.proofs.Diagonal.{Diagonal, given-diagonal}
-use Rattle.law.proofs.Calls.{estimated, covariances, ofAnswer, covariance-is}
+use Rattle.law.proofs.Calls.{covariance-is}
 
 -- ---- checks that do not refuse with 13
 abbrev Avoids : Check → Type 0

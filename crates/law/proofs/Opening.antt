@@ -20,13 +20,13 @@ use Rattle.leaves.proofs.Units.{oneBits, fractionBits}
 use Rattle.leaves.proofs.Operations.{Moved}
 use Rattle.matrix.specs.Matrix.{Matrix, at, allFinite}
 use Rattle.matrix.proofs.Alike.{finite-same, first-entry-alike}
-use Rattle.estimators.specs.Refusals.{Check, passes, whenSome, first}
-use Rattle.estimators.specs.Sample.{covariance, largest}
-use Rattle.estimators.specs.Semi.{semicovariance, semicovarianceBelow}
-use Rattle.estimators.specs.Order.{notFinite, byShape, opening}
-use Rattle.estimators.specs.Shapes.{Shaped}
-use Rattle.estimators.specs.declared.Refusal.the-variants.{NotFinite, CovarianceNotFinite}
-use Rattle.estimators.proofs.Shapes.{shape-passes, opened}
+use Rattle.rules.specs.Refusals.{Check, passes, whenSome, first}
+use Rattle.rules.specs.Sample.{covariance, largest}
+use Rattle.rules.specs.Semi.{semicovariance, semicovarianceBelow}
+use Rattle.rules.specs.Order.{notFinite, byShape, opening}
+use Rattle.rules.specs.Shapes.{Shaped}
+use Rattle.rules.specs.declared.Refusal.the-variants.{NotFinite, CovarianceNotFinite}
+use Rattle.rules.proofs.Shapes.{shape-passes, opened}
 use Rattle.law.specs.Law.{All, Sized, maxPower, returnRange}
 use Rattle.law.proofs.Ranges.{sizedBounds, returnBounds}
 use Rattle.law.proofs.Chain.{Chain, chain-same, chain-must, chain-equal}

@@ -16,20 +16,21 @@ use Rattle.matrix.specs.Matrix.{Matrix, at, trace, allFinite}
 use Rattle.matrix.specs.Jacobi.{Decomposition}
 use Rattle.matrix.proofs.Alike.{trace-alike}
 use Rattle.matrix.proofs.Finite.{finite-all}
-use Rattle.estimators.specs.Refusals.{Check, passes, refuses, when, first}
-use Rattle.estimators.specs.Adjusted.{decompositionOf, intensity, isAdjusted}
-use Rattle.estimators.specs.Order.{opening, ofGiven, noVariance, bySettings, byAnswer, byEstimate, ofSettings, adjustedOrder, weightedOrder, jamesSteinOrder, bayesSteinOrder}
-use Rattle.estimators.specs.Calls.{Answered, answered, settle, adjustedCovariance, exponentiallyWeightedMean, jamesSteinMean, bayesSteinMean}
-use Rattle.estimators.specs.declared.Settings.{Settings}
-use Rattle.estimators.specs.declared.Refusal.{Refusal}
-use Rattle.estimators.specs.declared.Refusal.the-variants.{CovarianceNotFinite, Singular}
-use Rattle.estimators.specs.declared.Answer.{Answer}
-use Rattle.estimators.specs.declared.Answer.the-variants.{Refused, Covariance, Intensity, Mean, Shrunk}
-use Rattle.estimators.proofs.Passed.{pass-test, pass-cons}
-use Rattle.estimators.proofs.Opened.{answerOf, settle-length}
+use Rattle.rules.specs.Refusals.{Check, passes, refuses, when, first}
+use Rattle.rules.specs.Adjusted.{decompositionOf, intensity, isAdjusted}
+use Rattle.rules.specs.Order.{opening, ofGiven, noVariance, bySettings, byAnswer, byEstimate, ofSettings, weightedOrder, jamesSteinOrder, bayesSteinOrder}
+use Rattle.rules.specs.Calls.{Answered, answered, settle, adjustedCovariance, exponentiallyWeightedMean, jamesSteinMean, bayesSteinMean}
+use Rattle.rules.specs.declared.Settings.{Settings}
+use Rattle.rules.specs.declared.Refusal.{Refusal}
+use Rattle.rules.specs.declared.Refusal.the-variants.{CovarianceNotFinite, Singular}
+use Rattle.rules.specs.declared.Answer.{Answer}
+use Rattle.rules.specs.declared.Answer.the-variants.{Refused, Covariance, Intensity, Mean, Shrunk}
+use Rattle.rules.proofs.Passed.{pass-test, pass-cons}
+use Rattle.rules.proofs.Opened.{answerOf, settle-length}
+use Rattle.rules.proofs.AdjustedCall.{estimated, covariances, ofAnswer}
 use Rattle.law.specs.Law as Law
 use Rattle.law.specs.Law.{Question, ask}
-use Rattle.law.proofs.Calls.{estimated, covariances, ofAnswer, covariance-is}
+use Rattle.law.proofs.Calls.{covariance-is}
 use Rattle.law.proofs.Chain.{pass-must}
 use Rattle.law.proofs.Passing.{pass-append, pass-opening, Accepted}
 
@@ -71,11 +72,12 @@ needed n (Law.jamesStein limit) = n
 needed n (Law.bayesStein limit) = n
 
 pub kept : (r : List Float) (n P : ℕ) (q : Question) (old : List Float) → Kept (needed n q) old (ask r n P q old)
-unfolding adjustedCovariance adjustedOrder exponentiallyWeightedMean weightedOrder jamesSteinMean jamesSteinOrder bayesSteinMean bayesSteinOrder
+unfolding exponentiallyWeightedMean weightedOrder jamesSteinMean jamesSteinOrder bayesSteinMean bayesSteinOrder
 kept r n P (Law.adjusted s given side) old =
     let o = opening r n P (n * n) old in
     let g = ofGiven s given side in
-    settle-kept (n * n) old _ _ (first (o ++ g ++ ofAnswer r n P s given side)) (λ z. z) (λ h. pass-opening r n P (n * n) old (pass-append o g (pass-append (o ++ g) (ofAnswer r n P s given side) h .0) .0) .1)
+    rw (covariance-is r n P s given side old)
+    (settle-kept (n * n) old _ _ (first (o ++ g ++ ofAnswer r n P s given side)) (λ z. z) (λ h. pass-opening r n P (n * n) old (pass-append o g (pass-append (o ++ g) (ofAnswer r n P s given side) h .0) .0) .1))
 kept r n P (Law.intensity F) old = record { refused = λ c e. refl; later = refl; long = refl }
 kept r n P (Law.weightedMean halfLife) old = opened-kept r n P n old _ _ _ (λ z. z)
 kept r n P (Law.jamesStein limit) old = opened-kept r n P n old _ _ _ (λ z. z)

@@ -6,15 +6,15 @@ use lib.ListN.{length}
 use lib.Ieee.{Float}
 use Rattle.matrix.specs.Limits.{maxSide}
 use Rattle.matrix.specs.Matrix.{at}
-use Rattle.estimators.specs.Refusals.{Check, passes, refuses, first}
-use Rattle.estimators.specs.Order.{opening, byShape, byReturns}
-use Rattle.estimators.specs.Calls.{Answered, settle}
-use Rattle.estimators.specs.declared.Refusal.{Refusal}
-use Rattle.estimators.specs.declared.Answer.{Answer}
-use Rattle.estimators.specs.declared.Answer.the-variants.{Refused}
-use Rattle.estimators.proofs.Firsts.{first-then}
-use Rattle.estimators.proofs.Passed.{pass-cons}
-use Rattle.estimators.proofs.Shapes.{shape-passes}
+use Rattle.rules.specs.Refusals.{Check, passes, refuses, first}
+use Rattle.rules.specs.Order.{opening, byShape, byReturns}
+use Rattle.rules.specs.Calls.{Answered, settle}
+use Rattle.rules.specs.declared.Refusal.{Refusal}
+use Rattle.rules.specs.declared.Answer.{Answer}
+use Rattle.rules.specs.declared.Answer.the-variants.{Refused}
+use Rattle.rules.proofs.Firsts.{first-then}
+use Rattle.rules.proofs.Passed.{pass-cons}
+use Rattle.rules.proofs.Shapes.{shape-passes}
 
 -- earlier and later checks that all pass
 pub pass-append : (xs ys : List Check) → first (xs ++ ys) ≡ passes → (first xs ≡ passes) × (first ys ≡ passes)

@@ -20,10 +20,10 @@ use Rattle.leaves.proofs.Operations.{Moved, moved-sub, moved-mul, moved-over, s
 use Rattle.leaves.proofs.Totals.{moved-amax, moved-sum, amax-finite-most}
 use Rattle.matrix.specs.Matrix.{Matrix}
 use Rattle.matrix.specs.Limits.{maxSide}
-use Rattle.estimators.specs.Sample.{mean, deviation, gram, secondMoment, covariance, largest}
-use Rattle.estimators.specs.Moments.{moments}
-use Rattle.estimators.specs.Semi.{shortfall, semicovariance, semicovarianceBelow}
-use Rattle.estimators.specs.Order.{maxPeriods}
+use Rattle.rules.specs.Sample.{mean, deviation, gram, secondMoment, covariance, largest}
+use Rattle.rules.specs.Moments.{moments}
+use Rattle.rules.specs.Semi.{shortfall, semicovariance, semicovarianceBelow}
+use Rattle.rules.specs.Order.{maxPeriods}
 use Rattle.law.specs.Law.{maxPower}
 use Rattle.law.proofs.Bits.{periodBits, period-bits}
 use Rattle.law.proofs.Ranges.{unitBounds, unitMeanBounds, countBounds, averageOf, deviationOf, covarianceOf, sampleBounds}

@@ -18,7 +18,7 @@ use Rattle.leaves.proofs.Bounds.{sumOf}
 use Rattle.leaves.proofs.Signs.{sign-div, sign-add, sign-count, sign-not-below}
 use Rattle.leaves.proofs.Zero.{no, not-above, over-inf}
 use Rattle.matrix.specs.Limits.{maxSide}
-use Rattle.estimators.specs.BayesStein.{intensityAt}
+use Rattle.rules.specs.BayesStein.{intensityAt}
 use Rattle.law.proofs.Bits.{sideBits, side-bits}
 use Rattle.law.proofs.Ranges.{countBounds}
 use Rattle.law.proofs.Comparisons.{plus-val}

@@ -16,16 +16,16 @@ use Rattle.leaves.proofs.Bounds.{Bounds, Bounded, covers}
 use Rattle.leaves.proofs.Operations.{Moved, still, moved-within, moved-zero, moved-add, moved-sub, moved-mul, moved-mul-normal, moved-over}
 use Rattle.matrix.specs.Matrix.{Matrix, identity}
 use Rattle.matrix.specs.Limits.{maxSide}
-use Rattle.estimators.specs.LedoitWolf.{averageVariance, constantCorrelation}
-use Rattle.estimators.specs.Adjusted.{weightedTarget, mixed, regularized, isAdjusted}
-use Rattle.estimators.specs.Refusals.{when}
-use Rattle.estimators.specs.Order.{badRegularization}
-use Rattle.estimators.specs.declared.Target.{Target}
-use Rattle.estimators.specs.declared.Target.the-variants.{ConstantVariance, ConstantCorrelation}
-use Rattle.estimators.specs.declared.Regularization.{Regularization}
-use Rattle.estimators.specs.declared.Regularization.the-variants.{Unregularized, Ridge}
-use Rattle.estimators.specs.declared.Field.the-variants.{RegularizationField}
-use Rattle.estimators.specs.declared.Refusal.the-variants.{BadSetting}
+use Rattle.rules.specs.LedoitWolf.{averageVariance, constantCorrelation}
+use Rattle.rules.specs.Adjusted.{weightedTarget, mixed, regularized, isAdjusted}
+use Rattle.rules.specs.Refusals.{when}
+use Rattle.rules.specs.Order.{badRegularization}
+use Rattle.rules.specs.declared.Target.{Target}
+use Rattle.rules.specs.declared.Target.the-variants.{ConstantVariance, ConstantCorrelation}
+use Rattle.rules.specs.declared.Regularization.{Regularization}
+use Rattle.rules.specs.declared.Regularization.the-variants.{Unregularized, Ridge}
+use Rattle.rules.specs.declared.Field.the-variants.{RegularizationField}
+use Rattle.rules.specs.declared.Refusal.the-variants.{BadSetting}
 use Rattle.law.specs.Law.{maxPower}
 use Rattle.law.proofs.Bits.{sideBits, side-bits}
 use Rattle.law.proofs.Ranges.{covarianceBounds, intensityBounds, oneBounds, estimateBounds, partBounds, shrunkBounds, adjustedBounds}

@@ -9,9 +9,9 @@ use lib.Ieee.{Float, binary64, fits}
 use Rattle.leaves.specs.Loops.{fill}
 use Rattle.leaves.specs.Shift.{shift}
 use Rattle.matrix.specs.Jacobi.{Decomposition}
-use Rattle.estimators.specs.Refusals.{Check, passes}
-use Rattle.estimators.specs.Shrinking.{Shrinking, shrunkBy}
-use Rattle.estimators.specs.Calls.{Answered, answered, settle}
+use Rattle.rules.specs.Refusals.{Check, passes}
+use Rattle.rules.specs.Shrinking.{Shrinking, shrunkBy}
+use Rattle.rules.specs.Calls.{Answered, answered, settle}
 use Rattle.law.specs.Law.{Alike, All, AtLeast, meanRange, parts, Large}
 use Rattle.law.proofs.Numbers.{times-shift, times-itself, filled-alike}
 

@@ -6,13 +6,13 @@ use lib.Dec.{T}
 use lib.Ieee.{Float}
 use Rattle.leaves.specs.Numbers.{_⊘_, count}
 use Rattle.matrix.specs.Matrix.{Matrix}
-use Rattle.estimators.specs.Sample.{covariance}
-use Rattle.estimators.specs.Weighted.{weightedCovariance}
-use Rattle.estimators.specs.Semi.{semicovariance, semicovarianceBelow}
-use Rattle.estimators.specs.Adjusted.{isGiven, base}
-use Rattle.estimators.specs.declared.Estimate.{Estimate}
-use Rattle.estimators.specs.declared.Estimate.the-variants.{Sample, Given, Weighted, Semi, SemiBelow}
-use Rattle.estimators.proofs.GramSymmetric.{gram-symmetric}
+use Rattle.rules.specs.Sample.{covariance}
+use Rattle.rules.specs.Weighted.{weightedCovariance}
+use Rattle.rules.specs.Semi.{semicovariance, semicovarianceBelow}
+use Rattle.rules.specs.Adjusted.{isGiven, base}
+use Rattle.rules.specs.declared.Estimate.{Estimate}
+use Rattle.rules.specs.declared.Estimate.the-variants.{Sample, Given, Weighted, Semi, SemiBelow}
+use Rattle.rules.proofs.GramSymmetric.{gram-symmetric}
 
 pub estimate-symmetric : (E : Estimate) → isGiven E ≡ false → (P : ℕ) (x g : Matrix) (i j : ℕ) → base E P x g i j ≡ base E P x g j i
 unfolding base covariance weightedCovariance semicovariance semicovarianceBelow

@@ -10,12 +10,12 @@ use lib.IntN.{ℤ, pos, negsuc, natAbs, _+ℤ_}
 use lib.ListN.{length}
 use lib.Ieee.{Float, binary64, fits}
 use Rattle.leaves.specs.Shift.{shift}
-use Rattle.estimators.specs.Adjusted.{isGiven}
-use Rattle.estimators.specs.Settings.{settings}
-use Rattle.estimators.specs.declared.Estimate.{Estimate}
-use Rattle.estimators.specs.declared.Shrinkage.{Shrinkage}
-use Rattle.estimators.specs.declared.Regularization.{Regularization}
-use Rattle.estimators.specs.declared.Settings.{Settings}
+use Rattle.rules.specs.Adjusted.{isGiven}
+use Rattle.rules.specs.Settings.{settings}
+use Rattle.rules.specs.declared.Estimate.{Estimate}
+use Rattle.rules.specs.declared.Shrinkage.{Shrinkage}
+use Rattle.rules.specs.declared.Regularization.{Regularization}
+use Rattle.rules.specs.declared.Settings.{Settings}
 use Rattle.law.specs.Law as Law
 use Rattle.law.specs.Law.{All, Question, Input, answer, Sized, QuestionInRange, RegularizationInRange, Copy, CopiedEstimate, sample, given, weighted, semi, semiBelow, CopiedRegularization, unregularized, CopiedQuestion, covariance, ledoitWolf, james, bayes, Scaled, Alike, PowerOfTwoLaw, maxPower, returnRange, covarianceRange}
 use Rattle.law.proofs.Numbers.{copy-shift, copies-shift, each-back, times-up, times-down, twice, alike-down}

@@ -27,13 +27,13 @@ use Rattle.leaves.proofs.Signs.{sign-div, sign-not-below}
 use Rattle.leaves.proofs.SqrtNearest.{moved-sqrt}
 use Rattle.leaves.proofs.Totals.{moved-sum}
 use Rattle.matrix.specs.Matrix.{Matrix, at}
-use Rattle.estimators.specs.Sample.{gram, largest}
-use Rattle.estimators.specs.Weighted.{logDecay, accepted, weights, scaledMean, weightedMean, denominator, weightedCovariance}
-use Rattle.estimators.specs.Order.{badHalfLife, weightedOrder, maxPeriods}
-use Rattle.estimators.specs.Calls.{answered, exponentiallyWeightedMean}
-use Rattle.estimators.specs.declared.Field.the-variants.{HalfLifeField}
-use Rattle.estimators.specs.declared.Refusal.the-variants.{BadSetting}
-use Rattle.estimators.specs.declared.Answer.the-variants.{Mean}
+use Rattle.rules.specs.Sample.{gram, largest}
+use Rattle.rules.specs.Weighted.{logDecay, accepted, weights, scaledMean, weightedMean, denominator, weightedCovariance}
+use Rattle.rules.specs.Order.{badHalfLife, weightedOrder, maxPeriods}
+use Rattle.rules.specs.Calls.{answered, exponentiallyWeightedMean}
+use Rattle.rules.specs.declared.Field.the-variants.{HalfLifeField}
+use Rattle.rules.specs.declared.Refusal.the-variants.{BadSetting}
+use Rattle.rules.specs.declared.Answer.the-variants.{Mean}
 use Rattle.law.specs.Law.{All, Sized, LongHalfLife, Alike, ask, maxPower, returnRange, maxHalfLives, parts}
 use Rattle.law.specs.Law as Law
 use Rattle.law.proofs.Bits.{periodBits, period-bits}

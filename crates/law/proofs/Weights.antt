@@ -22,8 +22,8 @@ use Rattle.leaves.proofs.Range.{count-val, range-size, two-val}
 use Rattle.leaves.proofs.Bounds.{Bounded}
 use Rattle.leaves.proofs.Whole.{le-or-lt}
 use Rattle.leaves.proofs.Signs.{sign-round}
-use Rattle.estimators.specs.Weighted.{minLogDecay, logDecay, accepted, denominator}
-use Rattle.estimators.specs.Order.{maxPeriods}
+use Rattle.rules.specs.Weighted.{minLogDecay, logDecay, accepted, denominator}
+use Rattle.rules.specs.Order.{maxPeriods}
 use Rattle.law.specs.Law.{maxHalfLives}
 use Rattle.law.proofs.Comparisons.{le-yes}
 use Rattle.law.proofs.Exponential.{W, ageMost, argumentMost, U-W, W-pos, W-large, N, N-is, ln2-val, near-above, mul-most, Exp, exp-within, product-least, product-most, ExpM1, expM1-within, exp-above, Weight, exp-val}

@@ -11,19 +11,21 @@ use lib.ListN.{length, take}
 use lib.Ieee.{Float, nan, inf, fin, binary64, lt, le, eq, fits, up, down}
 use Rattle.leaves.specs.Numbers.{_⊗_, count, zero⁺, abs, signum}
 use Rattle.leaves.specs.Scaling.{pow2}
-use Rattle.estimators.specs.Refusals.{number, detail, Detail, nothing, only, entry, value}
-use Rattle.estimators.specs.Adjusted.{isSample, isGiven}
-use Rattle.estimators.specs.Calls.{Answered, answered, adjustedCovariance, ledoitWolfIntensity, exponentiallyWeightedMean, jamesSteinMean, bayesSteinMean}
-use Rattle.estimators.specs.declared.Estimate.{Estimate}
-use Rattle.estimators.specs.declared.Estimate.the-variants.{Sample, Given, Weighted, Semi, SemiBelow}
-use Rattle.estimators.specs.declared.Target.{Target}
-use Rattle.estimators.specs.declared.Shrinkage.{Shrinkage}
-use Rattle.estimators.specs.declared.Shrinkage.the-variants.{Unshrunk, Fixed, LedoitWolf}
-use Rattle.estimators.specs.declared.Regularization.{Regularization}
-use Rattle.estimators.specs.declared.Regularization.the-variants.{Unregularized, Ridge}
-use Rattle.estimators.specs.declared.Settings.{Settings}
-use Rattle.estimators.specs.declared.Answer.{Answer}
-use Rattle.estimators.specs.declared.Answer.the-variants.{Refused, Covariance, Intensity, Mean, Shrunk}
+use Rattle.rules.specs.Refusals.{number, detail}
+use Rattle.rules.specs.declared.Detail.{Detail}
+use Rattle.rules.specs.declared.Detail.the-variants.{Nothing as nothing, Only as only, Entry as entry, Value as value}
+use Rattle.rules.specs.Adjusted.{isSample, isGiven}
+use Rattle.rules.specs.Calls.{Answered, answered, adjustedCovariance, ledoitWolfIntensity, exponentiallyWeightedMean, jamesSteinMean, bayesSteinMean}
+use Rattle.rules.specs.declared.Estimate.{Estimate}
+use Rattle.rules.specs.declared.Estimate.the-variants.{Sample, Given, Weighted, Semi, SemiBelow}
+use Rattle.rules.specs.declared.Target.{Target}
+use Rattle.rules.specs.declared.Shrinkage.{Shrinkage}
+use Rattle.rules.specs.declared.Shrinkage.the-variants.{Unshrunk, Fixed, LedoitWolf}
+use Rattle.rules.specs.declared.Regularization.{Regularization}
+use Rattle.rules.specs.declared.Regularization.the-variants.{Unregularized, Ridge}
+use Rattle.rules.specs.declared.Settings.{Settings}
+use Rattle.rules.specs.declared.Answer.{Answer}
+use Rattle.rules.specs.declared.Answer.the-variants.{Refused, Covariance, Intensity, Mean, Shrunk}
 
 -- ---- "Exactly 2^k times" speaks of the numbers themselves, with no rounding
 

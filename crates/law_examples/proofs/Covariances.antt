@@ -6,16 +6,16 @@ use lib.IntN.{ℤ}
 use lib.Ieee.{fin}
 use Rattle.leaves.specs.Numbers.{half, one}
 use Rattle.matrix.specs.Limits.{maxSweeps}
-use Rattle.estimators.specs.declared.Estimate.{Estimate}
-use Rattle.estimators.specs.declared.Estimate.the-variants.{Sample, Given, Weighted, SemiBelow}
-use Rattle.estimators.specs.declared.Target.the-variants.{ConstantCorrelation}
-use Rattle.estimators.specs.declared.Shrinkage.{Shrinkage}
-use Rattle.estimators.specs.declared.Shrinkage.the-variants.{Unshrunk, Fixed, LedoitWolf}
-use Rattle.estimators.specs.declared.Regularization.{Regularization}
-use Rattle.estimators.specs.declared.Regularization.the-variants.{Unregularized, Ridge}
-use Rattle.estimators.specs.declared.Settings.{Settings}
-use Rattle.estimators.specs.Settings.{settings}
-use Rattle.estimators.specs.Adjusted.{isSample}
+use Rattle.rules.specs.declared.Estimate.{Estimate}
+use Rattle.rules.specs.declared.Estimate.the-variants.{Sample, Given, Weighted, SemiBelow}
+use Rattle.rules.specs.declared.Target.the-variants.{ConstantCorrelation}
+use Rattle.rules.specs.declared.Shrinkage.{Shrinkage}
+use Rattle.rules.specs.declared.Shrinkage.the-variants.{Unshrunk, Fixed, LedoitWolf}
+use Rattle.rules.specs.declared.Regularization.{Regularization}
+use Rattle.rules.specs.declared.Regularization.the-variants.{Unregularized, Ridge}
+use Rattle.rules.specs.declared.Settings.{Settings}
+use Rattle.rules.specs.Settings.{settings}
+use Rattle.rules.specs.Adjusted.{isSample}
 use Rattle.examples.proofs.Evaluated.{evaluated}
 use Rattle.law.specs.Law as Law
 use Rattle.law.specs.Law.{Question, Input, adjusted, EstimateInRange, RegularizationInRange, ShrinkageInRange, SettingsInRange, CopiedEstimate, CopiedRegularization, CopiedSettings, sample, given, semiBelow, unregularized, ridge, covariance}

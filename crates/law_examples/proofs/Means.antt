@@ -2,7 +2,7 @@
 use mathlib.Core.Path.{refl}
 use Rattle.leaves.specs.Numbers.{one}
 use Rattle.matrix.specs.Limits.{maxSweeps}
-use Rattle.estimators.specs.declared.Target.the-variants.{ConstantVariance}
+use Rattle.rules.specs.declared.Target.the-variants.{ConstantVariance}
 use Rattle.examples.proofs.Evaluated.{evaluated}
 use Rattle.law.specs.Law as Law
 use Rattle.law.specs.Law.{intensity, weightedMean, jamesStein, bayesStein, ledoitWolf, james, bayes}

@@ -30,3 +30,5 @@ pub mod Vectors
 -- a rotation with V stored column by column and A symmetric
 pub mod Flip
 pub mod Symmetry
+-- lending parts of arrays of the largest size
+pub mod Lent

@@ -11,11 +11,11 @@ use Rattle.leaves.specs.Loops.{loop, sumTo, amaxTo, firstTo, tab, fill}
 use Rattle.leaves.specs.Shift.{shift}
 use Rattle.leaves.specs.Root.{root, sticky, halfExponent, radicand, sqrt}
 use Rattle.matrix.specs.Matrix.{rows, trace, firstEntry, allFinite}
-use Rattle.estimators.specs.Refusals.{first}
-use Rattle.estimators.specs.Sample.{mean, deviation, gram, covariance, largest, constantAsset}
-use Rattle.estimators.specs.Adjusted.{base, intensity, shrunk, regularized, adjusted, isAdjusted}
-use Rattle.estimators.specs.Order.{notFinite, opening, ofGiven, badRegularization, badShrinkage, badEstimate, notTheSample, noCorrelation, noVariance, ofSettings, adjustedOrder}
-use Rattle.estimators.specs.Calls.{settle, adjustedCovariance}
+use Rattle.rules.specs.Refusals.{first}
+use Rattle.rules.specs.Sample.{mean, deviation, gram, covariance, largest, constantAsset}
+use Rattle.rules.specs.Adjusted.{base, intensity, shrunk, regularized, adjusted, isAdjusted}
+use Rattle.rules.specs.Order.{notFinite, opening, ofGiven, badRegularization, badShrinkage, badEstimate, notTheSample, noCorrelation, noVariance, ofSettings, adjustedOrder}
+use Rattle.rules.specs.Calls.{settle, adjustedWith, adjustedReturns, adjustedCovariance}
 use Rattle.paper.specs.declared.screen.Shown.the-variants.{Big, Number}
 use Rattle.paper.specs.Text.{glyph, digits, unpadded}
 use Rattle.paper.specs.Screen.{shownAs, shown, shownText, screenText}
@@ -51,7 +51,7 @@ text-6 =
 
 -- what a computed case unfolds
 unfoldable computed : ℕ
-unfolding marking examined readPaper isQuestion sheet kinds taken starts little outline wellFormed shapeFits settingsFit takes present placeIn answerOf columns asked settingsOf estimateOf shrinkageOf regularizationOf adjustedCovariance settle first adjustedOrder opening ofGiven ofSettings notFinite badRegularization badShrinkage badEstimate notTheSample noCorrelation noVariance isAdjusted base covariance gram deviation mean largest constantAsset intensity adjusted shrunk regularized rows trace firstEntry allFinite loop sumTo amaxTo firstTo tab fill isFinite abs larger sqrt root sticky halfExponent radicand shift sub mul div le ofInt ofBits outcome outcomeText linesText lineText shownText shown shownAs digits unpadded glyph toBits
+unfolding marking examined readPaper isQuestion sheet kinds taken starts little outline wellFormed shapeFits settingsFit takes present placeIn answerOf columns asked settingsOf estimateOf shrinkageOf regularizationOf adjustedWith adjustedReturns adjustedCovariance settle first adjustedOrder opening ofGiven ofSettings notFinite badRegularization badShrinkage badEstimate notTheSample noCorrelation noVariance isAdjusted base covariance gram deviation mean largest constantAsset intensity adjusted shrunk regularized rows trace firstEntry allFinite loop sumTo amaxTo firstTo tab fill isFinite abs larger sqrt root sticky halfExponent radicand shift sub mul div le ofInt ofBits outcome outcomeText linesText lineText shownText shown shownAs digits unpadded glyph toBits
 computed = 0
 
 pub marking-6 : marking case-6 ≡ text-6

@@ -11,13 +11,14 @@ use lib.Dec.{eqb}
 use lib.Ieee.{Float}
 use borrow.Author.Tests.{eqb-true, eqb-false, ne-eqb}
 use Rattle.leaves.specs.Numbers.{zero⁺}
-use Rattle.estimators.specs.Calls.{adjustedCovariance, exponentiallyWeightedMean, jamesSteinMean, bayesSteinMean}
-use Rattle.estimators.specs.declared.Answer.{Answer}
-use Rattle.estimators.specs.declared.Answer.the-variants.{Refused, Covariance, Intensity, Mean, Shrunk}
-use Rattle.estimators.specs.declared.Settings.{Settings}
-use Rattle.estimators.proofs.Opened.{settle-length}
+use Rattle.rules.specs.Calls.{adjustedCovariance, exponentiallyWeightedMean, jamesSteinMean, bayesSteinMean}
+use Rattle.rules.specs.declared.Answer.{Answer}
+use Rattle.rules.specs.declared.Answer.the-variants.{Refused, Covariance, Intensity, Mean, Shrunk}
+use Rattle.rules.specs.declared.Settings.{Settings}
+use Rattle.rules.proofs.Opened.{settle-length}
+use Rattle.rules.proofs.AdjustedCall.{adjusted-is}
 use Rattle.paper.specs.declared.kinds.Kind.{Kind}
-use Rattle.paper.specs.declared.rules.Outline.{Outline}
+use Rattle.paper.specs.declared.format.Outline.{Outline}
 use Rattle.paper.specs.declared.screen.Shown.{Shown}
 use Rattle.paper.specs.declared.screen.Shown.the-variants.{Big, Number}
 use Rattle.paper.specs.Text.{minusSign, digitZero, Out, out, write, digits, unpadded, maxDigits, decimal}
@@ -116,8 +117,7 @@ outcome-length (ok n c xs) h = simp length-append (omega (arith, decimal-length 
 
 module _ (r : List Float) (n T : ℕ) (slice : List Float) where
   covariance-length : (s : Settings) (g : List Float) (side : ℕ) → n * n ≤ length slice → length (adjustedCovariance r n T s g side slice .slice) ≡ length slice
-  unfolding adjustedCovariance
-  covariance-length s g side h = settle-length _ _ (n * n) _ slice (λ e. h)
+  covariance-length s g side h = rw (adjusted-is r n T s g side slice) (settle-length _ _ (n * n) _ slice (λ e. h))
 
   module _ (h : n ≤ length slice) where
     weighted-length : (l : Float) → length (exponentiallyWeightedMean r n T l slice .slice) ≡ length slice

@@ -10,9 +10,9 @@ use lib.Dec.{eqb}
 use lib.Ieee.{Float, ofBits}
 use borrow.Author.Tests.{eq-eqb, ne-eqb}
 use Rattle.leaves.specs.Numbers.{float}
-use Rattle.estimators.specs.Calls.{adjustedCovariance, exponentiallyWeightedMean, jamesSteinMean, bayesSteinMean}
-use Rattle.estimators.specs.declared.Settings.{Settings}
-use Rattle.paper.specs.declared.rules.Outline.{Outline}
+use Rattle.rules.specs.Calls.{adjustedCovariance, exponentiallyWeightedMean, jamesSteinMean, bayesSteinMean}
+use Rattle.rules.specs.declared.Settings.{Settings}
+use Rattle.paper.specs.declared.format.Outline.{Outline}
 use Rattle.paper.specs.Grammar.{fileAssets}
 use Rattle.paper.specs.Rules.{value, assets, periods}
 use Rattle.paper.specs.Marking.{settingsOf, limitOf, asked, columns, printed, answerOf}

@@ -11,7 +11,7 @@ use lib.Seq.{drop-cons}
 use lib.Dec.{leb, eqb, T, leb→le, eqb→eq}
 use lib.Ieee.Fits.{and-l, and-r}
 use borrow.Author.Tests.{eqb-true}
-use Rattle.paper.specs.declared.rules.Outline.{Outline}
+use Rattle.paper.specs.declared.format.Outline.{Outline}
 use Rattle.paper.specs.Grammar.{fileAssets, filePeriods, Sheet}
 use Rattle.paper.specs.Rules.{count, has, value, assets, periods, present, shapeFits, settingsFit, takes, wellFormed, outline, isQuestion}
 

@@ -2,9 +2,9 @@
 use Prim.Native.Nat.{ℕ, suc, _/_, _%_}
 use mathlib.Core.List.{List, [], _∷_, _++_}
 use lib.Ieee.{Float, binary64, toBits}
-use Rattle.estimators.specs.Refusals.{number}
-use Rattle.estimators.specs.declared.Answer.{Answer}
-use Rattle.estimators.specs.declared.Answer.the-variants.{Refused, Covariance, Intensity, Mean, Shrunk}
+use Rattle.rules.specs.Refusals.{number}
+use Rattle.rules.specs.declared.Answer.{Answer}
+use Rattle.rules.specs.declared.Answer.the-variants.{Refused, Covariance, Intensity, Mean, Shrunk}
 use Rattle.paper.specs.Text.{lineFeed, space, digits, decimal}
 use Rattle.paper.specs.Screen.{screenText}
 

@@ -7,26 +7,21 @@ use lib.Dec.{eqb}
 use lib.Ieee.{Float}
 use Rattle.leaves.specs.Numbers.{zero⁺, float}
 use Rattle.matrix.specs.Limits.{maxSweeps}
-use Rattle.estimators.specs.Calls.{Answered, adjustedCovariance, exponentiallyWeightedMean, jamesSteinMean, bayesSteinMean}
-use Rattle.estimators.specs.declared.Estimate.{Estimate}
-use Rattle.estimators.specs.declared.Estimate.the-variants.{Sample, Given, Weighted, Semi, SemiBelow}
-use Rattle.estimators.specs.declared.Target.{Target}
-use Rattle.estimators.specs.declared.Target.the-variants.{ConstantVariance, ConstantCorrelation}
-use Rattle.estimators.specs.declared.Shrinkage.{Shrinkage}
-use Rattle.estimators.specs.declared.Shrinkage.the-variants.{Unshrunk, Fixed, LedoitWolf}
-use Rattle.estimators.specs.declared.Regularization.{Regularization}
-use Rattle.estimators.specs.declared.Regularization.the-variants.{Unregularized, Ridge}
-use Rattle.estimators.specs.declared.Settings.{Settings}
-use Rattle.paper.specs.declared.rules.Outline.{Outline}
+use Rattle.rules.specs.Settings.{targetOf}
+use Rattle.rules.specs.Calls.{Answered, adjustedCovariance, exponentiallyWeightedMean, jamesSteinMean, bayesSteinMean}
+use Rattle.rules.specs.declared.Estimate.{Estimate}
+use Rattle.rules.specs.declared.Estimate.the-variants.{Sample, Given, Weighted, Semi, SemiBelow}
+use Rattle.rules.specs.declared.Shrinkage.{Shrinkage}
+use Rattle.rules.specs.declared.Shrinkage.the-variants.{Unshrunk, Fixed, LedoitWolf}
+use Rattle.rules.specs.declared.Regularization.{Regularization}
+use Rattle.rules.specs.declared.Regularization.the-variants.{Unregularized, Ridge}
+use Rattle.rules.specs.declared.Settings.{Settings}
+use Rattle.paper.specs.declared.format.Outline.{Outline}
 use Rattle.paper.specs.Grammar.{kinds, placeIn}
 use Rattle.paper.specs.Rules.{outline, has, value, assets, periods, Reading, malformed, question, readPaper}
 use Rattle.paper.specs.Answer.{malformedNumber, Outcome, refused, outcome, outcomeText}
 
 -- ---- the settings record
-
--- of target byte 0 or 1
-unfoldable pub targetOf : ℕ → Target
-targetOf byte = cond (eqb byte 0) ConstantVariance ConstantCorrelation
 
 unfoldable pub estimateOf : Outline → Estimate
 estimateOf o =

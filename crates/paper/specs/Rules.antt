@@ -5,7 +5,8 @@ use mathlib.Core.Bool.{Bool, not, _&&_, _||_, cond}
 use mathlib.Core.List.{List, [], _∷_, map}
 use lib.ListN.{length, getD}
 use lib.Dec.{leb, eqb}
-use Rattle.paper.specs.declared.rules.Outline.{Outline}
+use Rattle.rules.specs.Settings.{isTarget}
+use Rattle.paper.specs.declared.format.Outline.{Outline}
 use Rattle.paper.specs.Grammar.{fileAssets, filePeriods, kinds, placeIn, Sheet, sheet}
 
 abbrev pub firstOf : List ℕ → ℕ
@@ -52,10 +53,6 @@ shrinkages = 4 ∷ 5 ∷ []
 
 abbrev pub estimates : List ℕ
 estimates = 6 ∷ 7 ∷ 8 ∷ 9 ∷ []
-
--- target byte 0 or 1
-abbrev pub isTarget : ℕ → Bool
-isTarget byte = leb byte 1
 
 -- at most one shrinkage and one estimate; a known target
 unfoldable pub settingsFit : Outline → Bool

@@ -10,8 +10,8 @@ use crate::text::put;
 use crate::text::put_decimal;
 use crate::text::put_digits;
 use crate::text::put_text;
-use estimators::Answer;
-use estimators::refusals::number;
+use rules::Answer;
+use rules::refusals::number;
 
 // The bits of x, those of one NaN for every NaN.
 fn bits(x: f64) -> u64

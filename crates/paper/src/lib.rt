@@ -1,12 +1,12 @@
 // Question files and printed answers: bytes in, bytes out.
 mod answer;
 mod floats;
+mod format;
 mod kinds;
 mod marking;
 mod reader;
-mod rules;
 mod screen;
-pub mod settings;
+mod settings;
 mod text;
 
 ghost use mathlib.Core.Path.{_≡_};

@@ -3,7 +3,7 @@ ghost use mathlib.Core.Path.{_≡_};
 ghost use mathlib.Core.Bool.{true};
 ghost use Prim.Native.Nat.{_≤_};
 ghost use lib.ListN.{length};
-ghost use Rattle.estimators.specs.Calls as Calls;
+ghost use Rattle.rules.specs.Calls as Calls;
 ghost use Rattle.paper.specs.Text.{out as into, write};
 ghost use Rattle.paper.specs.Answer.{outcomeText};
 ghost use Rattle.paper.specs.Grammar.{fileAssets};
@@ -12,20 +12,20 @@ ghost use Rattle.paper.specs.Marking as Marking;
 ghost use Rattle.paper.specs.Inner.{split, total};
 use crate::answer::put_answer;
 use crate::floats::floats;
+use crate::format::Outline;
+use crate::format::assets;
+use crate::format::periods;
+use crate::format::value;
 use crate::kinds::ENTRIES;
 use crate::kinds::RETURNS;
-use crate::rules::Outline;
-use crate::rules::assets;
-use crate::rules::periods;
-use crate::rules::value;
 use crate::settings::limit;
 use crate::settings::number_of;
 use crate::settings::settings;
-use estimators::Answer;
 use estimators::calls::adjusted_covariance;
 use estimators::calls::bayes_stein_mean;
 use estimators::calls::exponentially_weighted_mean;
 use estimators::calls::james_stein_mean;
+use rules::Answer;
 
 // The engine's answer to question q, with the answer slice.
 fn ask(q: u64, o: Outline, returns: &[f64], given: &[f64], slice: &mut [f64]) -> Answer

@@ -8,12 +8,12 @@ ghost use Rattle.paper.specs.Grammar as Grammar;
 ghost use Rattle.paper.specs.Grammar.{taken, kinds, sheet};
 ghost use Rattle.paper.specs.Rules.{firstOf};
 ghost use Rattle.paper.specs.Inner.{TookIs, ScannedIs, ReadIs};
+use crate::format::Outline;
+use crate::format::well_formed;
 use crate::kinds::KINDS;
 use crate::kinds::Kind;
 use crate::kinds::RECORDS;
 use crate::kinds::kind_at;
-use crate::rules::Outline;
-use crate::rules::well_formed;
 
 fn wide(b: u8) -> u64
     ensures { λ r. ⌜ r ≡ b ⌝ }

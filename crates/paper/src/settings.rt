@@ -3,32 +3,21 @@ ghost use mathlib.Core.Path.{_≡_};
 ghost use Rattle.leaves.specs.Numbers as Numbers;
 ghost use Rattle.paper.specs.Rules as Rules;
 ghost use Rattle.paper.specs.Marking as Marking;
-use crate::rules::Outline;
-use crate::rules::has;
-use crate::rules::value;
-use estimators::Estimate;
-use estimators::Regularization;
-use estimators::Settings;
-use estimators::Shrinkage;
-use estimators::Target;
+use crate::format::Outline;
+use crate::format::has;
+use crate::format::value;
 use leaves::numbers::float;
+use rules::Estimate;
+use rules::Regularization;
+use rules::Settings;
+use rules::Shrinkage;
+use rules::targets::target;
 
 // The number of a kind.
 pub(crate) fn number_of(o: Outline, kind: u8) -> f64
     ensures { λ r. ⌜ r ≡ Numbers.float (Rules.value o kind) ⌝ }
 {
     float(value(o, kind))
-}
-
-// 0 stands for constant variance, 1 for constant correlation.
-pub fn target(byte: u64) -> Target
-    ensures { λ r. ⌜ r ≡ Marking.targetOf byte ⌝ }
-{
-    if byte == 0 {
-        Target::ConstantVariance
-    } else {
-        Target::ConstantCorrelation
-    }
 }
 
 fn estimate(o: Outline) -> Estimate

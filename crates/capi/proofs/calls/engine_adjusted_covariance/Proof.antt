@@ -5,8 +5,8 @@ use Prim.Native.Nat.{ℕ}
 use borrow.Author.Needs.{needs}
 use borrow.Author.Tests.{not-true, not-false}
 use lib.Ieee.{Float, ofBits}
-use Rattle.estimators.specs.Calls.{Answered, adjustedCovariance}
-use Rattle.estimators.specs.declared.Settings.{Settings}
+use Rattle.rules.specs.Calls.{Answered, adjustedCovariance}
+use Rattle.rules.specs.declared.Settings.{Settings}
 use Rattle.capi.specs.Calls.{engineAdjustedCovariance}
 use Rattle.capi.proofs.Tells.{tells-known, tells-unknown}
 use Rattle.capi.proofs.calls.engine_adjusted_covariance.Statement.{statement}

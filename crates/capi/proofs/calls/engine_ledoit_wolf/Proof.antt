@@ -5,9 +5,9 @@ use Prim.Native.Nat.{ℕ}
 use borrow.Author.Needs.{needs}
 use borrow.Author.Tests.{le-leb, lt-leb}
 use lib.Ieee.{Float, ofBits}
-use Rattle.estimators.specs.Calls.{answered, ledoitWolfIntensity}
-use Rattle.estimators.specs.declared.Target.{Target}
-use Rattle.estimators.specs.declared.Answer.{Answer}
+use Rattle.rules.specs.Calls.{answered, ledoitWolfIntensity}
+use Rattle.rules.specs.declared.Target.{Target}
+use Rattle.rules.specs.declared.Answer.{Answer}
 use Rattle.capi.specs.Calls.{Left, engineLedoitWolf}
 use Rattle.capi.proofs.Tells.{tells-known, tells-unknown}
 use Rattle.capi.proofs.calls.engine_ledoit_wolf.Statement.{statement}

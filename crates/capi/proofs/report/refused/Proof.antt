@@ -4,6 +4,9 @@ use lib.Ieee.{ofBits}
 use Rattle.capi.proofs.report.refused.Statement.{statement}
 use Rattle.capi.proofs.report.refused.Tie as tie
 
+detail-requires : tie.Need-detail-requires
+detail-requires c κs = search needs
+
 number-requires : tie.Need-number-requires
 number-requires c κs = search needs
 
@@ -18,7 +21,7 @@ second-of-requires c κs = search needs
 
 returns : tie.Need-returns
 unfolding ofBits
-returns c = rw (c .before .before .before .number .ensures, c .before .before .value-or .ensures, c .before .first-of .ensures, c .second-of .ensures)
+returns c = rw (c .before .before .before .number .ensures, c .before .before .value-or .ensures, c .before .first-of .ensures, c .second-of .ensures, c .before .before .before .before .detail .ensures)
 
 pub refused-spec : {M : Type 1} → statement M
-refused-spec = tie.close (tie.spec number-requires value-or-requires first-of-requires second-of-requires returns)
+refused-spec = tie.close (tie.spec detail-requires number-requires value-or-requires first-of-requires second-of-requires returns)

@@ -4,13 +4,12 @@ use Prim.Native.Nat.{_*_, _≤_}
 use lib.ListN.{length}
 use lib.Seq.{length-take-le}
 use borrow.Author.Needs.{needs}
-use Rattle.estimators.specs.Order.{opening, ofGiven, ofSettings, adjustedOrder}
-use Rattle.estimators.specs.Shapes.{Shaped}
-use Rattle.estimators.specs.Checks.{checked}
-use Rattle.estimators.specs.Calls.{adjustedCovariance}
-use Rattle.estimators.proofs.Opened.{shape-refuses, shape-fits}
-use Rattle.estimators.proofs.Shapes.{shape-passes}
-use Rattle.estimators.proofs.Lent.{square-fits}
+use Rattle.matrix.proofs.Lent.{square-fits}
+use Rattle.rules.specs.Shapes.{Shaped}
+use Rattle.rules.proofs.Opened.{shape-refuses, shape-fits}
+use Rattle.rules.proofs.AdjustedCall.{adjusted-is}
+use Rattle.rules.proofs.Shapes.{shape-passes}
+use Rattle.inputs.specs.Checks.{checked}
 use Rattle.estimators.proofs.calls.adjusted_covariance.Statement.{statement}
 use Rattle.estimators.proofs.calls.adjusted_covariance.Tie as tie
 
@@ -21,10 +20,10 @@ enum-known-shape : tie.Need-enum-known-shape
 enum-known-shape c = search needs
 
 returns : tie.Need-returns
-unfolding adjustedCovariance adjustedOrder opening ofSettings ofGiven
 returns c =
     let a = c .before .before .before .before .before .before .before .args in
     shape-refuses (a .returns .now) (a .n) (a .periods) (a .n * a .n) (a .answer .now) _ _ _ (ap checked (sym (c .before .shape .given .1)) ∙ c .before .before .before .check-shape .ensures)
+    ∙ sym (adjusted-is (a .returns .now) (a .n) (a .periods) (a .settings) (a .given .now) (a .side) (a .answer .now))
 
 enum-told : tie.Need-enum-told
 enum-told c = search needs
@@ -49,11 +48,12 @@ same-length : tie.Need-same-length
 same-length c = search needs
 
 returns-2 : tie.Need-returns-2
-unfolding adjustedCovariance adjustedOrder opening ofSettings ofGiven
 returns-2 c =
     let a = c .before .before .before .before .before .before .before .before .before .before .args in
     let s = shape (c .before .before .before .before) in
-    shape-fits (a .returns .now) (a .n) (a .periods) (a .n * a .n) (a .answer .now) _ _ _ (s .0) (s .1) (c .before .before .adjusted-covariance .ensures)
+    shape-fits (a .returns .now) (a .n) (a .periods) (a .n * a .n) (a .answer .now) _ _ _ (s .0) (s .1)
+    (c .before .before .adjusted-covariance .ensures ∙ adjusted-is (a .returns .now) (a .n) (a .periods) (a .settings) (a .given .now) (a .side) _)
+    ∙ sym (adjusted-is (a .returns .now) (a .n) (a .periods) (a .settings) (a .given .now) (a .side) (a .answer .now))
 
 pub adjusted-covariance-spec : {M : Type 1} → statement M
 adjusted-covariance-spec =

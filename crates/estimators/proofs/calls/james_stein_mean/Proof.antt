@@ -4,12 +4,12 @@ use Prim.Native.Nat.{_≤_}
 use lib.ListN.{length}
 use lib.Seq.{length-take-le}
 use borrow.Author.Needs.{needs}
-use Rattle.estimators.specs.Order.{jamesSteinOrder}
-use Rattle.estimators.specs.Shapes.{Shaped}
-use Rattle.estimators.specs.Checks.{checked}
-use Rattle.estimators.specs.Calls.{jamesSteinMean}
-use Rattle.estimators.proofs.Opened.{shape-refuses, shape-fits}
-use Rattle.estimators.proofs.Shapes.{shape-passes}
+use Rattle.rules.specs.Order.{jamesSteinOrder}
+use Rattle.rules.specs.Shapes.{Shaped}
+use Rattle.rules.specs.Calls.{jamesSteinMean}
+use Rattle.rules.proofs.Opened.{shape-refuses, shape-fits}
+use Rattle.rules.proofs.Shapes.{shape-passes}
+use Rattle.inputs.specs.Checks.{checked}
 use Rattle.estimators.proofs.calls.james_stein_mean.Statement.{statement}
 use Rattle.estimators.proofs.calls.james_stein_mean.Tie as tie
 

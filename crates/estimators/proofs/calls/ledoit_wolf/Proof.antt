@@ -2,8 +2,8 @@
 use mathlib.Core.Path.{sym, ap, _∙_}
 use lib.ListN.{length}
 use borrow.Author.Needs.{needs}
-use Rattle.estimators.specs.Checks.{checked}
-use Rattle.estimators.proofs.Shapes.{shape-passes}
+use Rattle.rules.proofs.Shapes.{shape-passes}
+use Rattle.inputs.specs.Checks.{checked}
 use Rattle.estimators.proofs.LedoitWolfCall.{shape-refuses}
 use Rattle.estimators.proofs.calls.ledoit_wolf.Statement.{statement}
 use Rattle.estimators.proofs.calls.ledoit_wolf.Tie as tie

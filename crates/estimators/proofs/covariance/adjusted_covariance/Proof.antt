@@ -1,6 +1,6 @@
 -- `estimators::covariance::adjusted_covariance` meets its contract: `adjusted_in`, in arrays of the largest size.
 use borrow.Author.Needs.{needs}
-use Rattle.estimators.proofs.Lent.{lent}
+use Rattle.matrix.proofs.Lent.{lent}
 use Rattle.estimators.proofs.covariance.adjusted_covariance.Statement.{statement}
 use Rattle.estimators.proofs.covariance.adjusted_covariance.Tie as tie
 

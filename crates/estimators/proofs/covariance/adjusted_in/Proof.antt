@@ -7,9 +7,9 @@ use lib.Seq.{length-take-le}
 use borrow.Author.Needs.{needs}
 use Rattle.matrix.specs.Matrix.{at}
 use Rattle.matrix.proofs.Counts.{square-most}
-use Rattle.estimators.specs.Refusals.{passes, first}
-use Rattle.estimators.specs.Order.{byReturns}
-use Rattle.estimators.specs.Checks.{checked}
+use Rattle.rules.specs.Refusals.{passes, first}
+use Rattle.rules.specs.Order.{byReturns}
+use Rattle.inputs.specs.Checks.{checked}
 use Rattle.estimators.proofs.OfGiven.{examined-refused, examined-accepted, same-side}
 use Rattle.estimators.proofs.Estimated.{returns-refuse, given-refuses, given-passes}
 use Rattle.estimators.proofs.covariance.adjusted_in.Statement.{statement}

@@ -4,9 +4,9 @@ use mathlib.Core.Bool.{Bool, not}
 use lib.Ieee.{Float, eq, ofBits}
 use borrow.Author.Needs.{needs}
 use Rattle.leaves.specs.Numbers.{zero⁺}
-use Rattle.estimators.specs.Refusals.{when}
-use Rattle.estimators.specs.declared.Refusal.the-variants.{CovarianceNotFinite, Singular}
-use Rattle.estimators.proofs.Firsts.{first-alone, first-join}
+use Rattle.rules.specs.Refusals.{when}
+use Rattle.rules.specs.declared.Refusal.the-variants.{CovarianceNotFinite, Singular}
+use Rattle.rules.proofs.Firsts.{first-alone, first-join}
 use Rattle.estimators.proofs.covariance.check_answer.Statement.{statement}
 use Rattle.estimators.proofs.covariance.check_answer.Tie as tie
 

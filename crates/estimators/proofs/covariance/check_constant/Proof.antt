@@ -2,10 +2,10 @@
 use mathlib.Core.Path.{ap, _∙_}
 use borrow.Author.Needs.{needs}
 use Rattle.leaves.proofs.Lists.{tab-long}
-use Rattle.estimators.specs.Refusals.{whenSome}
-use Rattle.estimators.specs.declared.Refusal.the-variants.{ZeroVariance}
-use Rattle.estimators.proofs.Constant.{constant-sizes}
-use Rattle.estimators.proofs.Lent.{lent}
+use Rattle.matrix.proofs.Lent.{lent}
+use Rattle.rules.specs.Refusals.{whenSome}
+use Rattle.rules.specs.declared.Refusal.the-variants.{ZeroVariance}
+use Rattle.rules.proofs.Constant.{constant-sizes}
 use Rattle.estimators.proofs.covariance.check_constant.Statement.{statement}
 use Rattle.estimators.proofs.covariance.check_constant.Tie as tie
 

@@ -1,7 +1,7 @@
 -- `estimators::covariance::check_settings` meets its contract: the checks, joined in their order.
 use mathlib.Core.Path.{_∙_}
 use borrow.Author.Needs.{needs}
-use Rattle.estimators.proofs.Firsts.{first-alone, first-join}
+use Rattle.rules.proofs.Firsts.{first-alone, first-join}
 use Rattle.estimators.proofs.covariance.check_settings.Statement.{statement}
 use Rattle.estimators.proofs.covariance.check_settings.Tie as tie
 

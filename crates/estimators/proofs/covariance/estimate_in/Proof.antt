@@ -2,7 +2,7 @@
 use mathlib.Core.Path.{sym, ap, _∙_}
 use borrow.Author.Needs.{needs}
 use Rattle.matrix.specs.Matrix.{at}
-use Rattle.estimators.specs.Checks.{checked}
+use Rattle.inputs.specs.Checks.{checked}
 use Rattle.estimators.proofs.Estimated.{estimated-refused, estimated-accepted}
 use Rattle.estimators.proofs.covariance.estimate_in.Statement.{statement}
 use Rattle.estimators.proofs.covariance.estimate_in.Tie as tie

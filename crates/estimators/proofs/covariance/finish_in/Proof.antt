@@ -2,10 +2,10 @@
 use mathlib.Core.Path.{_≡_, sym, ap, _∙_}
 use borrow.Author.Needs.{needs}
 use Rattle.matrix.specs.Matrix.{at}
-use Rattle.estimators.specs.Refusals.{first}
-use Rattle.estimators.specs.Adjusted.{adjustedOf}
-use Rattle.estimators.specs.Order.{byEstimate}
-use Rattle.estimators.specs.Checks.{checked}
+use Rattle.rules.specs.Refusals.{first}
+use Rattle.rules.specs.Adjusted.{adjustedOf}
+use Rattle.rules.specs.Order.{byEstimate}
+use Rattle.inputs.specs.Checks.{checked}
 use Rattle.estimators.proofs.Estimated.{estimate-checked, finished-refused, finished-accepted}
 use Rattle.estimators.proofs.covariance.finish_in.Statement.{statement}
 use Rattle.estimators.proofs.covariance.finish_in.Tie as tie

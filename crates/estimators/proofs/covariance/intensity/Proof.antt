@@ -1,7 +1,7 @@
 -- `estimators::covariance::intensity` meets its contract, by the cases of the shrinkage.
 use lib.Ieee.{ofBits}
 use borrow.Author.Needs.{needs}
-use Rattle.estimators.specs.Adjusted.{intensity}
+use Rattle.rules.specs.Adjusted.{intensity}
 use Rattle.estimators.proofs.covariance.intensity.Statement.{statement}
 use Rattle.estimators.proofs.covariance.intensity.Tie as tie
 

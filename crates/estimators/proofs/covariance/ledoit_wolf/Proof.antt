@@ -1,6 +1,6 @@
 -- `estimators::covariance::ledoit_wolf` meets its contract: `ledoit_wolf_in`, in an array of the largest size.
 use borrow.Author.Needs.{needs}
-use Rattle.estimators.proofs.Lent.{lent}
+use Rattle.matrix.proofs.Lent.{lent}
 use Rattle.estimators.proofs.covariance.ledoit_wolf.Statement.{statement}
 use Rattle.estimators.proofs.covariance.ledoit_wolf.Tie as tie
 

@@ -1,7 +1,7 @@
 -- `estimators::covariance::ledoit_wolf_in` meets its contract: the returns and the correlations are looked at, then the intensity is taken.
 use mathlib.Core.Path.{ap}
 use borrow.Author.Needs.{needs}
-use Rattle.estimators.specs.Checks.{checked}
+use Rattle.inputs.specs.Checks.{checked}
 use Rattle.estimators.proofs.LedoitWolfCall.{refused, accepted}
 use Rattle.estimators.proofs.covariance.ledoit_wolf_in.Statement.{statement}
 use Rattle.estimators.proofs.covariance.ledoit_wolf_in.Tie as tie

@@ -1,11 +1,11 @@
 -- `estimators::covariance::no_correlation` meets its contract, by the cases of the shrinkage.
 use mathlib.Core.Path.{ap, _∙_}
 use borrow.Author.Needs.{needs}
-use Rattle.estimators.specs.Refusals.{whenSome}
-use Rattle.estimators.specs.Order.{noCorrelation}
-use Rattle.estimators.specs.declared.Refusal.the-variants.{ZeroVariance}
-use Rattle.estimators.proofs.Constant.{constant-stored}
-use Rattle.estimators.proofs.Lent.{lent}
+use Rattle.matrix.proofs.Lent.{lent}
+use Rattle.rules.specs.Refusals.{whenSome}
+use Rattle.rules.specs.Order.{noCorrelation}
+use Rattle.rules.specs.declared.Refusal.the-variants.{ZeroVariance}
+use Rattle.rules.proofs.Constant.{constant-stored}
 use Rattle.estimators.proofs.covariance.no_correlation.Statement.{statement}
 use Rattle.estimators.proofs.covariance.no_correlation.Tie as tie
 

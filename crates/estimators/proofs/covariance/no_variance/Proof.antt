@@ -1,6 +1,6 @@
 -- `estimators::covariance::no_variance` meets its contract, by the two tests.
 use borrow.Author.Needs.{needs}
-use Rattle.estimators.specs.Order.{noVariance}
+use Rattle.rules.specs.Order.{noVariance}
 use Rattle.estimators.proofs.covariance.no_variance.Statement.{statement}
 use Rattle.estimators.proofs.covariance.no_variance.Tie as tie
 

@@ -3,9 +3,9 @@ use mathlib.Core.Path.{_∙_}
 use borrow.Author.Needs.{needs}
 use Rattle.leaves.proofs.Lists.{tab-long}
 use Rattle.matrix.specs.Matrix.{at}
-use Rattle.estimators.specs.BayesStein.{gathered}
-use Rattle.estimators.specs.Held.{held}
-use Rattle.estimators.proofs.BayesSteinLists.{bayes-stein-lists}
+use Rattle.rules.specs.BayesStein.{gathered}
+use Rattle.means.specs.Held.{held}
+use Rattle.means.proofs.BayesSteinLists.{bayes-stein-lists}
 use Rattle.estimators.proofs.expected_returns.bayes_stein_in.Statement.{statement}
 use Rattle.estimators.proofs.expected_returns.bayes_stein_in.Tie as tie
 

@@ -3,9 +3,9 @@ use mathlib.Core.Path.{ap, _∙_}
 use Prim.Native.Nat.{_≤_}
 use borrow.Author.Needs.{needs}
 use Rattle.matrix.specs.Limits.{maxSweeps}
-use Rattle.estimators.specs.Checks.{checked}
+use Rattle.matrix.proofs.Lent.{lent}
+use Rattle.inputs.specs.Checks.{checked}
 use Rattle.estimators.proofs.MeanCalls.{within, bayes-stein-refused, bayes-stein-accepted}
-use Rattle.estimators.proofs.Lent.{lent}
 use Rattle.estimators.proofs.expected_returns.bayes_stein_mean.Statement.{statement}
 use Rattle.estimators.proofs.expected_returns.bayes_stein_mean.Tie as tie
 

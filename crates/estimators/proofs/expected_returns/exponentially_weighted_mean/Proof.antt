@@ -1,6 +1,6 @@
 -- `estimators::expected_returns::exponentially_weighted_mean` meets its contract: the returns and the half-life are looked at, then the means are written.
 use mathlib.Core.Path.{ap}
-use Rattle.estimators.specs.Checks.{checked}
+use Rattle.inputs.specs.Checks.{checked}
 use Rattle.estimators.proofs.MeanCalls.{weighted-refused, weighted-accepted}
 use borrow.Author.Needs.{needs}
 use Rattle.estimators.proofs.expected_returns.exponentially_weighted_mean.Statement.{

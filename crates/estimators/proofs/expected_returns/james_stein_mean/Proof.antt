@@ -5,8 +5,8 @@ use native.Mathlib.Omega.{arith}
 use borrow.Author.Needs.{needs}
 use Rattle.leaves.specs.Scaling.{binaryExponent}
 use Rattle.matrix.specs.Limits.{maxSweeps}
-use Rattle.estimators.specs.Checks.{checked}
-use Rattle.estimators.proofs.Exponents.{read}
+use Rattle.inputs.specs.Checks.{checked}
+use Rattle.tables.proofs.Exponents.{read}
 use Rattle.estimators.proofs.MeanCalls.{within, james-stein-refused, james-stein-accepted}
 use Rattle.estimators.proofs.expected_returns.james_stein_mean.Statement.{statement}
 use Rattle.estimators.proofs.expected_returns.james_stein_mean.Tie as tie

@@ -1,6 +1,6 @@
 -- `estimators::opening::check_opened` meets its contract: `check_returns`, in an array of the largest size.
 use borrow.Author.Needs.{needs}
-use Rattle.estimators.proofs.Lent.{lent}
+use Rattle.matrix.proofs.Lent.{lent}
 use Rattle.estimators.proofs.opening.check_opened.Statement.{statement}
 use Rattle.estimators.proofs.opening.check_opened.Tie as tie
 

@@ -1,6 +1,6 @@
 -- `estimators::validate::bad_estimate` meets its contract, by the cases of the estimate.
 use borrow.Author.Needs.{needs}
-use Rattle.estimators.specs.Order.{badEstimate}
+use Rattle.rules.specs.Order.{badEstimate}
 use Rattle.estimators.proofs.validate.bad_estimate.Statement.{statement}
 use Rattle.estimators.proofs.validate.bad_estimate.Tie as tie
 

@@ -2,7 +2,7 @@
 use mathlib.Core.Logic.{⊎-elim}
 use lib.Ieee.{ofBits}
 use borrow.Author.Needs.{needs}
-use Rattle.estimators.specs.Order.{badRegularization}
+use Rattle.rules.specs.Order.{badRegularization}
 use Rattle.estimators.proofs.validate.bad_regularization.Statement.{statement}
 use Rattle.estimators.proofs.validate.bad_regularization.Tie as tie
 

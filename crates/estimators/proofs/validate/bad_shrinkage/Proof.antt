@@ -2,7 +2,7 @@
 use mathlib.Core.Logic.{⊎-elim}
 use lib.Ieee.{ofBits}
 use borrow.Author.Needs.{needs}
-use Rattle.estimators.specs.Order.{badShrinkage}
+use Rattle.rules.specs.Order.{badShrinkage}
 use Rattle.estimators.proofs.validate.bad_shrinkage.Statement.{statement}
 use Rattle.estimators.proofs.validate.bad_shrinkage.Tie as tie
 

@@ -1,6 +1,6 @@
 -- `estimators::validate::not_the_sample` meets its contract, by the cases of the shrinkage.
 use borrow.Author.Needs.{needs}
-use Rattle.estimators.specs.Order.{notTheSample}
+use Rattle.rules.specs.Order.{notTheSample}
 use Rattle.estimators.proofs.validate.not_the_sample.Statement.{statement}
 use Rattle.estimators.proofs.validate.not_the_sample.Tie as tie
 

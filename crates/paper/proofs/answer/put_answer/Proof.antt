@@ -8,9 +8,9 @@ use lib.Ieee.{Float}
 use borrow.Author.Needs.{needs}
 use types.Run.{OneOf}
 use denote.Enum.Declared.{tagOf}
-use Rattle.estimators.specs.declared.Answer.{Answer}
-use Rattle.estimators.specs.declared.Answer.the-variants.{Refused, Covariance, Intensity, Mean, Shrunk}
-use Rattle.estimators.proofs.Answer.{the-type}
+use Rattle.rules.specs.declared.Answer.{Answer}
+use Rattle.rules.specs.declared.Answer.the-variants.{Refused, Covariance, Intensity, Mean, Shrunk}
+use Rattle.rules.proofs.Answer.{the-type}
 use Rattle.paper.specs.Text.{write}
 use Rattle.paper.specs.Answer.{ok, outcome, outcomeText, refused}
 use Rattle.paper.proofs.answer.put_answer.Statement.{statement}

@@ -1,0 +1,8 @@
+// The estimates of a covariance, the intensity of Ledoit and Wolf, and the adjustments.
+pub mod adjusted;
+pub mod base;
+pub mod ledoit_wolf;
+pub mod sample;
+mod semi;
+mod targets;
+pub mod weighted;
