@@ -11,7 +11,7 @@ use engine::jacobi::decompose;
 use generator::given::product;
 use generator::random::Random;
 use generator::returns::realistic;
-use reference::covariance::{Estimate, Settings, Target};
+use reference::covariance::{Decay, Estimate, Settings, Target};
 use reference::eigen::SymmetricEigen;
 use reference::input::{Call, Input};
 use reference::matrix::Matrix;
@@ -49,7 +49,8 @@ fn main() {
     peers::print();
 }
 
-/// Every call, the covariance with each estimate and with each target of Ledoit and Wolf.
+/// Every call, the covariance with each estimate and with each target of Ledoit and Wolf. The factor
+/// decays about as fast as the half-life.
 fn calls(given: &[f64], side: usize) -> Vec<(&'static str, Call)> {
     let covariance = |settings: Settings| Call::AdjustedCovariance {
         settings,
@@ -57,11 +58,14 @@ fn calls(given: &[f64], side: usize) -> Vec<(&'static str, Call)> {
         side,
     };
     let of = |estimate| covariance(Settings::of(estimate));
+    let (half_life, factor) = (Decay::HalfLife(60.0), Decay::Lambda(0.9885));
+    let weighted = |decay| of(Estimate::ExponentiallyWeighted(decay));
     let shrunk = |target| covariance(Settings::of(Estimate::Sample).ledoit_wolf(target));
     let limit = MAX_SWEEPS;
     vec![
         ("sample covariance", of(Estimate::Sample)),
-        ("weighted covariance", of(Estimate::Weighted(60.0))),
+        ("weighted covariance", weighted(half_life)),
+        ("weighted covariance by factor", weighted(factor)),
         ("semicovariance", of(Estimate::Semi)),
         ("semicovariance below 0", of(Estimate::SemiBelow(0.0))),
         ("given covariance", of(Estimate::Given)),
@@ -77,7 +81,11 @@ fn calls(given: &[f64], side: usize) -> Vec<(&'static str, Call)> {
         ),
         (
             "weighted mean",
-            Call::ExponentiallyWeightedMean { half_life: 60.0 },
+            Call::ExponentiallyWeightedMean { decay: half_life },
+        ),
+        (
+            "weighted mean by factor",
+            Call::ExponentiallyWeightedMean { decay: factor },
         ),
         ("James-Stein mean", Call::JamesSteinMean { limit }),
         ("Bayes-Stein mean", Call::BayesSteinMean { limit }),

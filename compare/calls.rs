@@ -97,10 +97,10 @@ fn unknown_kinds(random: &Random) -> usize {
         for (_, kind) in kinds(2) {
             expect(ledoit_wolf(&returns, shape(what), kind), true);
         }
-        for (least, kind) in [5, 4, 2].into_iter().flat_map(kinds) {
+        for (least, kind) in [6, 4, 2].into_iter().flat_map(kinds) {
             let mut settings = FlatSettings::of(&Settings::of(Estimate::Sample));
             match least {
-                5 => settings.estimate.0 = kind,
+                6 => settings.estimate.0 = kind,
                 4 => settings.shrinkage.0 = kind,
                 _ => settings.regularization.0 = kind,
             }

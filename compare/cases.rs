@@ -1,10 +1,12 @@
-// Document 01's twelve cases as the copy computes them, held to the values that it states, and
-// then the corners where document 01 and the source meet. Ends with 1 if one differs.
+// Document 01's twelve cases as the copy computes them, held to the values that it states, then the
+// corners where document 01 and the source meet, and those of document 02. Ends with 1 if one differs.
 
 mod case6;
 mod corners;
+mod factor_papers;
+mod factors;
 
-use reference::covariance::{Estimate, Settings};
+use reference::covariance::{Decay, Estimate, Settings};
 use reference::exam::exam;
 use reference::expected_returns::exponential_weights;
 use reference::input::{Call, Input};
@@ -33,6 +35,7 @@ fn main() {
     given_matrices(&mut table);
     james_stein(&mut table);
     corners::all(&mut table);
+    factors::all(&mut table);
     println!("differences: {}", table.wrong);
     if table.wrong > 0 {
         std::process::exit(1);
@@ -57,7 +60,8 @@ fn leaves(table: &mut Table) {
 
 fn means(table: &mut Table) {
     let mean = |half_life: f64| {
-        let call = Call::ExponentiallyWeightedMean { half_life };
+        let decay = Decay::HalfLife(half_life);
+        let call = Call::ExponentiallyWeightedMean { decay };
         Input::new(&[1.0, 4.0], 1, call).told()
     };
     table.line("4. half-life 0.001", &mean(0.001), "4");

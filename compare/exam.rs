@@ -1,9 +1,10 @@
-// Compares what the copy prints of drawn question files with what the engine prints, byte for byte.
-// Prints a line for each outcome with how many files had it, and ends with 1 if they ever differ.
-// Argument: how many files.
+// Compares what the copy prints of drawn question files with what the engine prints, byte for byte,
+// after the documents' own files. Prints a line for each outcome with how many files had it, and ends
+// with 1 if they ever differ. Argument: how many files.
 
 mod argument;
 mod case6;
+mod factor_papers;
 
 use engine::exam::mark;
 use generator::papers::draw_paper;
@@ -15,6 +16,9 @@ fn main() {
     let random = Random::new(9);
     let mut counts = [0usize; MALFORMED + 1];
     let mut different = differs(&case6::PAPER, case6::TEXT) as usize;
+    for (_, file, text) in factor_papers::all() {
+        different += differs(&file, text.as_bytes()) as usize;
+    }
     for _ in 0..files {
         let file = draw_paper(&random);
         let text = exam(&file);

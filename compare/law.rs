@@ -8,7 +8,7 @@ mod argument;
 mod tally;
 
 use generator::pairs::{
-    draw_pair, Pair, COVARIANCE_RANGE, INTENSITY_RANGE, MAX_HALF_LIVES, MEAN_RANGE, RETURN_RANGE,
+    draw_pair, slow_enough, Pair, COVARIANCE_RANGE, INTENSITY_RANGE, MEAN_RANGE, RETURN_RANGE,
 };
 use generator::random::Random;
 use reference::calls::ledoit_wolf;
@@ -127,7 +127,7 @@ fn granted(input: &Input, (flat, slice): &Answer) -> bool {
                 settings, given, ..
             } => {
                 let estimate = match settings.estimate {
-                    Estimate::Weighted(half_life) => long_enough(*t, half_life),
+                    Estimate::ExponentiallyWeighted(decay) => slow_enough(*t, decay),
                     Estimate::SemiBelow(threshold) => within(threshold, RETURN_RANGE),
                     Estimate::Given => given.iter().all(|&x| within(x, COVARIANCE_RANGE)),
                     Estimate::Sample | Estimate::Semi => true,
@@ -148,13 +148,13 @@ fn granted(input: &Input, (flat, slice): &Answer) -> bool {
             // The bound is on an intensity that shrinks a covariance.
             Call::LedoitWolf(_) => true,
             mean => {
-                let half_life = match mean {
-                    Call::ExponentiallyWeightedMean { half_life } => *half_life,
-                    _ => f64::INFINITY,
+                let slow = match mean {
+                    Call::ExponentiallyWeightedMean { decay } => slow_enough(*t, *decay),
+                    _ => true,
                 };
                 let refused = flat.number as usize != ACCEPTED;
                 let mut answers = flat.numbers.iter().chain(&slice[..(*n).min(slice.len())]);
-                long_enough(*t, half_life) && (refused || answers.all(|&x| at_least(x, MEAN_RANGE)))
+                slow && (refused || answers.all(|&x| at_least(x, MEAN_RANGE)))
             }
         }
 }
@@ -169,9 +169,4 @@ fn within(x: f64, range: i32) -> bool {
 fn at_least(x: f64, range: i32) -> bool {
     let smaller = abs(x) < pow2_scaled(1.0, -range);
     x == 0.0 || !smaller
-}
-
-/// Of a half-life: the oldest weight is not too small.
-fn long_enough(t: usize, half_life: f64) -> bool {
-    t == 0 || (t - 1) as f64 <= MAX_HALF_LIVES * half_life
 }

@@ -3,6 +3,7 @@
 
 use engine::leaves as engine;
 use generator::random::Random;
+use generator::settings::SMALLEST_FACTOR;
 use reference::leaves as copy;
 use reference::leaves::bits;
 use std::fmt::Debug;
@@ -30,6 +31,8 @@ fn main() {
 fn of_one(random: &Random, floats: &[f64], table: &mut Table) {
     let mut exponents = floats.to_vec();
     exponents.extend(logarithms(random));
+    let mut arguments = floats.to_vec();
+    arguments.extend(factors(random));
     let mut squares = floats.to_vec();
     squares.extend(squares_and_neighbours(random));
     table.leaf("is_finite", floats, |&x| {
@@ -49,6 +52,7 @@ fn of_one(random: &Random, floats: &[f64], table: &mut Table) {
     unary("sqrt", &squares, copy::sqrt, engine::sqrt);
     unary("exp", &exponents, copy::exp, engine::exp);
     unary("exp_m1", &exponents, copy::exp_m1, engine::exp_m1);
+    unary("ln", &arguments, copy::ln, engine::ln);
 }
 
 fn of_two(pairs: &[(f64, f64)], scalings: &[(f64, i32)], table: &mut Table) {
@@ -196,6 +200,26 @@ fn logarithms(random: &Random) -> Vec<f64> {
         ys.extend((-5..=5).map(|ulps| moved(y, ulps)));
     }
     ys
+}
+
+/// Where ln computes, between 0 and 1: evenly, near 1, of every size, far from a power of two, where the
+/// end of the series shows, about the smallest accepted factor, and about each power of two and 1.5
+/// times it, from the least number to above 1.
+fn factors(random: &Random) -> Vec<f64> {
+    let mut xs: Vec<f64> = (0..40_000).map(|_| random.unit()).collect();
+    xs.extend((0..20_000).map(|_| 0.9 + 0.1 * random.unit()));
+    xs.extend((0..20_000).map(|_| 1.0 - random.sized(-53, -10)));
+    xs.extend((0..20_000).map(|_| random.sized(-1074, -1)));
+    let far = |_| random.pick(&[0.75, 0.375]) * (1.0 + 0.04 * (random.unit() - 0.5));
+    xs.extend((0..40_000).map(far));
+    xs.extend((-20..=20).map(|ulps| moved(SMALLEST_FACTOR, ulps)));
+    for k in -1074..=1 {
+        for m in [1.0, 1.5] {
+            let x = copy::pow2_scaled(m, k);
+            xs.extend((-5..=5).map(|ulps| moved(x, ulps)));
+        }
+    }
+    xs
 }
 
 /// Squares of numbers with few bits and with many, at every size, and their neighbours.

@@ -4,11 +4,13 @@
 //   the count of returns, the returns, the assets, the periods, the length of the answer slice
 //   (which holds 7.5 everywhere before the call), the number of the call and its arguments (of the
 //   covariance: the count of given entries, a kind and a value three times, the limit, the side, the
-//   given entries), the number that is answered with what comes with it, the answer slice after it.
+//   given entries; of every other call: its setting), the number that is answered with what comes
+//   with it, the answer slice after it. The weighted mean by a decay factor has number 5.
 // Floats are bits, NaN as 7FF8000000000000.
 
 use generator::random::Random;
 use generator::{draw, Shapes};
+use reference::covariance::Decay;
 use reference::flat::{flat_target, Flat, FlatSettings};
 use reference::input::{Call, Input, UNTOUCHED};
 use reference::leaves::{all_bits, bits};
@@ -85,7 +87,10 @@ fn ask(words: &mut Vec<u64>, input: &Input) {
             words.extend(all_bits(given));
         }
         Call::LedoitWolf(target) => words.extend([1, u64::from(flat_target(*target))]),
-        Call::ExponentiallyWeightedMean { half_life } => words.extend([2, bits(*half_life)]),
+        Call::ExponentiallyWeightedMean { decay } => match decay {
+            Decay::HalfLife(half_life) => words.extend([2, bits(*half_life)]),
+            Decay::Lambda(lambda) => words.extend([5, bits(*lambda)]),
+        },
         Call::JamesSteinMean { limit } => words.extend([3, *limit as u64]),
         Call::BayesSteinMean { limit } => words.extend([4, *limit as u64]),
     }

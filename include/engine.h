@@ -33,7 +33,8 @@ extern "C" {
     5  an entry is NaN or infinite                     wholes: the first row and column
     6  the sample or adjusted covariance is not finite
     7  a bad setting                                   wholes[0]: 1 regularization, 2 shrinkage,
-                                                       3 half-life, 4 threshold, 5 sweep limit
+                                                       3 half-life, 4 threshold, 5 sweep limit,
+                                                       6 decay factor
     8  Ledoit-Wolf with another estimate than the sample
     9  a variance of 0, up to rounding                 wholes[0]: the first column
    10  given_len is not side * side, or side not assets  wholes[0]: the side
@@ -49,9 +50,10 @@ extern "C" {
 enum engine_estimate {
     ENGINE_SAMPLE = 0,
     ENGINE_GIVEN = 1,
-    ENGINE_WEIGHTED = 2,  /* estimate_value: the half-life, in periods */
-    ENGINE_SEMI = 3,      /* below each asset's mean */
-    ENGINE_SEMI_BELOW = 4 /* estimate_value: the threshold */
+    ENGINE_WEIGHTED = 2,          /* estimate_value: the half-life, in periods */
+    ENGINE_SEMI = 3,              /* below each asset's mean */
+    ENGINE_SEMI_BELOW = 4,        /* estimate_value: the threshold */
+    ENGINE_WEIGHTED_BY_FACTOR = 5 /* estimate_value: the decay factor, above 0 and below 1 */
 };
 
 enum engine_shrinkage {
@@ -89,6 +91,12 @@ uint32_t engine_ledoit_wolf(
 uint32_t engine_weighted_mean(
     const double *returns, size_t returns_len, size_t assets, size_t periods,
     double half_life,
+    double *answer, size_t answer_len, double numbers[2], size_t wholes[2]);
+
+/* A period's weight is factor times that of the next period, so it lies above 0 and below 1. */
+uint32_t engine_weighted_mean_by_factor(
+    const double *returns, size_t returns_len, size_t assets, size_t periods,
+    double factor,
     double *answer, size_t answer_len, double numbers[2], size_t wholes[2]);
 
 uint32_t engine_james_stein_mean(

@@ -24,7 +24,7 @@ uint32_t matrix_decompose(
     const double *a, size_t a_len, size_t side, size_t limit,
     double *values, size_t values_len, double *vectors, size_t vectors_len, size_t counts[2]);
 
-/* ---- The float leaves (document 01, 'Float leaves') */
+/* ---- The float leaves (document 01, 'Float leaves'; document 02, the log) */
 
 bool leaf_is_finite(double x);
 double leaf_abs(double x);
@@ -39,6 +39,7 @@ double leaf_pow2_scaled(double x, int32_t k); /* some |k| / 1000 calls deep */
 double leaf_sqrt(double x);
 double leaf_exp(double y); /* NaN above 0 */
 double leaf_exp_m1(double y);
+double leaf_ln(double x); /* NaN unless 0 < x < 1 */
 double leaf_sum(const double *xs, size_t xs_len);
 double leaf_amax(const double *xs, size_t xs_len);
 

@@ -1,5 +1,7 @@
-// The five calls, over the inputs of the copy and with reports of the same form.
+// The five calls, over the inputs of the copy and with reports of the same form. The weighted mean
+// has an export for each of its two settings.
 
+use reference::covariance::Decay;
 use reference::flat::{flat_target, Flat, FlatSettings};
 use reference::input::{Call, Input, UNTOUCHED};
 
@@ -35,7 +37,7 @@ unsafe extern "C" {
     ) -> u32;
 }
 
-// The three means, which differ in the setting that they take.
+// The means, which differ in the setting that they take.
 macro_rules! means {
     ($($name:ident($setting:ty)),*) => {
         unsafe extern "C" {
@@ -55,6 +57,7 @@ macro_rules! means {
 }
 means!(
     engine_weighted_mean(f64),
+    engine_weighted_mean_by_factor(f64),
     engine_james_stein_mean(usize),
     engine_bayes_stein_mean(usize)
 );
@@ -99,7 +102,10 @@ pub fn answer_into(input: &Input, answer: &mut [f64]) -> Flat {
             answer,
         ),
         Call::LedoitWolf(target) => ledoit_wolf(returns, (*n, *t), flat_target(*target)),
-        Call::ExponentiallyWeightedMean { half_life } => mean!(engine_weighted_mean, *half_life),
+        Call::ExponentiallyWeightedMean { decay } => match decay {
+            Decay::HalfLife(half_life) => mean!(engine_weighted_mean, *half_life),
+            Decay::Lambda(lambda) => mean!(engine_weighted_mean_by_factor, *lambda),
+        },
         Call::JamesSteinMean { limit } => mean!(engine_james_stein_mean, *limit),
         Call::BayesSteinMean { limit } => mean!(engine_bayes_stein_mean, *limit),
     }

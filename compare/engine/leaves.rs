@@ -27,6 +27,8 @@ unsafe extern "C" {
     pub safe fn exp(y: f64) -> f64;
     #[link_name = "leaf_exp_m1"]
     pub safe fn exp_m1(y: f64) -> f64;
+    #[link_name = "leaf_ln"]
+    pub safe fn ln(x: f64) -> f64;
     fn leaf_sum(xs: *const f64, len: usize) -> f64;
     fn leaf_amax(xs: *const f64, len: usize) -> f64;
 }

@@ -3,8 +3,8 @@
 use crate::given::draw_given;
 use crate::random::Random;
 use crate::returns::set_column;
-use crate::settings::draw_target;
-use reference::covariance::{Estimate, Settings, Shrinkage};
+use crate::settings::{draw_target, SMALLEST_FACTOR};
+use reference::covariance::{Decay, Estimate, Settings, Shrinkage};
 use reference::input::{Call, Input};
 use reference::{MAX_PERIODS, MAX_SIDE, MAX_SWEEPS, MIN_PERIODS};
 
@@ -17,6 +17,23 @@ const BAD_HALF_LIVES: [f64; 8] = [
     -1.0,
     9e-4,
     9.7e-4,
+    f64::NAN,
+    f64::INFINITY,
+    f64::NEG_INFINITY,
+];
+/// At 0 the steps of the log alone would give -4.53. The log of those below the smallest is below
+/// -708, down to -744.
+pub const BAD_FACTORS: [f64; 13] = [
+    0.0,
+    -0.0,
+    -0.5,
+    1.0,
+    1.0 + f64::EPSILON,
+    2.0,
+    SMALLEST_FACTOR.next_down(),
+    f64::MIN_POSITIVE,
+    1e-310,
+    5e-324,
     f64::NAN,
     f64::INFINITY,
     f64::NEG_INFINITY,
@@ -61,14 +78,16 @@ fn damage_call(random: &Random, input: &mut Input) {
             side,
         } => {
             if random.chance(40) {
-                damage_settings(random, settings);
+                for _ in 0..random.pick(&[1, 1, 2]) {
+                    damage_settings(random, settings);
+                }
             } else {
                 settings.estimate = Estimate::Given;
                 damage_given(random, n, given, side, &mut settings.limit);
             }
         }
         Call::LedoitWolf(_) => set_column(&mut input.returns, n, random.below(n), |_| 0.25),
-        Call::ExponentiallyWeightedMean { half_life } => *half_life = random.pick(&BAD_HALF_LIVES),
+        Call::ExponentiallyWeightedMean { decay } => *decay = draw_bad_decay(random),
         Call::JamesSteinMean { limit } | Call::BayesSteinMean { limit } => {
             *limit = random.pick(&[0, 1, 2, random.pick(&BAD_LIMITS)]);
         }
@@ -77,7 +96,7 @@ fn damage_call(random: &Random, input: &mut Input) {
 
 /// Towards 7 and 8.
 fn damage_settings(random: &Random, settings: &mut Settings) {
-    match random.below(7) {
+    match random.below(8) {
         0 => {
             let bad = [-1.0, -5e-324, f64::NAN, f64::INFINITY, f64::NEG_INFINITY];
             settings.regularization = Some(random.pick(&bad));
@@ -86,18 +105,26 @@ fn damage_settings(random: &Random, settings: &mut Settings) {
             let bad = [-5e-324, 1.0 + f64::EPSILON, 2.0, f64::NAN, f64::INFINITY];
             settings.shrinkage = Shrinkage::Fixed(random.pick(&bad));
         }
-        2 => settings.estimate = Estimate::Weighted(random.pick(&BAD_HALF_LIVES)),
-        3 => settings.estimate = Estimate::SemiBelow(random.pick(&NOT_FINITE)),
-        4 => settings.limit = random.pick(&BAD_LIMITS),
+        2 | 3 => settings.estimate = Estimate::ExponentiallyWeighted(draw_bad_decay(random)),
+        4 => settings.estimate = Estimate::SemiBelow(random.pick(&NOT_FINITE)),
+        5 => settings.limit = random.pick(&BAD_LIMITS),
         _ => {
             settings.shrinkage = Shrinkage::LedoitWolf(draw_target(random));
             settings.estimate = random.pick(&[
                 Estimate::Given,
-                Estimate::Weighted(3.0),
+                Estimate::ExponentiallyWeighted(Decay::HalfLife(3.0)),
+                Estimate::ExponentiallyWeighted(Decay::Lambda(0.5)),
                 Estimate::Semi,
                 Estimate::SemiBelow(0.0),
             ]);
         }
+    }
+}
+
+fn draw_bad_decay(random: &Random) -> Decay {
+    match random.below(2) {
+        0 => Decay::HalfLife(random.pick(&BAD_HALF_LIVES)),
+        _ => Decay::Lambda(random.pick(&BAD_FACTORS)),
     }
 }
 

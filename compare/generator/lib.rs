@@ -8,15 +8,15 @@ pub mod pairs;
 pub mod papers;
 pub mod random;
 pub mod returns;
-mod settings;
+pub mod settings;
 
 use damage::damage;
 use given::draw_given;
 use random::Random;
-use reference::covariance::Estimate;
+use reference::covariance::{Decay, Estimate};
 use reference::input::{Call, Input};
 use returns::draw_returns;
-use settings::{draw_half_life, draw_limit, draw_settings, draw_target};
+use settings::{draw_decay, draw_limit, draw_settings, draw_target};
 use std::ops::RangeInclusive;
 
 /// The assets and periods that a return matrix may have.
@@ -44,7 +44,7 @@ fn draw_good(random: &Random, shapes: &Shapes) -> Input {
     let t = draw_count(random, &shapes.periods);
     let returns = draw_returns(random, n, t);
     let covariance = || draw_covariance(random, n);
-    let call = draw_call(random, covariance, || draw_half_life(random));
+    let call = draw_call(random, covariance, || draw_decay(random));
     // What the answer slice holds before, and how much longer it is, must not matter.
     let answer = (0..call.fills(n) + random.below(3))
         .map(|_| f64::from_bits(random.bits()))
@@ -62,15 +62,13 @@ fn draw_good(random: &Random, shapes: &Shapes) -> Input {
 fn draw_call(
     random: &Random,
     covariance: impl FnOnce() -> Call,
-    half_life: impl FnOnce() -> f64,
+    decay: impl FnOnce() -> Decay,
 ) -> Call {
-    match random.below(8) {
-        0..=3 => covariance(),
-        4 => Call::LedoitWolf(draw_target(random)),
-        5 => Call::ExponentiallyWeightedMean {
-            half_life: half_life(),
-        },
-        6 => Call::JamesSteinMean {
+    match random.below(10) {
+        0..=4 => covariance(),
+        5 => Call::LedoitWolf(draw_target(random)),
+        6 | 7 => Call::ExponentiallyWeightedMean { decay: decay() },
+        8 => Call::JamesSteinMean {
             limit: draw_limit(random),
         },
         _ => Call::BayesSteinMean {

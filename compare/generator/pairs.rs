@@ -1,14 +1,16 @@
-// Pairs of inputs for the power-of-two law, within document 01's 'Scaling ranges': an input, and the
-// same one with its returns and threshold times 2^k, its given matrix and regularization times 2^2k.
+// Pairs of inputs for the power-of-two law, within document 01's 'Scaling ranges' and document 02's
+// bound for decay factors: an input, and the same one with its returns and threshold times 2^k, its
+// given matrix and regularization times 2^2k.
 
+use crate::damage::BAD_FACTORS;
 use crate::given::product;
 use crate::random::Random;
 use crate::returns::set_column;
-use crate::settings::{draw_limit, draw_target};
+use crate::settings::{draw_limit, draw_target, LARGEST_FACTOR};
 use crate::{draw_call, draw_count};
-use reference::covariance::{Estimate, Settings, Shrinkage};
+use reference::covariance::{Decay, Estimate, Settings, Shrinkage};
 use reference::input::{Call, Input, UNTOUCHED};
-use reference::leaves::{abs, pow2_scaled};
+use reference::leaves::{abs, exp, pow2_scaled};
 use reference::{MAX_PERIODS, MAX_SIDE, MAX_SWEEPS, MIN_PERIODS};
 
 /// A power `k` is from `-MAX_POWER` to `MAX_POWER`.
@@ -22,7 +24,9 @@ pub const INTENSITY_RANGE: i32 = 40;
 /// A number of a mean answer is 0 or of size at least `2^-MEAN_RANGE`.
 pub const MEAN_RANGE: i32 = 400;
 /// The first weight's age is at most so many half-lives.
-pub const MAX_HALF_LIVES: f64 = 64.0;
+const MAX_HALF_LIVES: f64 = 64.0;
+/// The first weight's age times a decay factor's log is at least this.
+const MIN_AGED_LOG: f64 = -44.0;
 
 /// Powers at the ends, about half of them, and about 0.
 const POWERS: [i32; 11] = [
@@ -112,7 +116,7 @@ fn draw_input(random: &Random, k: i32) -> Input {
     let sizes = Sizes::within(RETURN_RANGE, k);
     let returns = draw_returns(random, n, t, &sizes);
     let covariance = || draw_covariance(random, n, t, k);
-    let call = draw_call(random, covariance, || draw_half_life(random, t));
+    let call = draw_call(random, covariance, || draw_decay(random, t));
     let answer = vec![UNTOUCHED; call.fills(n) + random.below(3)];
     Input {
         returns,
@@ -175,11 +179,11 @@ fn set_columns(random: &Random, returns: &mut [f64], n: usize, sizes: &Sizes, un
 
 fn draw_covariance(random: &Random, n: usize, t: usize, k: i32) -> Call {
     let sizes = Sizes::within(COVARIANCE_RANGE, 2 * k);
-    let estimate = match random.below(10) {
+    let estimate = match random.below(11) {
         0..=3 => Estimate::Sample,
         4..=6 => Estimate::Given,
-        7 => Estimate::Weighted(draw_half_life(random, t)),
-        8 => Estimate::Semi,
+        7 | 8 => Estimate::ExponentiallyWeighted(draw_decay(random, t)),
+        9 => Estimate::Semi,
         _ => Estimate::SemiBelow(Sizes::within(RETURN_RANGE, k).draw(random)),
     };
     let shrinkage = match (random.below(8), estimate) {
@@ -212,6 +216,54 @@ fn draw_covariance(random: &Random, n: usize, t: usize, k: i32) -> Call {
         given,
         side,
     }
+}
+
+/// Whether the law grants the decay over so many periods: the oldest weight is not too small. Of a
+/// refused factor it asks nothing.
+pub fn slow_enough(t: usize, decay: Decay) -> bool {
+    let age = t.saturating_sub(1) as f64;
+    // Rounded once, the sum has the sign of the exact one.
+    let recent = |log: f64| age.mul_add(log, -MIN_AGED_LOG) >= 0.0;
+    match decay {
+        Decay::HalfLife(half_life) => age <= MAX_HALF_LIVES * half_life,
+        Decay::Lambda(_) => decay.log().map_or(true, recent),
+    }
+}
+
+/// Either kind as often.
+fn draw_decay(random: &Random, t: usize) -> Decay {
+    match random.below(2) {
+        0 => Decay::HalfLife(draw_half_life(random, t)),
+        _ => Decay::Lambda(draw_factor(random, t)),
+    }
+}
+
+/// From the smallest that the law grants.
+fn draw_factor(random: &Random, t: usize) -> f64 {
+    let smallest = smallest_factor(t);
+    match random.below(8) {
+        0 => smallest,
+        1 => smallest.max(random.near(smallest, 5)),
+        2 => smallest.max(random.pick(&[0.5, 0.75, 0.94, LARGEST_FACTOR])),
+        // Refused, in both inputs.
+        3 => random.pick(&BAD_FACTORS),
+        // Evenly, or with the log of the oldest weight drawn evenly.
+        4 | 5 => smallest + (LARGEST_FACTOR - smallest) * random.unit(),
+        _ => smallest.max(exp(random.unit() * MIN_AGED_LOG / (t - 1) as f64)),
+    }
+}
+
+/// The smallest that the law grants, looked for about where it is.
+fn smallest_factor(t: usize) -> f64 {
+    let granted = |factor: f64| slow_enough(t, Decay::Lambda(factor));
+    let mut factor = exp(MIN_AGED_LOG / (t - 1) as f64);
+    while granted(factor.next_down()) {
+        factor = factor.next_down();
+    }
+    while !granted(factor) {
+        factor = factor.next_up();
+    }
+    factor
 }
 
 /// From the shortest that the law grants.

@@ -1,9 +1,10 @@
-// Question files of document 01, 'The exam program': drawn inputs as authors would write them down,
-// with or without the records that may be left out, and such files damaged byte by byte.
+// Question files of document 01, 'The exam program', and document 02: drawn inputs as authors would
+// write them down, with or without the records that may be left out, such files damaged byte by byte,
+// and files whose records stand in other orders.
 
 use crate::random::Random;
 use crate::{draw, Shapes};
-use reference::covariance::{Estimate, Settings, Shrinkage};
+use reference::covariance::{Decay, Estimate, Settings, Shrinkage};
 use reference::exam::{FILE_ASSETS, FILE_PERIODS};
 use reference::flat::flat_target;
 use reference::input::{Call, Input};
@@ -22,6 +23,20 @@ const SHORT: Shapes = Shapes {
 
 /// A file whose numbers or counts may be damaged, and then its bytes.
 pub fn draw_paper(random: &Random) -> Vec<u8> {
+    let mut file = match random.below(10) {
+        0 => draw_arranged(random),
+        _ => draw_written(random),
+    };
+    if random.chance(35) {
+        for _ in 0..random.pick(&[1, 1, 1, 2, 4]) {
+            damage(random, &mut file);
+        }
+    }
+    file
+}
+
+/// An input as a file.
+fn draw_written(random: &Random) -> Vec<u8> {
     let shapes = if random.chance(40) { &SHAPES } else { &SHORT };
     let mut input = draw(random, shapes);
     if random.chance(4) {
@@ -32,11 +47,26 @@ pub fn draw_paper(random: &Random) -> Vec<u8> {
         }
         input.returns.truncate(input.n * input.t);
     }
-    let mut file = write(random, &input);
-    if random.chance(35) {
-        for _ in 0..random.pick(&[1, 1, 1, 2, 4]) {
-            damage(random, &mut file);
-        }
+    write(random, &input)
+}
+
+/// One asset with two returns, a decay factor and up to two more settings, under any question: in the
+/// order of the file, or with two records exchanged, or with one twice; whole, or cut off near its end.
+fn draw_arranged(random: &Random) -> Vec<u8> {
+    let mut settings = vec![FACTOR];
+    settings.extend((0..random.below(3)).map(|_| random.pick(&RECORDS)));
+    // By kind: the factor's is the last before the question's.
+    settings.sort();
+    let mut records = [&OPENING, &settings[..], &[random.pick(&QUESTIONS)]].concat();
+    let (i, j) = (random.below(records.len()), random.below(records.len()));
+    match random.below(6) {
+        0 => records.swap(i, j),
+        1 => records.insert(i, records[j]),
+        _ => {}
+    }
+    let mut file = records.concat();
+    if random.chance(10) {
+        file.truncate(file.len() - 1 - random.below(10));
     }
     file
 }
@@ -61,8 +91,8 @@ fn write(random: &Random, input: &Input) -> Vec<u8> {
             file.extend([5, flat_target(*target) as u8]);
             with_question(random, &mut file, None, 0);
         }
-        Call::ExponentiallyWeightedMean { half_life } => {
-            numbers(&mut file, 6, &[*half_life]);
+        Call::ExponentiallyWeightedMean { decay } => {
+            with_decay(&mut file, *decay);
             with_question(random, &mut file, None, 1);
         }
         Call::JamesSteinMean { limit } => with_question(random, &mut file, Some(*limit), 2),
@@ -71,7 +101,7 @@ fn write(random: &Random, input: &Input) -> Vec<u8> {
     file
 }
 
-/// Kinds 3 to 9.
+/// Kinds 3 to 9, and 12, beside which no 10 is written.
 fn adjustments(file: &mut Vec<u8>, settings: &Settings, given: &[f64]) {
     if let Some(ridge) = settings.regularization {
         numbers(file, 3, &[ridge]);
@@ -83,10 +113,17 @@ fn adjustments(file: &mut Vec<u8>, settings: &Settings, given: &[f64]) {
     }
     match settings.estimate {
         Estimate::Sample => {}
-        Estimate::Weighted(half_life) => numbers(file, 6, &[half_life]),
+        Estimate::ExponentiallyWeighted(decay) => with_decay(file, decay),
         Estimate::Semi => file.push(7),
         Estimate::SemiBelow(threshold) => numbers(file, 8, &[threshold]),
         Estimate::Given => numbers(file, 9, given),
+    }
+}
+
+fn with_decay(file: &mut Vec<u8>, decay: Decay) {
+    match decay {
+        Decay::HalfLife(half_life) => numbers(file, 6, &[half_life]),
+        Decay::Lambda(lambda) => numbers(file, 12, &[lambda]),
     }
 }
 
@@ -141,10 +178,22 @@ fn damage(random: &Random, file: &mut Vec<u8>) {
     }
 }
 
-const BYTES: [u8; 16] = [0, 1, 2, 3, 4, 5, 6, 7, 8, 9, 10, 11, 12, 100, 101, 255];
+const BYTES: [u8; 17] = [0, 1, 2, 3, 4, 5, 6, 7, 8, 9, 10, 11, 12, 13, 100, 101, 255];
+
+/// One asset, two periods, the returns 1 and 4.
+const OPENING: [&[u8]; 3] = [
+    &[1, 1, 0, 2, 0],
+    &[2, 0, 0, 0, 0, 0, 0, 0xF0, 0x3F],
+    &[2, 0, 0, 0, 0, 0, 0, 0x10, 0x40],
+];
+
+/// The decay factor 0.5.
+const FACTOR: &[u8] = &[12, 0, 0, 0, 0, 0, 0, 0xE0, 0x3F];
+
+const QUESTIONS: [&[u8]; 4] = [&[11, 0], &[11, 1], &[11, 2], &[11, 3]];
 
 /// A record of each setting.
-const RECORDS: [&[u8]; 9] = [
+const RECORDS: [&[u8]; 10] = [
     &[3, 0, 0, 0, 0, 0, 0, 0, 0],
     &[4, 0, 0, 0, 0, 0, 0, 0xE0, 0x3F],
     &[5, 0],
@@ -154,4 +203,5 @@ const RECORDS: [&[u8]; 9] = [
     &[8, 0, 0, 0, 0, 0, 0, 0, 0],
     &[9, 0, 0, 0, 0, 0, 0, 0xF0, 0x3F],
     &[10, 3],
+    FACTOR,
 ];

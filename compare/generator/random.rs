@@ -54,6 +54,12 @@ impl Random {
         pow2_scaled(sign * (1.0 + self.unit()), self.between(low, high))
     }
 
+    /// The number or one next to it: its bits are at most so many steps further on or back.
+    pub fn near(&self, x: f64, steps: i32) -> f64 {
+        let step = self.between(-steps, steps);
+        f64::from_bits(x.to_bits().wrapping_add_signed(step.into()))
+    }
+
     /// Any sign and fraction, with one of the lowest exponents: 2047 of them are all finite
     /// numbers, 2048 all bits.
     pub fn of_bits(&self, exponents: usize) -> f64 {

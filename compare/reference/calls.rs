@@ -1,7 +1,7 @@
 // The five calls of document 01 over flat slices, with the refusals of 'Causes' in its order.
 // Lengths and counts may be any `usize`. A refusal leaves the answer slice as it was.
 
-use crate::covariance::{Estimate, Given, Settings, Target};
+use crate::covariance::{Decay, Estimate, Given, Settings, Target};
 use crate::expected_returns::Shrunk;
 use crate::matrix::Matrix;
 use crate::refusal::{Field, Refusal};
@@ -53,12 +53,12 @@ pub fn exponentially_weighted_mean(
     returns: &[f64],
     n: usize,
     t: usize,
-    half_life: f64,
+    decay: Decay,
     answer: &mut [f64],
 ) -> Result<(), Refusal> {
     check_shape(n, t)?;
     let data = checked(returns, n, t, answer, n)?;
-    let mean = data.exponentially_weighted_mean(half_life)?;
+    let mean = data.weighted_mean(decay)?;
     answer[..n].copy_from_slice(&mean);
     Ok(())
 }

@@ -5,8 +5,8 @@
 use crate::eigen::SymmetricEigen;
 use crate::expected_returns::exponential_weights;
 use crate::leaves::{
-    abs, amax, binary_exponent, clamp01, exp, exp_m1, is_finite, min0, pow2_scaled, sqrt, sum_of,
-    LN_2,
+    abs, amax, binary_exponent, clamp01, exp, exp_m1, is_finite, ln, min0, pow2_scaled, sqrt,
+    sum_of, LN_2,
 };
 use crate::matrix::{min, Matrix};
 use crate::refusal::{Field, Refusal};
@@ -18,12 +18,38 @@ use crate::MAX_SWEEPS;
 pub enum Estimate {
     Sample,
     Given,
-    /// With its half-life.
-    Weighted(f64),
+    ExponentiallyWeighted(Decay),
     /// Below each asset's mean.
     Semi,
     /// Below a threshold.
     SemiBelow(f64),
+}
+
+/// How fast the weights of an exponentially weighted covariance or mean decay.
+#[derive(Debug, Clone, Copy)]
+pub enum Decay {
+    HalfLife(f64),
+    /// With the decay factor.
+    Lambda(f64),
+}
+
+impl Decay {
+    /// The smallest `ln λ`.
+    pub const MIN_LOG: f64 = -708.0;
+
+    /// `ln λ`, after checking it's in `[−708, 0)`. From a half-life it's `−ln 2 / h`, without
+    /// rounding `λ` first. A `λ` is checked before its log, whose stand-in is for `(0, 1)` only.
+    pub fn log(self) -> Result<f64, Refusal> {
+        let (field, valid, log) = match self {
+            Decay::HalfLife(h) => (Field::HalfLife, true, -LN_2 / h),
+            Decay::Lambda(lambda) => (Field::Decay, lambda > 0.0 && lambda < 1.0, ln(lambda)),
+        };
+        if valid && (Decay::MIN_LOG..0.0).contains(&log) {
+            Ok(log)
+        } else {
+            Err(Refusal::BadSetting(field))
+        }
+    }
 }
 
 /// What Ledoit-Wolf shrinkage shrinks the sample covariance toward.
@@ -47,19 +73,6 @@ pub struct Settings {
     pub shrinkage: Shrinkage,
     pub regularization: Option<f64>,
     pub limit: usize,
-}
-
-/// The source's `Decay::MIN_LOG`.
-pub const MIN_LOG: f64 = -708.0;
-
-/// The source's `Decay::log` for a half-life: `−ln 2 / h`, after checking it's in `[−708, 0)`.
-pub fn log_decay(half_life: f64) -> Result<f64, Refusal> {
-    let log = -LN_2 / half_life;
-    if (MIN_LOG..0.0).contains(&log) {
-        Ok(log)
-    } else {
-        Err(Refusal::BadSetting(Field::HalfLife))
-    }
 }
 
 impl Settings {
@@ -93,7 +106,8 @@ impl Settings {
         self
     }
 
-    /// Fields 1 to 4 (7), then Ledoit-Wolf with another estimate than the sample (8).
+    /// Fields 1 to 4 (7), with field 6 in the place of 3, then Ledoit-Wolf with another estimate than
+    /// the sample (8).
     pub fn validate(&self) -> Result<(), Refusal> {
         if self
             .regularization
@@ -108,8 +122,8 @@ impl Settings {
             _ => {}
         }
         match self.estimate {
-            Estimate::Weighted(half_life) => {
-                log_decay(half_life)?;
+            Estimate::ExponentiallyWeighted(decay) => {
+                decay.log()?;
             }
             Estimate::SemiBelow(threshold) if !is_finite(threshold) => {
                 return Err(Refusal::BadSetting(Field::Threshold));
@@ -198,8 +212,8 @@ impl Returns {
                 }
                 given
             }
-            Estimate::Weighted(half_life) => {
-                estimated = self.exponentially_weighted(log_decay(half_life)?);
+            Estimate::ExponentiallyWeighted(decay) => {
+                estimated = self.exponentially_weighted(decay.log()?);
                 &estimated
             }
             Estimate::Semi => {

@@ -1,11 +1,11 @@
-// Document 01, 'The exam program': the question file as the document words it, and the printed
-// answer. The reader goes through the file record by record and keeps what it meets; the rules on
-// what may stand beside what are asked afterwards.
+// Document 01, 'The exam program', with document 02's kind 12: the question file as the documents
+// word it, and the printed answer. The reader goes through the file record by record and keeps what
+// it meets; the rules on what may stand beside what are asked afterwards.
 
 use crate::calls::{
     adjusted_covariance, bayes_stein_mean, exponentially_weighted_mean, james_stein_mean,
 };
-use crate::covariance::{Estimate, Settings, Shrinkage, Target};
+use crate::covariance::{Decay, Estimate, Settings, Shrinkage, Target};
 use crate::leaves::bits;
 use crate::screen::screen;
 use crate::MAX_SWEEPS;
@@ -43,10 +43,10 @@ pub fn exam(file: &[u8]) -> Vec<u8> {
     let report = match question.number {
         0 => adjusted_covariance(returns, n, t, settings, &question.given, n, slice).map(|_| ()),
         1 => match settings.estimate {
-            Estimate::Weighted(half_life) => {
-                exponentially_weighted_mean(returns, n, t, half_life, slice)
+            Estimate::ExponentiallyWeighted(decay) => {
+                exponentially_weighted_mean(returns, n, t, decay, slice)
             }
-            _ => unreachable!("question 1 has a half-life"),
+            _ => unreachable!("question 1 has a half-life or a decay factor"),
         },
         2 => james_stein_mean(returns, n, t, settings.limit, slice).map(|_| ()),
         _ => bayes_stein_mean(returns, n, t, settings.limit, slice).map(|_| ()),
@@ -97,7 +97,17 @@ struct Records {
     threshold: Option<f64>,
     given: Vec<f64>,
     limit: Option<u8>,
+    factor: Option<f64>,
     question: Option<u8>,
+}
+
+/// Where a kind stands among the others: 12 between 10 and 11.
+fn place(kind: u8) -> u8 {
+    match kind {
+        11 => 12,
+        12 => 11,
+        _ => kind,
+    }
 }
 
 fn read(file: &[u8]) -> Result<Question, Malformed> {
@@ -107,7 +117,7 @@ fn read(file: &[u8]) -> Result<Question, Malformed> {
     while !bytes.is_empty() {
         let [kind] = front(&mut bytes)?;
         let again = kind == last && kind != 2 && kind != 9;
-        if kind < last || again {
+        if place(kind) < place(last) || again {
             return Err(Malformed);
         }
         last = kind;
@@ -156,6 +166,7 @@ impl Records {
             9 => self.given.push(number(bytes)?),
             10 => self.limit = Some(byte(bytes)?),
             11 => self.question = Some(byte(bytes)?),
+            12 => self.factor = Some(number(bytes)?),
             _ => return Err(Malformed),
         }
         Ok(())
@@ -166,6 +177,7 @@ impl Records {
         let (n, t) = self.shape.ok_or(Malformed)?;
         let number = self.question.ok_or(Malformed)?;
         let estimates = self.half_life.is_some() as usize
+            + self.factor.is_some() as usize
             + self.semi as usize
             + self.threshold.is_some() as usize
             + !self.given.is_empty() as usize;
@@ -179,7 +191,7 @@ impl Records {
         let adjusts = self.regularization.is_some() || shrinkages > 0;
         let fits = match number {
             0 => self.limit.is_none() || !self.given.is_empty(),
-            1 => self.half_life.is_some() && !adjusts && self.limit.is_none(),
+            1 => self.decay().is_some() && !adjusts && self.limit.is_none(),
             2 | 3 => !adjusts && estimates == 0,
             _ => false,
         };
@@ -197,9 +209,15 @@ impl Records {
         })
     }
 
+    /// By a half-life or by a decay factor: at most one of them stands in a question.
+    fn decay(&self) -> Option<Decay> {
+        let factor = self.factor.map(Decay::Lambda);
+        self.half_life.map(Decay::HalfLife).or(factor)
+    }
+
     fn settings(&self) -> Settings {
-        let estimate = match (self.half_life, self.threshold) {
-            (Some(half_life), _) => Estimate::Weighted(half_life),
+        let estimate = match (self.decay(), self.threshold) {
+            (Some(decay), _) => Estimate::ExponentiallyWeighted(decay),
             (_, Some(threshold)) => Estimate::SemiBelow(threshold),
             _ if self.semi => Estimate::Semi,
             _ if !self.given.is_empty() => Estimate::Given,

@@ -2,7 +2,7 @@
 // The exponentially weighted, James-Stein and Bayes-Stein means, with `Moments` and `gather`.
 // The two Stein means also report intensity, target and counts.
 
-use crate::covariance::log_decay;
+use crate::covariance::Decay;
 use crate::eigen::SymmetricEigen;
 use crate::leaves::{
     abs, amax, binary_exponent, clamp01, exp, max0, pow2_scaled, sqrt, sum, sum_of,
@@ -22,8 +22,11 @@ pub struct Shrunk {
 }
 
 impl Returns {
-    pub fn exponentially_weighted_mean(&self, half_life: f64) -> Result<Vec<f64>, Refusal> {
-        let weights = exponential_weights(self.returns.nrows(), log_decay(half_life)?);
+    /// The exponentially weighted mean of each asset, the last row weighted most. The source's
+    /// `exponentially_weighted_mean` is this for a half-life, `exponentially_weighted_mean_decay` for
+    /// a decay factor.
+    pub fn weighted_mean(&self, decay: Decay) -> Result<Vec<f64>, Refusal> {
+        let weights = exponential_weights(self.returns.nrows(), decay.log()?);
         Ok(self.weighted_means(&weights))
     }
 

@@ -1,6 +1,6 @@
 // Settings and answers in numbers, as include/engine.h has them.
 
-use crate::covariance::{Estimate, Settings, Shrinkage, Target};
+use crate::covariance::{Decay, Estimate, Settings, Shrinkage, Target};
 use crate::input::Report;
 use crate::leaves::bits;
 use crate::refusal::{Detail, Refusal};
@@ -20,9 +20,10 @@ impl FlatSettings {
             estimate: match settings.estimate {
                 Estimate::Sample => (0, f64::NAN),
                 Estimate::Given => (1, f64::NAN),
-                Estimate::Weighted(half_life) => (2, half_life),
+                Estimate::ExponentiallyWeighted(Decay::HalfLife(half_life)) => (2, half_life),
                 Estimate::Semi => (3, f64::NAN),
                 Estimate::SemiBelow(threshold) => (4, threshold),
+                Estimate::ExponentiallyWeighted(Decay::Lambda(lambda)) => (5, lambda),
             },
             shrinkage: match settings.shrinkage {
                 Shrinkage::Unshrunk => (0, f64::NAN),

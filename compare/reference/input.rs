@@ -5,7 +5,7 @@ use crate::calls::{
     adjusted_covariance, bayes_stein_mean, exponentially_weighted_mean, james_stein_mean,
     ledoit_wolf, Covariance,
 };
-use crate::covariance::{Settings, Target};
+use crate::covariance::{Decay, Settings, Target};
 use crate::expected_returns::Shrunk;
 use crate::refusal::{Detail, Refusal};
 
@@ -32,7 +32,7 @@ pub enum Call {
     },
     LedoitWolf(Target),
     ExponentiallyWeightedMean {
-        half_life: f64,
+        decay: Decay,
     },
     JamesSteinMean {
         limit: usize,
@@ -124,8 +124,8 @@ impl Input {
             } => adjusted_covariance(returns, n, t, settings, given, *side, &mut answer)
                 .map(Report::Covariance),
             Call::LedoitWolf(target) => ledoit_wolf(returns, n, t, *target).map(Report::Intensity),
-            Call::ExponentiallyWeightedMean { half_life } => {
-                exponentially_weighted_mean(returns, n, t, *half_life, &mut answer)
+            Call::ExponentiallyWeightedMean { decay } => {
+                exponentially_weighted_mean(returns, n, t, *decay, &mut answer)
                     .map(|()| Report::Mean)
             }
             Call::JamesSteinMean { limit } => {

@@ -1,6 +1,6 @@
 // Carried over from stats.rs of the source; see NOTICE.
 // `binary_exponent`, `pow2` and `pow2_scaled` are its functions; the others are the meanings that
-// document 01, 'Float leaves', gives to what the source calls from elsewhere.
+// document 01, 'Float leaves', and document 02, Paper 1, give to what the source calls from elsewhere.
 
 pub fn is_finite(x: f64) -> bool {
     x.is_finite()
@@ -130,6 +130,29 @@ pub fn exp_m1(y: f64) -> f64 {
         q = 1.0 + (y * q) / f64::from(m);
     }
     y * q
+}
+
+/// `ln x` for `x` above 0 and below 1. Document 02 gives it no meaning elsewhere; it is NaN there.
+pub fn ln(x: f64) -> f64 {
+    let inside = x > 0.0 && x < 1.0;
+    if !inside {
+        return f64::NAN;
+    }
+    let mut e = binary_exponent(x);
+    let mut m = pow2_scaled(x, -e);
+    // Brought near to 1: above 0.75, at most 1.5.
+    if m > 1.5 {
+        m *= 0.5;
+        e += 1;
+    }
+    let s = (m - 1.0) / (m + 1.0);
+    let z = s * s;
+    let mut q = 1.0 / 25.0;
+    for j in (1..=23).rev().step_by(2) {
+        q = 1.0 / f64::from(j) + z * q;
+    }
+    let e = f64::from(e);
+    (e * LN_2_LOW + (2.0 * s) * q) + e * LN_2_HIGH
 }
 
 /// The sum of the terms, from +0.0, in the order they come.

@@ -1,6 +1,6 @@
 // The comparison copy: the source's functions carried over as they stand, over a small stand-in
-// for its matrices, with document 01's float leaves, sweep limit, counts and refusals.
-// `rustc` alone builds it.
+// for its matrices, with document 01's float leaves, sweep limit, counts and refusals, and
+// document 02's changes as far as they are made. `rustc` alone builds it.
 
 pub mod calls;
 pub mod covariance;

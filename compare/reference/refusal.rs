@@ -35,6 +35,8 @@ pub enum Field {
     HalfLife = 3,
     Threshold = 4,
     SweepLimit = 5,
+    /// Document 02, Paper 1.
+    Decay = 6,
 }
 
 /// All that is returned with a refusal.

@@ -4,6 +4,7 @@ use mathlib.Core.Bool.{Bool, cond, _&&_}
 use lib.Dec.{ltb, eqb}
 use lib.Ieee.{Float}
 use Rattle.rules.specs.Settings.{targetOf}
+use Rattle.rules.specs.declared.Decay.the-variants.{HalfLife, Lambda}
 use Rattle.rules.specs.declared.Estimate.{Estimate}
 use Rattle.rules.specs.declared.Estimate.the-variants.{Sample, Given, Weighted, Semi, SemiBelow}
 use Rattle.rules.specs.declared.Shrinkage.{Shrinkage}
@@ -14,7 +15,7 @@ use Rattle.rules.specs.declared.Settings.{Settings}
 
 -- how many numbers, from 0 on, stand for a kind of an estimate, of a shrinkage and of a regularization
 abbrev pub estimateKinds : ℕ
-estimateKinds = 5
+estimateKinds = 6
 
 abbrev pub shrinkageKinds : ℕ
 shrinkageKinds = 4
@@ -26,7 +27,12 @@ unfoldable pub known : ℕ → ℕ → ℕ → Bool
 known estimate shrinkage regularization = ltb estimate estimateKinds && ltb shrinkage shrinkageKinds && ltb regularization regularizationKinds
 
 unfoldable pub estimateOf : ℕ → Float → Estimate
-estimateOf kind x = cond (eqb kind 0) Sample (cond (eqb kind 1) Given (cond (eqb kind 2) (Weighted x) (cond (eqb kind 3) Semi (SemiBelow x))))
+estimateOf kind x =
+    cond (eqb kind 0) Sample
+    (cond (eqb kind 1) Given
+    (cond (eqb kind 2) (Weighted (HalfLife x))
+    (cond (eqb kind 3) Semi
+    (cond (eqb kind 4) (SemiBelow x) (Weighted (Lambda x))))))
 
 unfoldable pub shrinkageOf : ℕ → Float → Shrinkage
 shrinkageOf kind x = cond (eqb kind 0) Unshrunk (cond (eqb kind 1) (Fixed x) (LedoitWolf (targetOf (kind - 2))))

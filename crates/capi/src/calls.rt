@@ -1,6 +1,7 @@
-// The five calls with C linkage (include/engine.h): settings in numbers, the answer as a report and the slice.
+// The five calls with C linkage (include/engine.h), the weighted mean by half-life and by decay factor: settings in numbers, the answer as a report and the slice.
 ghost use mathlib.Core.Path.{_≡_};
 ghost use Rattle.rules.specs.Calls as Estimators;
+ghost use Rattle.rules.specs.declared.Decay.the-variants.{HalfLife, Lambda};
 ghost use Rattle.capi.specs.Report as Reports;
 ghost use Rattle.capi.specs.Calls as Calls;
 use crate::report::hand_out;
@@ -9,6 +10,7 @@ use crate::report::reported;
 use crate::settings::known;
 use crate::settings::settings_of;
 use estimators::calls;
+use rules::Decay;
 
 // A number that stands for no kind, before all other causes: the definitions' `unknownKind`.
 const UNKNOWN_KIND: u32 = 100;
@@ -73,6 +75,22 @@ pub extern "C" fn engine_ledoit_wolf(
     hand_out(report_of(told), numbers, wholes)
 }
 
+// The weighted mean, by either kind of decay.
+fn weighted_mean(
+    returns: &[f64],
+    assets: usize,
+    periods: usize,
+    decay: Decay,
+    answer: &mut [f64],
+    numbers: &mut [f64; 2],
+    wholes: &mut [usize; 2],
+) -> u32
+    ensures { λ r. ⌜ Calls.left (Reports.handed r (now (numbers .exit)) (now (wholes .exit))) (now (answer .exit)) ≡ Calls.told (Estimators.exponentiallyWeightedMean (now (returns .entry)) assets periods decay (now (answer .entry))) ⌝ }
+{
+    let told = calls::exponentially_weighted_mean(returns, assets, periods, decay, answer);
+    hand_out(report_of(told), numbers, wholes)
+}
+
 #[no_mangle]
 pub extern "C" fn engine_weighted_mean(
     returns: &[f64],
@@ -83,10 +101,26 @@ pub extern "C" fn engine_weighted_mean(
     numbers: &mut [f64; 2],
     wholes: &mut [usize; 2],
 ) -> u32
-    ensures { λ r. ⌜ Calls.left (Reports.handed r (now (numbers .exit)) (now (wholes .exit))) (now (answer .exit)) ≡ Calls.told (Estimators.exponentiallyWeightedMean (now (returns .entry)) assets periods «half_life» (now (answer .entry))) ⌝ }
+    ensures { λ r. ⌜ Calls.left (Reports.handed r (now (numbers .exit)) (now (wholes .exit))) (now (answer .exit)) ≡ Calls.told (Estimators.exponentiallyWeightedMean (now (returns .entry)) assets periods (HalfLife «half_life») (now (answer .entry))) ⌝ }
 {
-    let told = calls::exponentially_weighted_mean(returns, assets, periods, half_life, answer);
-    hand_out(report_of(told), numbers, wholes)
+    let decay = Decay::HalfLife(half_life);
+    weighted_mean(returns, assets, periods, decay, answer, numbers, wholes)
+}
+
+#[no_mangle]
+pub extern "C" fn engine_weighted_mean_by_factor(
+    returns: &[f64],
+    assets: usize,
+    periods: usize,
+    factor: f64,
+    answer: &mut [f64],
+    numbers: &mut [f64; 2],
+    wholes: &mut [usize; 2],
+) -> u32
+    ensures { λ r. ⌜ Calls.left (Reports.handed r (now (numbers .exit)) (now (wholes .exit))) (now (answer .exit)) ≡ Calls.told (Estimators.exponentiallyWeightedMean (now (returns .entry)) assets periods (Lambda factor) (now (answer .entry))) ⌝ }
+{
+    let decay = Decay::Lambda(factor);
+    weighted_mean(returns, assets, periods, decay, answer, numbers, wholes)
 }
 
 #[no_mangle]

@@ -1,13 +1,14 @@
 // Settings from numbers: a kind each, with the value that some kinds have (include/engine.h).
 ghost use mathlib.Core.Path.{_≡_};
 ghost use Rattle.capi.specs.Settings as Kinds;
+use rules::Decay;
 use rules::Estimate;
 use rules::Regularization;
 use rules::Settings;
 use rules::Shrinkage;
 
 // How many kinds there are: the definitions' `estimateKinds`, `shrinkageKinds` and `regularizationKinds`.
-const ESTIMATE_KINDS: u32 = 5;
+const ESTIMATE_KINDS: u32 = 6;
 
 const SHRINKAGE_KINDS: u32 = 4;
 
@@ -35,12 +36,15 @@ fn estimate_of(kind: u32, value: f64) -> Estimate
         return Estimate::Given;
     }
     if kind == 2 {
-        return Estimate::Weighted(value);
+        return Estimate::Weighted(Decay::HalfLife(value));
     }
     if kind == 3 {
         return Estimate::Semi;
     }
-    Estimate::SemiBelow(value)
+    if kind == 4 {
+        return Estimate::SemiBelow(value);
+    }
+    Estimate::Weighted(Decay::Lambda(value))
 }
 
 fn shrinkage_of(kind: u32, value: f64) -> Shrinkage

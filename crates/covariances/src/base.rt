@@ -7,6 +7,7 @@ ghost use Rattle.matrix.specs.Matrix.{at, rows};
 ghost use Rattle.rules.specs.Sample as Sample;
 ghost use Rattle.rules.specs.Adjusted as Adjusted;
 ghost use Rattle.rules.specs.Order.{maxPeriods};
+use crate::decay::log_decay;
 use crate::semi;
 use crate::weighted;
 use rules::Estimate;
@@ -31,8 +32,8 @@ pub fn put_base(
         Estimate::Given => {
             matrix::tables::copy(given, out);
         }
-        Estimate::Weighted(h) => {
-            weighted::covariance(weighted::log_decay(h), r, n, periods, out);
+        Estimate::Weighted(decay) => {
+            weighted::covariance(log_decay(decay), r, n, periods, out);
         }
         Estimate::Semi => {
             semi::semicovariance(r, n, periods, out);

@@ -9,40 +9,15 @@ ghost use Rattle.matrix.specs.Limits.{maxSide};
 ghost use Rattle.matrix.specs.Matrix.{at, rows};
 ghost use Rattle.rules.specs.Weighted as Weighted;
 ghost use Rattle.rules.specs.BayesStein.{exponentAt};
-ghost use Rattle.rules.specs.Order as Order;
 ghost use Rattle.rules.specs.Order.{maxPeriods};
-ghost use Rattle.inputs.specs.Checks.{checked};
 ghost use Rattle.tables.specs.Exponents.{Exponents};
 use crate::sample;
-use inputs::checks::Check;
-use inputs::checks::when;
-use rules::Field;
-use rules::Refusal;
 use tables::columns;
 use tables::gram::gram;
 use tables::powers::put_units;
 use tables::rows::Row;
 use tables::scales;
 use tables::vectors;
-
-// ln λ for the half-life h.
-pub fn log_decay(h: f64) -> f64
-    ensures { λ r. ⌜ r ≡ Weighted.logDecay h ⌝ }
-{
-    -leaves::exponential::LN_2 / h
-}
-
-// The source's MIN_LOG.
-const MIN_LOG_DECAY: f64 = -708.0;
-
-// ln λ in [-708, 0).
-pub fn bad_half_life(h: f64) -> Check
-    ensures { λ r. ⌜ checked r ≡ Order.badHalfLife h ⌝ }
-{
-    let l = log_decay(h);
-    let good = MIN_LOG_DECAY <= l && l < 0.0;
-    when(!good, Refusal::BadSetting(Field::HalfLifeField))
-}
 
 // λ ^ (T - 1 - t), the last period's 1.
 fn put_weights(l: f64, out: &mut [f64])

@@ -60,7 +60,7 @@ base-given : (e : Estimate) (T : ℕ) (x g g′ : Matrix) → (isGiven e ≡ tru
 unfolding base
 base-given Sample T x g g′ h = refl
 base-given Given T x g g′ h = h refl
-base-given (Weighted l) T x g g′ h = refl
+base-given (Weighted d) T x g g′ h = refl
 base-given Semi T x g g′ h = refl
 base-given (SemiBelow t) T x g g′ h = refl
 

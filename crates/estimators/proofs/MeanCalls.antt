@@ -1,4 +1,4 @@
--- The three means where shapes and lengths pass and the answer slice has n numbers: by the checks of the returns and of the half-life or the sweep
+-- The three means where shapes and lengths pass and the answer slice has n numbers: by the checks of the returns and of the decay or the sweep
 -- limit, and then by the means or the moments. Assumes nothing.
 use mathlib.Core.Path.{_≡_, sym, ap, _∙_}
 use mathlib.Core.List.{List, [], _∷_}
@@ -19,9 +19,10 @@ use Rattle.rules.specs.Moments.{Moments, moments}
 use Rattle.rules.specs.Shrinking.{Shrinking, shrunkBy}
 use Rattle.rules.specs.JamesStein.{jamesStein}
 use Rattle.rules.specs.BayesStein.{exponentsOf, largestIn, correlations, bayesStein}
-use Rattle.rules.specs.Order.{badSweepLimit, badHalfLife, weightedOrder, jamesSteinOrder, bayesSteinOrder, byReturns, notFound, ofCorrelations}
+use Rattle.rules.specs.Order.{badSweepLimit, badDecay, weightedOrder, jamesSteinOrder, bayesSteinOrder, byReturns, notFound, ofCorrelations}
 use Rattle.rules.specs.Shapes.{Shaped}
 use Rattle.rules.specs.Calls.{answered, settle, exponentiallyWeightedMean, jamesSteinMean, bayesSteinMean}
+use Rattle.rules.specs.declared.Decay.{Decay}
 use Rattle.rules.specs.declared.Refusal.{Refusal}
 use Rattle.rules.specs.declared.Refusal.the-variants.{BadSetting}
 use Rattle.rules.specs.declared.Field.the-variants.{SweepLimitField}
@@ -41,18 +42,18 @@ within limit opens {own = own} is-own is-k h =
 module _ (r : List Float) (n T : ℕ) (slice : List Float) (shape : Shaped (length r) n T) (long : length slice ≡ n) {k opens own : Check} (is-opens : opens ≡ first (byReturns T n (at r n))) where
   -- ---- exponentially weighted
 
-  module _ (h : Float) (is-own : own ≡ badHalfLife h) (is-k : k ≡ first (opens ∷ own ∷ [])) where
+  module _ (d : Decay) (is-own : own ≡ badDecay d) (is-k : k ≡ first (opens ∷ own ∷ [])) where
     abbrev numbers : Float → ℕ → Float
     numbers l = weightedMean T (weights T l) (at r n)
 
-    pub weighted-refused : {c : Refusal} → k ≡ refuses c → answered (Refused c) slice ≡ exponentiallyWeightedMean r n T h slice
+    pub weighted-refused : {c : Refusal} → k ≡ refuses c → answered (Refused c) slice ≡ exponentiallyWeightedMean r n T d slice
     unfolding exponentiallyWeightedMean weightedOrder
-    weighted-refused e = setting-refused r n T n slice shape long is-opens is-own is-k [] Mean (numbers (logDecay h)) e
+    weighted-refused e = setting-refused r n T n slice shape long is-opens is-own is-k [] Mean (numbers (logDecay d)) e
 
-    pub weighted-accepted : {l : Float} {out : List Float} → k ≡ passes → l ≡ logDecay h → out ≡ tab n (weightedMean T (weights T l) (at r n)) → answered Mean out ≡ exponentiallyWeightedMean r n T h slice
+    pub weighted-accepted : {l : Float} {out : List Float} → k ≡ passes → l ≡ logDecay d → out ≡ tab n (weightedMean T (weights T l) (at r n)) → answered Mean out ≡ exponentiallyWeightedMean r n T d slice
     unfolding exponentiallyWeightedMean weightedOrder first settle
     weighted-accepted e is-l is-out =
-        ap (answered Mean) (is-out ∙ ap (λ (l : Float). tab n (numbers l)) is-l) ∙ setting-accepted r n T n slice shape long is-opens is-own is-k [] Mean (numbers (logDecay h)) e
+        ap (answered Mean) (is-out ∙ ap (λ (l : Float). tab n (numbers l)) is-l) ∙ setting-accepted r n T n slice shape long is-opens is-own is-k [] Mean (numbers (logDecay d)) e
 
   module _ (limit : ℕ) (is-own : own ≡ badSweepLimit limit) (is-k : k ≡ first (opens ∷ own ∷ [])) where
     -- ---- James-Stein

@@ -9,6 +9,7 @@ use inputs::checks::Check;
 use inputs::shapes::AnswerShape;
 use inputs::shapes::check_shape;
 use rules::Answer;
+use rules::Decay;
 use rules::Settings;
 use rules::Target;
 
@@ -52,21 +53,21 @@ pub fn ledoit_wolf(returns: &[f64], n: usize, periods: usize, target: Target) ->
     covariance::ledoit_wolf(target, returns, n, periods)
 }
 
-// Each asset's mean, with weights that halve every `half_life` periods: n numbers.
+// Each asset's mean, with weights that fall as the decay says: n numbers.
 pub fn exponentially_weighted_mean(
     returns: &[f64],
     n: usize,
     periods: usize,
-    half_life: f64,
+    decay: Decay,
     answer: &mut [f64],
 ) -> Answer
-    ensures { λ r. ⌜ answered r (now (answer .exit)) ≡ Calls.exponentiallyWeightedMean (now (returns .entry)) n periods «half_life» (now (answer .entry)) ⌝ }
+    ensures { λ r. ⌜ answered r (now (answer .exit)) ≡ Calls.exponentiallyWeightedMean (now (returns .entry)) n periods decay (now (answer .entry)) ⌝ }
 {
     let shape = check_shape(returns.len(), n, periods, AnswerShape::Vector, answer.len());
     if let Check::Refuses(refusal) = shape {
         return Answer::Refused(refusal);
     }
-    expected_returns::exponentially_weighted_mean(returns, n, periods, half_life, &mut answer[..n])
+    expected_returns::exponentially_weighted_mean(returns, n, periods, decay, &mut answer[..n])
 }
 
 // Each asset's mean, moved towards their average as by James and Stein: n numbers.

@@ -9,6 +9,8 @@ ghost use Rattle.rules.specs.Calls as Calls;
 ghost use Rattle.rules.specs.Calls.{answered};
 ghost use Rattle.means.specs.Stein.{bayesSteinFrom};
 use crate::opening::check_opened;
+use covariances::decay::bad_decay;
+use covariances::decay::log_decay;
 use covariances::sample::amax;
 use covariances::weighted;
 use inputs::checks::Check;
@@ -20,6 +22,7 @@ use means::james_stein;
 use means::moments::moments_over;
 use means::moments::of_returns;
 use rules::Answer;
+use rules::Decay;
 use tables::scales::exponent;
 use tables::scales::put_exponents;
 
@@ -27,18 +30,18 @@ pub(crate) fn exponentially_weighted_mean(
     returns: &[f64],
     n: usize,
     periods: usize,
-    half_life: f64,
+    decay: Decay,
     out: &mut [f64],
 ) -> Answer
     requires { ⌜ Shaped (length (now returns)) n periods × (length (now out) ≡ n) ⌝ }
-    ensures { λ r. ⌜ answered r (now (out .exit)) ≡ Calls.exponentiallyWeightedMean (now (returns .entry)) n periods «half_life» (now (out .entry)) ⌝ }
+    ensures { λ r. ⌜ answered r (now (out .exit)) ≡ Calls.exponentiallyWeightedMean (now (returns .entry)) n periods decay (now (out .entry)) ⌝ }
 {
     let opened = check_opened(returns, n, periods);
-    let bad = first(opened, weighted::bad_half_life(half_life));
+    let bad = first(opened, bad_decay(decay));
     if let Check::Refuses(refusal) = bad {
         return Answer::Refused(refusal);
     }
-    let l = weighted::log_decay(half_life);
+    let l = log_decay(decay);
     weighted::mean_of(l, returns, n, periods, out);
     Answer::Mean
 }

@@ -3,7 +3,7 @@ ghost use mathlib.Core.Path.{_≡_};
 ghost use Rattle.rules.specs.Adjusted as Adjusted;
 ghost use Rattle.rules.specs.Order as Order;
 ghost use Rattle.inputs.specs.Checks.{checked};
-use covariances::weighted;
+use covariances::decay::bad_decay;
 use inputs::checks::Check;
 use inputs::checks::when;
 use rules::Estimate;
@@ -63,14 +63,14 @@ pub(crate) fn bad_shrinkage(shrinkage: Shrinkage) -> Check
     }
 }
 
-// Refusal 7 for fields 3 and 4: ln λ of the half-life in [-708, 0), the threshold finite.
+// Refusal 7 for fields 3, 6 and 4: the decay accepted, the threshold finite.
 pub(crate) fn bad_estimate(estimate: Estimate) -> Check
     ensures { λ r. ⌜ checked r ≡ Order.badEstimate estimate ⌝ }
 {
     match estimate {
         Estimate::Sample => Check::Passes,
         Estimate::Given => Check::Passes,
-        Estimate::Weighted(h) => weighted::bad_half_life(h),
+        Estimate::Weighted(decay) => bad_decay(decay),
         Estimate::Semi => Check::Passes,
         Estimate::SemiBelow(threshold) => when(
             !leaves::numbers::is_finite(threshold),

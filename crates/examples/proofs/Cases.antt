@@ -12,13 +12,14 @@ use Rattle.matrix.specs.Limits.{maxSweeps}
 use Rattle.rules.specs.Settings.{settings}
 use Rattle.rules.specs.Refusals.{passes, refuses}
 use Rattle.rules.specs.Weighted.{logDecay, weights}
-use Rattle.rules.specs.Order.{badHalfLife}
+use Rattle.rules.specs.Order.{badDecay}
 use Rattle.rules.specs.Calls.{Answered, answered, adjustedCovariance, exponentiallyWeightedMean, jamesSteinMean}
 use Rattle.rules.specs.declared.Estimate.the-variants.{Sample, Given}
 use Rattle.rules.specs.declared.Shrinkage.{Shrinkage}
 use Rattle.rules.specs.declared.Shrinkage.the-variants.{Unshrunk, Fixed}
 use Rattle.rules.specs.declared.Regularization.{Regularization}
 use Rattle.rules.specs.declared.Regularization.the-variants.{Unregularized, Ridge}
+use Rattle.rules.specs.declared.Decay.the-variants.{HalfLife}
 use Rattle.rules.specs.declared.Field.the-variants.{HalfLifeField}
 use Rattle.rules.specs.declared.Refusal.the-variants.{BadSetting, ZeroVariance, Indefinite, NotDecomposed, Singular}
 use Rattle.rules.specs.declared.Answer.the-variants.{Refused, Covariance, Mean, Shrunk}
@@ -51,8 +52,8 @@ pub record TwelveCases : Type 0 where
   pub case-1 : (binaryExponent zero⁺ ≡ pos 0) × (binaryExponent (pow2 (negsuc 1073)) ≡ negsuc 1073) × (binaryExponent (float 0x7FEF_FFFF_FFFF_FFFF) ≡ pos 1023)
   pub case-2 : (pow2Scaled one (negsuc 1073) ≡ pow2 (negsuc 1073)) × (pow2Scaled one (pos 1024) ≡ inf false)
   pub case-3 : (sqrt two ≡ float 0x3FF6_A09E_667F_3BCD) × (sqrt (pow2 (negsuc 1073)) ≡ pow2 (negsuc 536))
-  pub case-4 : (badHalfLife (float 0x3F50_624D_D2F1_A9FC) ≡ passes) × (badHalfLife (float 0x3F4D_7DBF_487F_CB92) ≡ refuses (BadSetting HalfLifeField))
-  pub case-5 : (weights 2 (logDecay one) ≡ half ∷ one ∷ []) × (exponentiallyWeightedMean (one ∷ count 4 ∷ []) 1 2 one (zero⁺ ∷ []) ≡ answered Mean (count 3 ∷ []))
+  pub case-4 : (badDecay (HalfLife (float 0x3F50_624D_D2F1_A9FC)) ≡ passes) × (badDecay (HalfLife (float 0x3F4D_7DBF_487F_CB92)) ≡ refuses (BadSetting HalfLifeField))
+  pub case-5 : (weights 2 (logDecay (HalfLife one)) ≡ half ∷ one ∷ []) × (exponentiallyWeightedMean (one ∷ count 4 ∷ []) 1 2 (HalfLife one) (zero⁺ ∷ []) ≡ answered Mean (count 3 ∷ []))
   pub case-6 : two-assets rows Unshrunk Unregularized ≡ plain (count 2) (count 4) (count 4) (count 8)
   pub case-7 : two-assets rows Unshrunk (Ridge one) ≡ plain (count 3) (count 4) (count 4) (count 9)
   pub case-8 : two-assets rows (Fixed half) Unregularized ≡ answered (Covariance half 0 0) (fin false 7 (negsuc 0) ∷ two ∷ two ∷ fin false 13 (negsuc 0) ∷ [])

@@ -77,21 +77,21 @@ Counted n limit (Shrunk α μ₀ sweeps rotations) = Few n limit sweeps rotation
 abbrev pub decomposedSide : ℕ → Question → ℕ
 decomposedSide n (Law.adjusted s given side) = side
 decomposedSide n (Law.intensity F) = 0
-decomposedSide n (Law.weightedMean halfLife) = 0
+decomposedSide n (Law.weightedMean decay) = 0
 decomposedSide n (Law.jamesStein limit) = n
 decomposedSide n (Law.bayesStein limit) = n
 
 abbrev pub limitOf : Question → ℕ
 limitOf (Law.adjusted s given side) = s .limit
 limitOf (Law.intensity F) = 0
-limitOf (Law.weightedMean halfLife) = 0
+limitOf (Law.weightedMean decay) = 0
 limitOf (Law.jamesStein limit) = limit
 limitOf (Law.bayesStein limit) = limit
 
 pub counted : (r : List Float) (n P : ℕ) (q : Question) (slice : List Float) → Counted (decomposedSide n q) (limitOf q) (ask r n P q slice .answer)
 counted r n P (Law.adjusted s given side) slice = rw (covariance-is r n P s given side slice) (settle-cases (Counted side (s .limit)) (λ c. tt) _ slice _ (λ h. settings-few s given side))
 counted r n P (Law.intensity F) slice = unfold ledoitWolfIntensity in settle-cases (Counted 0 0) (λ c. tt) _ _ _ (λ h. tt)
-counted r n P (Law.weightedMean halfLife) slice = unfold exponentiallyWeightedMean in settle-cases (Counted 0 0) (λ c. tt) _ slice _ (λ h. tt)
+counted r n P (Law.weightedMean decay) slice = unfold exponentiallyWeightedMean in settle-cases (Counted 0 0) (λ c. tt) _ slice _ (λ h. tt)
 counted r n P (Law.jamesStein limit) slice = rw (james-is r n P limit slice) (settle-cases (Counted n limit) (λ c. tt) _ slice _ (λ h. unequal-few limit n _ _))
 counted r n P (Law.bayesStein limit) slice = rw (bayes-is r n P limit slice) (settle-cases (Counted n limit) (λ c. tt) _ slice _ (λ h. decompose-few limit n (correlations n (columnMoments P n (at r n)))))
 

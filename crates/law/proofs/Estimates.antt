@@ -21,16 +21,17 @@ use Rattle.leaves.proofs.Operations.{moved-within}
 use Rattle.matrix.specs.Matrix.{Matrix, at}
 use Rattle.rules.specs.Refusals.{passes, when, whenSome}
 use Rattle.rules.specs.Sample.{covariance, largest}
-use Rattle.rules.specs.Weighted.{logDecay, accepted}
+use Rattle.rules.specs.Weighted.{logDecay, acceptedDecay}
 use Rattle.rules.specs.Given.{average}
 use Rattle.rules.specs.Adjusted.{isSample, isGiven, decompositionOf, base}
-use Rattle.rules.specs.Order.{badHalfLife, badEstimate, constantReturns, noVariance, ofGiven}
+use Rattle.rules.specs.Order.{decayField, badDecay, badEstimate, constantReturns, noVariance, ofGiven}
 use Rattle.rules.specs.Settings.{settings}
 use Rattle.rules.specs.declared.Estimate.{Estimate}
+use Rattle.rules.specs.declared.Decay.{Decay}
 use Rattle.rules.specs.declared.Estimate.the-variants.{Sample, Given, Weighted, Semi, SemiBelow}
 use Rattle.rules.specs.declared.Shrinkage.{Shrinkage}
 use Rattle.rules.specs.declared.Regularization.{Regularization}
-use Rattle.rules.specs.declared.Field.the-variants.{HalfLifeField, ThresholdField}
+use Rattle.rules.specs.declared.Field.the-variants.{ThresholdField}
 use Rattle.rules.specs.declared.Refusal.the-variants.{BadSetting, ZeroVariance}
 use Rattle.law.specs.Law.{All, Sized, EstimateInRange, CopiedEstimate, sample, given, weighted, semi, semiBelow, maxPower, returnRange, covarianceRange}
 use Rattle.law.proofs.Ranges.{returnBounds, estimateBounds}
@@ -40,6 +41,7 @@ use Rattle.law.proofs.Sizes.{sized-fits}
 use Rattle.law.proofs.Sample.{Returns}
 use Rattle.law.proofs.Constant.{constant-same}
 use Rattle.law.proofs.Opening.{Shape, returns, sample-moved, semi-moved, semiBelow-moved}
+use Rattle.law.proofs.Decays.{in-range-decaying}
 use Rattle.law.proofs.Weighted as Weighted
 use Rattle.law.proofs.Given.{average-moved, decomposition-same, given-chain}
 use Rattle.law.proofs.Shrinkage.{Estimated}
@@ -85,9 +87,16 @@ module _ (k : ℕ) (small : k ≤ maxPower) (r : List Float) (sizes : All (Sized
     sampled = λ e. no e refl;
   }
 
-  from-weights : (h : Float) → EstimateInRange P (Weighted h) → Based k n P side (Weighted h) (Weighted h) x y G G'
-  unfolding badEstimate badHalfLife base noVariance
-  from-weights h long = record { bad = refl; sample = refl; given = refl; entries = λ q q' i j a b. Weighted.covariance-moved small R h long (pass-must (accepted (logDecay h)) (BadSetting HalfLifeField) q) i j a b; variance = varies; sampled = λ e. no e refl }
+  from-weights : (d : Decay) → EstimateInRange P (Weighted d) → Based k n P side (Weighted d) (Weighted d) x y G G'
+  unfolding badEstimate badDecay base noVariance
+  from-weights d slow = record {
+    bad = refl;
+    sample = refl;
+    given = refl;
+    entries = λ q q' i j a b. Weighted.covariance-moved small R (logDecay d) (in-range-decaying P (R .periods) (R .most) d slow (pass-must (acceptedDecay d) (BadSetting (decayField d)) q)) i j a b;
+    variance = varies;
+    sampled = λ e. no e refl;
+  }
 
 -- a given matrix, where its slice has the right length
 module _ (k : ℕ) (small : k ≤ maxPower) (n P side : ℕ) (x y : Matrix) (g : List Float) (sizes : All (Sized covarianceRange) g) (full : length g ≡ side * side) where
@@ -112,7 +121,7 @@ pub estimate-chain : {Q : Type 0} (k : ℕ) (small : k ≤ maxPower) (r : List F
 unfolding ofGiven decompositionOf
 estimate-chain k small r sizes n P s side limit S H H' E E' g g' sample q q' known then = ends (then (from-sample k small r sizes n P s side (average g side) (average g' side)) refl)
 estimate-chain k small r sizes n P s side limit S H H' E E' g g' semi q q' known then = ends (then (from-semi k small r sizes n P s side (average g side) (average g' side)) refl)
-estimate-chain k small r sizes n P s side limit S H H' E E' g g' (weighted {halfLife = h}) q q' known then = ends (then (from-weights k small r sizes n P s side (average g side) (average g' side) h q) refl)
+estimate-chain k small r sizes n P s side limit S H H' E E' g g' (weighted {decay = d}) q q' known then = ends (then (from-weights k small r sizes n P s side (average g side) (average g' side) d q) refl)
 estimate-chain k small r sizes n P s side limit S H H' E E' g g' (semiBelow {x = θ} {y = θ'} c) q q' known then =
     ends (then (from-threshold k small r sizes n P s side (average g side) (average g' side) θ θ' q (copy-shift k θ θ' (sized-fits returnRange θ q) (sized-fits returnRange θ' q') c)) refl)
 estimate-chain {Q} k small r sizes n P s side limit S H H' E E' g g' given q q' known then =

@@ -50,7 +50,7 @@ ageMost = 48 * 32
 abbrev pub argumentMost : ℕ
 argumentMost = 2 * ageMost
 
-representable-W : (c : ℕ) → c < 2 ^ 53 → Representable (c * W)
+pub representable-W : (c : ℕ) → c < 2 ^ 53 → Representable (c * W)
 unfolding W
 representable-W c h = representable-times c 1069 h
 

@@ -93,6 +93,6 @@ reported r n P (Law.adjusted s given side) slice =
     second : first (ofAnswer r n P s given side) ≡ passes → badShrinkage (s .shrinkage) ≡ passes
     second h = unfold ofSettings in pass-cons _ _ (pass-cons _ _ h .1) .0
 reported r n P (Law.intensity F) slice = unfold ledoitWolfIntensity in settle-cases Reported (λ c. tt) _ _ _ (λ h. ledoitWolf-share F P n (at r n))
-reported r n P (Law.weightedMean halfLife) slice = unfold exponentiallyWeightedMean in settle-cases Reported (λ c. tt) _ slice _ (λ h. tt)
+reported r n P (Law.weightedMean decay) slice = unfold exponentiallyWeightedMean in settle-cases Reported (λ c. tt) _ slice _ (λ h. tt)
 reported r n P (Law.jamesStein limit) slice = rw (james-is r n P limit slice) (settle-cases Reported (λ c. tt) _ slice _ (λ h. james-share n (inUnit r n P) (unitGrandMean r n P) (jamesDecomposition r n P limit)))
 reported r n P (Law.bayesStein limit) slice = rw (bayes-is r n P limit slice) (settle-cases Reported (λ c. tt) (first (opening r n P n slice ++ _)) slice _ (λ h. bayes-share r limit n P (pass-opening r n P n slice (pass-append (opening r n P n slice) _ h .0) .0)))

@@ -17,6 +17,8 @@ pub mod Correlation
 pub mod Shrinkage
 pub mod Exponential
 pub mod Weights
+pub mod HalfLives
+pub mod Decays
 pub mod Weighted
 pub mod SteinAnswers
 pub mod JamesStein

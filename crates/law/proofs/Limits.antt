@@ -106,7 +106,7 @@ module _ (S : Shrinkage) (H : Regularization) (given : List Float) (side : ℕ) 
   unfolding ofGiven
   given-checks Sample limit limit′ e p = refl
   given-checks Given limit limit′ e p = rw (e, p)
-  given-checks (Weighted halfLife) limit limit′ e p = refl
+  given-checks (Weighted decay) limit limit′ e p = refl
   given-checks Semi limit limit′ e p = refl
   given-checks (SemiBelow threshold) limit limit′ e p = refl
 
@@ -122,7 +122,7 @@ module _ (S : Shrinkage) (H : Regularization) (given : List Float) (side : ℕ) 
       let h₅ = pass-cons _ _ (h₄ .1) in
       let h₆ = pass-cons _ _ (h₅ .1) in
       given-larger limit limit′ side (average given side) l (pass-must (decomposeGiven limit side (average given side) .found) NotDecomposed (pass-cons _ _ (h₆ .1) .0))
-  given-same (Weighted halfLife) limit limit′ l h = refl
+  given-same (Weighted decay) limit limit′ l h = refl
   given-same Semi limit limit′ l h = refl
   given-same (SemiBelow threshold) limit limit′ l h = refl
 
@@ -155,7 +155,7 @@ module _ (r : List Float) (n P : ℕ) (s : Settings) (given : List Float) (side 
 abbrev pub withLimit : Question → ℕ → Question
 withLimit (Law.adjusted s given side) limit = Law.adjusted (limited s limit) given side
 withLimit (Law.intensity F) limit = Law.intensity F
-withLimit (Law.weightedMean halfLife) limit = Law.weightedMean halfLife
+withLimit (Law.weightedMean decay) limit = Law.weightedMean decay
 withLimit (Law.jamesStein l) limit = Law.jamesStein limit
 withLimit (Law.bayesStein l) limit = Law.bayesStein limit
 
@@ -163,6 +163,6 @@ pub larger-sweep-limit : (r : List Float) (n P : ℕ) (q : Question) (slice : Li
     → ask r n P (withLimit q limit′) slice ≡ ask r n P (withLimit q limit) slice
 larger-sweep-limit r n P (Law.adjusted s given side) slice limit limit′ l h a = covariance-limit r n P s given side slice limit limit′ l h a
 larger-sweep-limit r n P (Law.intensity F) slice limit limit′ l h a = refl
-larger-sweep-limit r n P (Law.weightedMean halfLife) slice limit limit′ l h a = refl
+larger-sweep-limit r n P (Law.weightedMean decay) slice limit limit′ l h a = refl
 larger-sweep-limit r n P (Law.jamesStein old) slice limit limit′ l h a = james-limit r n P slice limit limit′ l h a
 larger-sweep-limit r n P (Law.bayesStein old) slice limit limit′ l h a = bayes-limit r n P slice limit limit′ l h a

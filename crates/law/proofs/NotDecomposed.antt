@@ -15,10 +15,10 @@ use Rattle.matrix.specs.Matrix.{Matrix, at, amax, trace, averaged, firstNotFini
 use Rattle.matrix.specs.Jacobi.{Decomposition, smallestValue, unturned}
 use Rattle.rules.specs.Refusals.{number, Check, passes, refuses, when, whenSome, first}
 use Rattle.rules.specs.Sample.{covariance, largest, constantAsset}
-use Rattle.rules.specs.Weighted.{logDecay, accepted}
+use Rattle.rules.specs.Weighted.{acceptedDecay}
 use Rattle.rules.specs.Given.{asymmetry, average, decomposeGiven, indefinite}
 use Rattle.rules.specs.Adjusted.{isSample, isGiven, decompositionOf, intensity, isAdjusted}
-use Rattle.rules.specs.Order.{maxPeriods, notFinite, opening, badSweepLimit, ofGiven, badRegularization, badShrinkage, badHalfLife, badEstimate, notTheSample, noCorrelation, noVariance, ofSettings}
+use Rattle.rules.specs.Order.{maxPeriods, notFinite, opening, badSweepLimit, ofGiven, badRegularization, badShrinkage, decayField, badDecay, badEstimate, notTheSample, noCorrelation, noVariance, ofSettings}
 use Rattle.rules.specs.Calls.{Answered, settle, adjustedCovariance}
 use Rattle.rules.specs.Settings.{settings}
 use Rattle.rules.specs.declared.Estimate.{Estimate}
@@ -29,7 +29,7 @@ use Rattle.rules.specs.declared.Shrinkage.the-variants.{Unshrunk, Fixed, Ledoit
 use Rattle.rules.specs.declared.Regularization.{Regularization}
 use Rattle.rules.specs.declared.Regularization.the-variants.{Unregularized, Ridge}
 use Rattle.rules.specs.declared.Settings.{Settings}
-use Rattle.rules.specs.declared.Field.the-variants.{RegularizationField, ShrinkageField, HalfLifeField, ThresholdField, SweepLimitField}
+use Rattle.rules.specs.declared.Field.the-variants.{RegularizationField, ShrinkageField, ThresholdField, SweepLimitField}
 use Rattle.rules.specs.declared.Refusal.{Refusal}
 use Rattle.rules.specs.declared.Refusal.the-variants.{NoAssets, TooLarge, TooFewPeriods, WrongLength, NotFinite, CovarianceNotFinite, BadSetting, NotTheSample, ZeroVariance, WrongSide, Asymmetric, Indefinite, NotDecomposed, Singular}
 use Rattle.rules.specs.declared.Answer.{Answer}
@@ -96,7 +96,7 @@ given-avoids Given S H limit g side h =
     decided : (b : Bool) → b ≡ true → Avoids (when (not b) NotDecomposed)
     decided true e = tt
     decided false e = absurd (subst T (sym e) tt)
-given-avoids (Weighted halfLife) S H limit g side h = tt
+given-avoids (Weighted decay) S H limit g side h = tt
 given-avoids Semi S H limit g side h = tt
 given-avoids (SemiBelow threshold) S H limit g side h = tt
 
@@ -113,10 +113,10 @@ shrinkage-avoids (Fixed δ) = test (not (le zero⁺ δ && le δ one)) (BadSettin
 shrinkage-avoids (LedoitWolf F) = tt
 
 estimate-avoids : (E : Estimate) → Avoids (badEstimate E)
-unfolding badEstimate badHalfLife
+unfolding badEstimate badDecay
 estimate-avoids Sample = tt
 estimate-avoids Given = tt
-estimate-avoids (Weighted halfLife) = test (not (accepted (logDecay halfLife))) (BadSetting HalfLifeField) refl
+estimate-avoids (Weighted decay) = test (not (acceptedDecay decay)) (BadSetting (decayField decay)) refl
 estimate-avoids Semi = tt
 estimate-avoids (SemiBelow threshold) = test (not (isFinite threshold)) (BadSetting ThresholdField) refl
 
@@ -138,7 +138,7 @@ unfolding noVariance
 variance-avoids true E P n x v = tt
 variance-avoids false Sample P n x v = search (constantAsset n v (largest P x)) ZeroVariance (λ i. refl)
 variance-avoids false Given P n x v = search (firstTo n (λ i. eq (v i i) zero⁺)) ZeroVariance (λ i. refl)
-variance-avoids false (Weighted halfLife) P n x v = search (constantAsset n v (largest P x)) ZeroVariance (λ i. refl)
+variance-avoids false (Weighted decay) P n x v = search (constantAsset n v (largest P x)) ZeroVariance (λ i. refl)
 variance-avoids false Semi P n x v = search (constantAsset n v (largest P x)) ZeroVariance (λ i. refl)
 variance-avoids false (SemiBelow threshold) P n x v = search (constantAsset n v (largest P x)) ZeroVariance (λ i. refl)
 

@@ -67,7 +67,7 @@ opened-kept r n P needed old A f cs other =
 abbrev pub needed : ℕ → Question → ℕ
 needed n (Law.adjusted s given side) = n * n
 needed n (Law.intensity F) = 0
-needed n (Law.weightedMean halfLife) = n
+needed n (Law.weightedMean decay) = n
 needed n (Law.jamesStein limit) = n
 needed n (Law.bayesStein limit) = n
 
@@ -79,7 +79,7 @@ kept r n P (Law.adjusted s given side) old =
     rw (covariance-is r n P s given side old)
     (settle-kept (n * n) old _ _ (first (o ++ g ++ ofAnswer r n P s given side)) (λ z. z) (λ h. pass-opening r n P (n * n) old (pass-append o g (pass-append (o ++ g) (ofAnswer r n P s given side) h .0) .0) .1))
 kept r n P (Law.intensity F) old = record { refused = λ c e. refl; later = refl; long = refl }
-kept r n P (Law.weightedMean halfLife) old = opened-kept r n P n old _ _ _ (λ z. z)
+kept r n P (Law.weightedMean decay) old = opened-kept r n P n old _ _ _ (λ z. z)
 kept r n P (Law.jamesStein limit) old = opened-kept r n P n old _ _ _ (λ z. z)
 kept r n P (Law.bayesStein limit) old = opened-kept r n P n old _ _ _ (λ z. z)
 

@@ -18,6 +18,6 @@ pub estimate-symmetric : (E : Estimate) → isGiven E ≡ false → (P : ℕ) (x
 unfolding base covariance weightedCovariance semicovariance semicovarianceBelow
 estimate-symmetric Sample e P x g i j = ap (λ (z : Float). z ⊘ count (P - 1)) (gram-symmetric P _ i j)
 estimate-symmetric Given e P x g i j = absurd (subst T e tt)
-estimate-symmetric (Weighted halfLife) e P x g i j = gram-symmetric P _ i j
+estimate-symmetric (Weighted decay) e P x g i j = gram-symmetric P _ i j
 estimate-symmetric Semi e P x g i j = ap (λ (z : Float). z ⊘ count (P - 1)) (gram-symmetric P _ i j)
 estimate-symmetric (SemiBelow threshold) e P x g i j = ap (λ (z : Float). z ⊘ count P) (gram-symmetric P _ i j)

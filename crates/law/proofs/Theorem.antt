@@ -60,7 +60,7 @@ module _ (k : ℕ) (small : k ≤ maxPower) (n P : ℕ) (r : List Float) (sizes 
       (s .estimate) (s' .estimate) g g' (c .estimate) (a .estimate) (b .estimate)
       (λ e. (a .given e, copies-shift (k + k) g g' (fits-all covarianceRange g (a .given e)) (fits-all covarianceRange g' (b .given (given-too (pos k) (s .estimate) (s' .estimate) (c .estimate) e))) (c .given e))) (a .shrinkage) slice slice' long)
   by-question q q' (ledoitWolf {F = F}) a b = intensity-law k small r sizes n P F slice slice'
-  by-question q q' (Law.CopiedQuestion.weighted {halfLife = h}) a b = weighted-law k small r sizes n P h (a .0) slice slice' long
+  by-question q q' (Law.CopiedQuestion.weighted {decay = d}) a b = weighted-law k small r sizes n P d (a .0) slice slice' long
   by-question q q' (james {limit = limit}) a b = james-stein-law k small r sizes n P limit slice slice' long a
   by-question q q' (bayes {limit = limit}) a b = bayes-stein-law k small r sizes sizes' n P limit slice slice' long a b
 

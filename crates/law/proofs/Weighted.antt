@@ -1,18 +1,15 @@
 -- The weighted mean and covariance. The weights are the same in both runs; over the power of two of a column's largest the returns are too, so the weighted mean of a column is one number, scaled back
 -- by 2 ^ e and by 2 ^ (e + k). Everything is in a range in which nothing rounds differently, and the weighted covariance's products with it. Assumes nothing.
 use mathlib.Core.Path.{_≡_, refl, sym, ap, _∙_, subst}
-use Prim.Native.Nat.{ℕ, zero, suc, _+_, _-_, _≤_, _<_}
+use Prim.Native.Nat.{ℕ, _+_, _-_, _≤_, _<_}
 use native.Mathlib.Nat.{lt-of-lt-of-le, zero-add, add-zero}
 use native.Mathlib.Omega.{arith}
-use mathlib.Core.Bool.{Bool, true, false, _||_}
+use mathlib.Core.Bool.{false}
 use mathlib.Core.List.{List, map}
-use lib.Dec.{T, eqb, lit≤}
+use lib.Dec.{T, lit≤}
 use lib.IntN.{ℤ, pos, negℤ}
 use lib.ListN.{length}
-use lib.Ieee.{Float, nan, binary64, fits, le}
-use lib.Ieee.Bits.{is-true}
-use lib.Ieee.Fits.{and-l, and-r}
-use borrow.Author.Tests.{ne-eqb}
+use lib.Ieee.{Float, nan, binary64, fits}
 use Rattle.leaves.specs.Numbers.{_⊖_, _⊗_, _⊘_, count}
 use Rattle.leaves.specs.Loops.{sumTo, tab, fill, nth}
 use Rattle.leaves.specs.Root.{sqrt}
@@ -28,13 +25,13 @@ use Rattle.leaves.proofs.SqrtNearest.{moved-sqrt}
 use Rattle.leaves.proofs.Totals.{moved-sum}
 use Rattle.matrix.specs.Matrix.{Matrix, at}
 use Rattle.rules.specs.Sample.{gram, largest}
-use Rattle.rules.specs.Weighted.{logDecay, accepted, weights, scaledMean, weightedMean, denominator, weightedCovariance}
-use Rattle.rules.specs.Order.{badHalfLife, weightedOrder, maxPeriods}
+use Rattle.rules.specs.Weighted.{logDecay, acceptedDecay, weights, scaledMean, weightedMean, denominator, weightedCovariance}
+use Rattle.rules.specs.Order.{decayField, badDecay, weightedOrder, maxPeriods}
 use Rattle.rules.specs.Calls.{answered, exponentiallyWeightedMean}
-use Rattle.rules.specs.declared.Field.the-variants.{HalfLifeField}
+use Rattle.rules.specs.declared.Decay.{Decay}
 use Rattle.rules.specs.declared.Refusal.the-variants.{BadSetting}
 use Rattle.rules.specs.declared.Answer.the-variants.{Mean}
-use Rattle.law.specs.Law.{All, Sized, LongHalfLife, Alike, ask, maxPower, returnRange, maxHalfLives, parts}
+use Rattle.law.specs.Law.{All, Sized, DecayInRange, Alike, ask, maxPower, returnRange, parts}
 use Rattle.law.specs.Law as Law
 use Rattle.law.proofs.Bits.{periodBits, period-bits}
 use Rattle.law.proofs.Ranges.{returnBounds, exponentAbove, exponentBelow, weightBounds, totalWeightBounds, denominatorBounds, unitBounds, weightedUnitBounds, weightedMeanBounds, rootWeightBounds, weightedDeviationBounds}
@@ -45,7 +42,8 @@ use Rattle.law.proofs.Scaled.{Scaling, scaled-back, scaled-range}
 use Rattle.law.proofs.Opening.{returns, opening-chain, column}
 use Rattle.law.proofs.Shrinkage.{Estimated}
 use Rattle.law.proofs.Exponential.{Weight}
-use Rattle.law.proofs.Weights.{weight-range, denominator-range}
+use Rattle.law.proofs.Weights.{Decaying, weight-range, denominator-range}
+use Rattle.law.proofs.Decays.{in-range-decaying}
 use Rattle.law.proofs.Sums.{sum-least}
 
 -- ---- the weighted mean of a column
@@ -91,38 +89,27 @@ module _ {k n P : ℕ} {x y : Matrix} (small : k ≤ maxPower) (r : Returns k n 
           ∙ scaled-back common average-moved (lit≤ tt) (omega arith);
     }
 
--- ---- an accepted half-life
-weighing : (P : ℕ) → 2 ≤ P → P ≤ maxPeriods → (h : Float) → T (fits binary64 h) → accepted (logDecay h) ≡ true → le (count (P - 1)) (count maxHalfLives ⊗ h) ≡ true → Weighing P (weights P (logDecay h))
+-- ---- an accepted decay
+weighing : (P : ℕ) → 2 ≤ P → P ≤ maxPeriods → (l : Float) → Decaying P l → Weighing P (weights P l)
 unfolding weights
-weighing P two most h fit ok long =
-    let at-t : (t : ℕ) → t < P → exp (count (P - 1 - t) ⊗ logDecay h) ≡ nth (tab P (λ t. exp (count (P - 1 - t) ⊗ logDecay h))) t = λ t l. sym (getD-tab P (λ t. exp (count (P - 1 - t) ⊗ logDecay h)) t nan l) in
-    let q = weight-range P two most h fit ok long in
+weighing P two most l d =
+    let at-t : (t : ℕ) → t < P → exp (count (P - 1 - t) ⊗ l) ≡ nth (tab P (λ t. exp (count (P - 1 - t) ⊗ l))) t = λ t b. sym (getD-tab P (λ t. exp (count (P - 1 - t) ⊗ l)) t nan b) in
+    let q = weight-range P two most l d in
     record {
-      range = λ t l. subst Weight (at-t t l) (q (P - 1 - t) (omega arith) .0);
-      plus = λ t l. subst (λ (z : Float). sign z ≡ false) (at-t t l) (q (P - 1 - t) (omega arith) .1);
-      above = λ t l. subst (λ (z : Float). 0 < mag z) (at-t t l) (q (P - 1 - t) (omega arith) .2);
+      range = λ t b. subst Weight (at-t t b) (q (P - 1 - t) (omega arith) .0);
+      plus = λ t b. subst (λ (z : Float). sign z ≡ false) (at-t t b) (q (P - 1 - t) (omega arith) .1);
+      above = λ t b. subst (λ (z : Float). 0 < mag z) (at-t t b) (q (P - 1 - t) (omega arith) .2);
     }
 
-long-enough : (P : ℕ) → 2 ≤ P → (h : Float) → LongHalfLife P h → T (fits binary64 h) × (le (count (P - 1)) (count maxHalfLives ⊗ h) ≡ true)
-long-enough P two h t =
-    let a : Bool = fits binary64 h in
-    let b : Bool = eqb P 0 || le (count (P - 1)) (count maxHalfLives ⊗ h) in
-    (and-l a b t, go P two (le (count (P - 1)) (count maxHalfLives ⊗ h)) (and-r a b t))
-  where
-    go : (P : ℕ) → 2 ≤ P → (b : Bool) → T (eqb P 0 || b) → b ≡ true
-    go zero two b t = absurd (omega arith)
-    go (suc P) two b t = is-true b (rw (ne-eqb (suc P) 0 (λ e. absurd (omega arith))) at t)
-
 -- ---- the weighted covariance
-pub covariance-moved : {k n P : ℕ} {x y : Matrix} → k ≤ maxPower → Returns k n P returnBounds x y → (h : Float) → LongHalfLife P h → accepted (logDecay h) ≡ true
-    → (i j : ℕ) → i < n → j < n → Estimated (k + k) (weightedCovariance P (logDecay h) x i j) (weightedCovariance P (logDecay h) y i j)
+pub covariance-moved : {k n P : ℕ} {x y : Matrix} → k ≤ maxPower → Returns k n P returnBounds x y → (l : Float) → Decaying P l
+    → (i j : ℕ) → i < n → j < n → Estimated (k + k) (weightedCovariance P l x i j) (weightedCovariance P l y i j)
 unfolding weightedCovariance gram
-covariance-moved {k} {n} {P} {x} {y} small r h long ok i j a b =
-    let q = long-enough P (r .periods) h long in
-    let w = weights P (logDecay h) in
-    let W = weighing P (r .periods) (r .most) h (q .0) ok (q .1) in
-    let D = denominator-range P (r .periods) (r .most) h (q .0) ok (q .1) in
-    let d = denominator P (logDecay h) in
+covariance-moved {k} {n} {P} {x} {y} small r l q i j a b =
+    let w = weights P l in
+    let W = weighing P (r .periods) (r .most) l q in
+    let D = denominator-range P (r .periods) (r .most) l q in
+    let d = denominator P l in
     let root : (t : ℕ) → t < P → Moved 0 rootWeightBounds (sqrt (nth w t ⊘ d)) (sqrt (nth w t ⊘ d)) =
     λ t l. moved-sqrt {k = 0} (moved-over (still weightBounds (W .range t l)) (still denominatorBounds (D .0)) (D .2) (lit≤ tt) (lit≤ tt)) (sign-not-below (nth w t ⊘ d) (sign-div (nth w t) d (W .plus t l ∙ sym (D .1)))) in
     let term : (c : ℕ) → c < n → (t : ℕ) → t < P → Moved k weightedDeviationBounds ((x t c ⊖ weightedMean P w x c) ⊗ sqrt (nth w t ⊘ d)) ((y t c ⊖ weightedMean P w y c) ⊗ sqrt (nth w t ⊘ d)) =
@@ -132,20 +119,20 @@ covariance-moved {k} {n} {P} {x} {y} small r h long ok i j a b =
     (λ t l. moved-mul (term i a t l) (term j b t l) (lit≤ tt) (omega arith))
 
 -- ---- the call
-module _ (k : ℕ) (small : k ≤ maxPower) (r : List Float) (sizes : All (Sized returnRange) r) (n P : ℕ) (h : Float) (long : LongHalfLife P h) where
+module _ (k : ℕ) (small : k ≤ maxPower) (r : List Float) (sizes : All (Sized returnRange) r) (n P : ℕ) (d : Decay) (slow : DecayInRange P d) where
   abbrev mean : List Float → ℕ → Float
-  mean r = weightedMean P (weights P (logDecay h)) (at r n)
+  mean r = weightedMean P (weights P (logDecay d)) (at r n)
 
-  pub weighted-law : (slice slice' : List Float) → length slice' ≡ length slice → Alike (pos k) (parts n (ask r n P (Law.weightedMean h) slice)) (parts n (ask (map (shift (pos k)) r) n P (Law.weightedMean h) slice'))
+  pub weighted-law : (slice slice' : List Float) → length slice' ≡ length slice → Alike (pos k) (parts n (ask r n P (Law.weightedMean d) slice)) (parts n (ask (map (shift (pos k)) r) n P (Law.weightedMean d) slice'))
   unfolding exponentiallyWeightedMean
   weighted-law slice slice' e =
       let r' = map (shift (pos k)) r in
       settled (chained chain) (pos k) n slice slice' (answered Mean (fill n (mean r) slice)) (answered Mean (fill n (mean r') slice'))
       (λ p p' same. record { refusal = refl; entries = tt; meansAndTarget = filled-alike k n (mean r) (mean r') slice slice' same; intensity = tt; sweepsAndRotations = refl })
     where
-      chain : Chain ((i : ℕ) → i < n → T (fits binary64 (mean r i)) × (mean (map (shift (pos k)) r) i ≡ shift (pos k) (mean r i))) (weightedOrder r n P h slice) (weightedOrder (map (shift (pos k)) r) n P h slice')
-      chain = unfold weightedOrder badHalfLife in
-          opening-chain k small r sizes n P n slice slice' e (λ s opens. chain-must (accepted (logDecay h)) (BadSetting HalfLifeField) refl (λ ok. ends (λ i l.
-          let q = long-enough P (s .2) h long in
-          let m = mean-moved small (returns k small r sizes n P s) (weights P (logDecay h)) (weighing P (s .2) (s .3) h (q .0) ok (q .1)) i l in
+      chain : Chain ((i : ℕ) → i < n → T (fits binary64 (mean r i)) × (mean (map (shift (pos k)) r) i ≡ shift (pos k) (mean r i))) (weightedOrder r n P d slice) (weightedOrder (map (shift (pos k)) r) n P d slice')
+      chain = unfold weightedOrder badDecay in
+          opening-chain k small r sizes n P n slice slice' e (λ s opens. chain-must (acceptedDecay d) (BadSetting (decayField d)) refl (λ ok. ends (λ i l.
+          let W = weighing P (s .2) (s .3) (logDecay d) (in-range-decaying P (s .2) (s .3) d slow ok) in
+          let m = mean-moved small (returns k small r sizes n P s) (weights P (logDecay d)) W i l in
           (m .range .fit, m .copy))))

@@ -1,189 +1,125 @@
--- The weights of an accepted half-life h with T - 1 ≤ 64 h: each is from 2 ^ -72 to 2, and the covariance's denominator from 2 ^ -77 to 2 ^ 20. For then no exponent of a weight is below
--- -64 ln 2, which is above -48; and where the decay's logarithm is so small that it is not in the normal range, the two exp_m1 of the denominator are near multiples of it, which cancel. They
--- are the same in both runs. Assumes nothing.
-use mathlib.Core.Path.{_≡_, refl, sym, ap, _∙_, subst, subst₂}
+-- The weights of an accepted log l of the decay with (T - 1) l ≥ -48: each is from 2 ^ -72 to 2, and the covariance's denominator from 2 ^ -77 to 2 ^ 20. Where l is so small that it is not in
+-- the normal range, the two exp_m1 of the denominator are near multiples of it, which cancel. They are the same in both runs. Assumes nothing.
+use mathlib.Core.Path.{_≡_, refl, sym, ap, _∙_, subst}
 use mathlib.Core.Logic.{inl, inr}
-use Prim.Native.Nat.{ℕ, zero, suc, _+_, _-_, _*_, _^_, _≤_, _<_, zero-le}
-use native.Mathlib.Nat.{le-refl, le-trans, le-of-eq, lt-of-lt-of-le, lt-of-le-of-lt, lt-irrefl, mul-le-mul, mul-le-mul-left, mul-le-mul-right, mul-pos, mul-assoc, mul-comm, mul-right-comm, mul-one, one-mul, le-of-mul-le-mul-right}
+use Prim.Native.Nat.{ℕ, _+_, _-_, _*_, _^_, _≤_, _<_, zero-le}
+use native.Mathlib.Nat.{le-refl, le-trans, le-of-eq, lt-of-lt-of-le, lt-of-le-of-lt, lt-irrefl, mul-le-mul, mul-le-mul-left, mul-le-mul-right, mul-pos, mul-assoc, mul-comm, mul-right-comm, mul-one, one-mul}
 use native.Mathlib.Omega.{arith}
 use mathlib.Core.Bool.{Bool, true, false, and-eq-true-iff}
 use lib.Dec.{T, lit≤, lit<}
 use lib.IntN.{pos}
 use lib.Pow.{pow-pos}
-use lib.Ieee.{Float, nan, inf, fin, binary64, fits, unlike, neg, lt, le, eq, div, ofBits}
+use lib.Ieee.{Float, nan, inf, fin, binary64, fits, neg, lt, le, eq}
 use lib.Ieee.Fits.{div-fits}
 use borrow.Author.Tests.{ltb-true}
 use Rattle.leaves.specs.Numbers.{_⊗_, _⊘_, zero⁺, two, count, isFinite}
-use Rattle.leaves.specs.Exp.{ln2, exp, expM1}
+use Rattle.leaves.specs.Exp.{exp, expM1}
 use Rattle.leaves.proofs.Rounding.{near, Representable, near-most, near-least, near-error, near-representable, representable-pow, representable-up}
-use Rattle.leaves.proofs.Units.{U, U-pos, Top, pow-under-Top, Val, sign, mag, zero-mag, val-mag, val-pos, val-finite, mag-val, mag-representable, zero-val, neg-val, finite-mag, rounded-val, rounded-cases, lt-val}
-use Rattle.leaves.proofs.Arithmetic.{mul-rounded, div-rounded}
+use Rattle.leaves.proofs.Units.{U, U-pos, pow-under-Top, Val, sign, mag, val-mag, val-finite, mag-val, mag-representable, zero-val, neg-val, rounded-val, lt-val}
+use Rattle.leaves.proofs.Arithmetic.{div-rounded}
 use Rattle.leaves.proofs.Range.{count-val, range-size, two-val}
 use Rattle.leaves.proofs.Bounds.{Bounded}
 use Rattle.leaves.proofs.Whole.{le-or-lt}
-use Rattle.leaves.proofs.Signs.{sign-round}
-use Rattle.rules.specs.Weighted.{minLogDecay, logDecay, accepted, denominator}
+use Rattle.rules.specs.Weighted.{minLogDecay, accepted, denominator}
 use Rattle.rules.specs.Order.{maxPeriods}
-use Rattle.law.specs.Law.{maxHalfLives}
-use Rattle.law.proofs.Comparisons.{le-yes}
-use Rattle.law.proofs.Exponential.{W, ageMost, argumentMost, U-W, W-pos, W-large, N, N-is, ln2-val, near-above, mul-most, Exp, exp-within, product-least, product-most, ExpM1, expM1-within, exp-above, Weight, exp-val}
-use Rattle.law.proofs.Bits.{periodBits, period-bits, halfLifeBits}
+use Rattle.law.proofs.Exponential.{W, ageMost, argumentMost, U-W, W-pos, mul-most, Exp, exp-within, product-least, product-most, ExpM1, expM1-within, exp-above, Weight, exp-val}
+use Rattle.law.proofs.Bits.{periodBits, period-bits}
 use Rattle.law.proofs.Ranges.{weightBounds, denominatorBounds}
 
--- ---- the logarithm of the decay: finite and below zero, so the half-life is finite and above
-module _ (h : Float) (fit : T (fits binary64 h)) (ok : accepted (logDecay h) ≡ true) where
-  log-val : Val (logDecay h) true (mag (logDecay h)) × (0 < mag (logDecay h))
-  log-val = go (logDecay h) (unfold logDecay in div-fits binary64 (neg ln2) h) ok
-    where
-      signed : (l : Float) (s : Bool) (a : ℕ) → Val l s a → lt l zero⁺ ≡ true → (s ≡ true) × (0 < a)
-      signed l false a v e = absurd (lt-irrefl 0 (lt-of-le-of-lt zero-le (ltb-true a 0 (sym (lt-val l zero⁺ false false a 0 v (zero-val false (pos 0))) ∙ e))))
-      signed l true a v e = (refl, let p = ltb-true 0 (a + 0) (sym (lt-val l zero⁺ true false a 0 v (zero-val false (pos 0))) ∙ e) in omega arith)
+-- ---- the log of a decay
+pub record Decaying (P : ℕ) (l : Float) : Type 0 where
+  pub fit : T (fits binary64 l)
+  pub ok : accepted l ≡ true
+  -- in units, ageMost W being 48
+  pub aged : (P - 1) * mag l ≤ ageMost * W
 
-      go : (l : Float) → T (fits binary64 l) → accepted l ≡ true → Val l true (mag l) × (0 < mag l)
-      go nan t e = unfold accepted le lt eq in absurd (subst T (sym e) tt)
-      go (inf true) t e = unfold accepted le lt eq in absurd (subst T (sym e) tt)
-      go (inf false) t e = unfold accepted le lt eq in absurd (subst T (sym e) tt)
-      go (fin s m x) t e =
-          let v = mag-val (fin s m x) t (unfold isFinite in tt) in
-          let q = signed (fin s m x) (sign (fin s m x)) (mag (fin s m x)) v (and-eq-true-iff (le minLogDecay (fin s m x)) (lt (fin s m x) zero⁺) .0 (unfold accepted in e) .1) in
-          (subst (λ (b : Bool). Val (fin s m x) b (mag (fin s m x))) (q .0) v, q .1)
+-- it is finite and below zero
+pub log-val : (l : Float) → T (fits binary64 l) → accepted l ≡ true → Val l true (mag l) × (0 < mag l)
+log-val nan t e = unfold accepted le lt eq in absurd (subst T (sym e) tt)
+log-val (inf true) t e = unfold accepted le lt eq in absurd (subst T (sym e) tt)
+log-val (inf false) t e = unfold accepted le lt eq in absurd (subst T (sym e) tt)
+log-val (fin s m x) t e =
+    let v = mag-val (fin s m x) t (unfold isFinite in tt) in
+    let q = signed (fin s m x) (sign (fin s m x)) (mag (fin s m x)) v (and-eq-true-iff (le minLogDecay (fin s m x)) (lt (fin s m x) zero⁺) .0 (unfold accepted in e) .1) in
+    (subst (λ (b : Bool). Val (fin s m x) b (mag (fin s m x))) (q .0) v, q .1)
+  where
+    signed : (l : Float) (s : Bool) (a : ℕ) → Val l s a → lt l zero⁺ ≡ true → (s ≡ true) × (0 < a)
+    signed l false a v e = absurd (lt-irrefl 0 (lt-of-le-of-lt zero-le (ltb-true a 0 (sym (lt-val l zero⁺ false false a 0 v (zero-val false (pos 0))) ∙ e))))
+    signed l true a v e = (refl, let p = ltb-true 0 (a + 0) (sym (lt-val l zero⁺ true false a 0 v (zero-val false (pos 0))) ∙ e) in omega arith)
 
-  abbrev a : ℕ
-  a = mag (logDecay h)
+log-held : (l : Float) → T (fits binary64 l) → accepted l ≡ true → Representable (mag l)
+log-held l t e = mag-representable l t (val-finite l true (mag l) (log-val l t e .0)) .0
 
-  log-held : Representable (mag (logDecay h))
-  log-held = mag-representable (logDecay h) (unfold logDecay in div-fits binary64 (neg ln2) h) (val-finite (logDecay h) true a (log-val .0)) .0
-
-  -- h itself
-  half-life : (H : ℕ) × Val h false H × (0 < H) × Representable H × (mag (logDecay h) ≡ near (N * U) H)
-  half-life = go h fit (log-val .0) (log-val .1)
-    where
-      log-is : (h : Float) → logDecay h ≡ neg ln2 ⊘ h
-      log-is h = unfold logDecay in refl
-
-      go : (h : Float) → T (fits binary64 h) → Val (logDecay h) true (mag (logDecay h)) → 0 < mag (logDecay h) → (H : ℕ) × Val h false H × (0 < H) × Representable H × (mag (logDecay h) ≡ near (N * U) H)
-      go nan t v p = unfold logDecay div neg ofBits in absurd v
-      go (inf s) t v p = absurd (lt-irrefl 0 (subst (λ (n : ℕ). 0 < n) (ap mag (log-is (inf s)) ∙ unfold div neg ofBits in zero-mag (unlike true s) (pos 0)) p))
-      go (fin s zero e) t v p = unfold logDecay div neg ofBits in absurd v
-      go (fin s (suc m) e) t v p = signed (mag-val (fin s (suc m) e) t (unfold isFinite in tt)) (mag-representable (fin s (suc m) e) t (unfold isFinite in tt) .0)
-        where
-          H : ℕ
-          H = mag (fin s (suc m) e)
-
-          above : 0 < H
-          above = val-pos s m e (sign (fin s (suc m) e)) H (mag-val (fin s (suc m) e) t (unfold isFinite in tt))
-
-          signed : Val (fin s (suc m) e) (sign (fin s (suc m) e)) H → Representable H → (H : ℕ) × Val (fin s (suc m) e) false H × (0 < H) × Representable H × (mag (logDecay (fin s (suc m) e)) ≡ near (N * U) H)
-          signed w k =
-              let x = fin s (suc m) e in
-              let n = neg-val ln2 false N ln2-val in
-              let q = log-is x ∙ div-rounded (neg ln2) x true (sign x) N H n w above in
-              let i : unlike true (sign x) ≡ true = sym (ap sign q ∙ sign-round (unlike true (sign x)) (N * U) (H * U)) ∙ val-mag (logDecay x) true (mag (logDecay x)) v .0 in
-              let z : sign x ≡ false = not-true (sign x) i in
-              (H, subst (λ (b : Bool). Val x b H) z w, above, k, finite-mag (logDecay x) (unlike true (sign x)) (N * U) H above q (val-finite (logDecay x) true (mag (logDecay x)) v))
-            where
-              not-true : (b : Bool) → unlike true b ≡ true → b ≡ false
-              not-true true i = sym i
-              not-true false i = refl
-
--- ---- T - 1 ≤ 64 h
-times-log : (j a H n u w : ℕ) → j * u ≤ maxHalfLives * H → 100000 * (a * H) ≤ 100001 * (n * u) + 50000 * H → 0 < H → 100000 * n ≤ 69315 * u → u ≡ 32 * w → j ≤ maxPeriods → 10000000 ≤ w → j * a ≤ ageMost * w
-times-log j a H n u w l e p q i few large =
-    let f : j * (100000 * (a * H)) ≤ j * (100001 * (n * u) + 50000 * H) = mul-le-mul-left j e in
-    let g : n * (j * u) ≤ n * (maxHalfLives * H) = mul-le-mul-left n l in
-    let c : 100000 * (j * a) * H ≤ (100001 * maxHalfLives * n + 50000 * j) * H = omega arith in
-    let x = le-of-mul-le-mul-right {k = H} c p in
-    omega arith
-
-module _ (P : ℕ) (periods : 2 ≤ P) (most : P ≤ maxPeriods) (h : Float) (fit : T (fits binary64 h)) (ok : accepted (logDecay h) ≡ true) (long : le (count (P - 1)) (count maxHalfLives ⊗ h) ≡ true) where
+module _ (P : ℕ) (periods : 2 ≤ P) (most : P ≤ maxPeriods) (l : Float) (d : Decaying P l) where
   abbrev m : ℕ
-  m = mag (logDecay h)
+  m = mag l
 
-  -- in units
-  granted : (P - 1) * U ≤ maxHalfLives * half-life h fit ok .0
-  granted =
-      let q = half-life h fit ok in
-      let H = q .0 in
-      let e : near (maxHalfLives * U * H) U ≡ maxHalfLives * H = ap (λ (n : ℕ). near n U) (mul-right-comm maxHalfLives U H) ∙ near-representable (maxHalfLives * H) U U-pos (subst Representable (mul-comm H maxHalfLives) (representable-up H halfLifeBits (q .3))) in
-      let x = mul-rounded (count maxHalfLives) h false false (maxHalfLives * U) H (count-val maxHalfLives (lit≤ tt)) (q .1) in
-      elim (rounded-cases false (maxHalfLives * U * H) U U-pos) [
-        | inl under ↦
-            let v : Val (count maxHalfLives ⊗ h) false (maxHalfLives * H) = subst₂ (λ (z : Float) (n : ℕ). Val z false n) (sym x) e (rounded-val false (maxHalfLives * U * H) U U-pos under) in
-            le-yes (count (P - 1)) (count maxHalfLives ⊗ h) (count-val (P - 1) (le-trans (omega arith) (le-trans most (lit≤ tt)))) v long
-        | inr over ↦ let top : maxPeriods * U ≤ Top = unfold U Top in lit≤ tt in le-trans (mul-le-mul-right U (le-trans (omega arith) most)) (le-trans top (le-trans (over .0) (le-of-eq e)))
-      ]
-
-  times-bound : (j : ℕ) → j ≤ P - 1 → j * mag (logDecay h) ≤ ageMost * W
-  times-bound j few =
-      let q = half-life h fit ok in
-      let H = q .0 in
-      let e : near (N * U) H ≡ mag (logDecay h) = sym (q .4) in
-      times-log j (mag (logDecay h)) H N U W (le-trans (mul-le-mul-right U few) granted)
-      (subst (λ (a : ℕ). 100000 * (a * H) ≤ 100001 * (N * U) + 50000 * H) e (near-above (near (N * U) H) (N * U) H (near-error (N * U) H (q .2)))) (q .2) (N-is .1) U-W (omega arith) W-large
+  times-bound : (j : ℕ) → j ≤ P - 1 → j * mag l ≤ ageMost * W
+  times-bound j few = le-trans (mul-le-mul-right m few) (d .aged)
 
   -- ---- the weights
-  exponent-val : (j : ℕ) → j ≤ P - 1 → Val (count j ⊗ logDecay h) true (near (j * U * mag (logDecay h)) U) × (near (j * U * mag (logDecay h)) U ≤ ageMost * W)
-  exponent-val j few = mul-most ageMost (lit≤ tt) (count j) (logDecay h) false true (j * U) m (count-val j (le-trans few (le-trans (omega arith) (le-trans most (lit≤ tt))))) (log-val h fit ok .0)
+  exponent-val : (j : ℕ) → j ≤ P - 1 → Val (count j ⊗ l) true (near (j * U * mag l) U) × (near (j * U * mag l) U ≤ ageMost * W)
+  exponent-val j few = mul-most ageMost (lit≤ tt) (count j) l false true (j * U) m (count-val j (le-trans few (le-trans (omega arith) (le-trans most (lit≤ tt))))) (log-val l (d .fit) (d .ok) .0)
       (le-trans (le-of-eq (mul-right-comm j U m)) (mul-le-mul-right U (times-bound j few)))
 
-  weight : (j : ℕ) → (few : j ≤ P - 1) → Exp (count j ⊗ logDecay h) (near (j * U * mag (logDecay h)) U)
-  weight j few = let v = exponent-val j few in exp-within (count j ⊗ logDecay h) (near (j * U * m) U) (v .0) (le-trans (v .1) (omega arith))
+  weight : (j : ℕ) → (few : j ≤ P - 1) → Exp (count j ⊗ l) (near (j * U * mag l) U)
+  weight j few = let v = exponent-val j few in exp-within (count j ⊗ l) (near (j * U * m) U) (v .0) (le-trans (v .1) (omega arith))
 
-  pub weight-range : (j : ℕ) → j ≤ P - 1 → Weight (exp (count j ⊗ logDecay h)) × (sign (exp (count j ⊗ logDecay h)) ≡ false) × (0 < mag (exp (count j ⊗ logDecay h)))
+  pub weight-range : (j : ℕ) → j ≤ P - 1 → Weight (exp (count j ⊗ l)) × (sign (exp (count j ⊗ l)) ≡ false) × (0 < mag (exp (count j ⊗ l)))
   weight-range j few =
       let v = exponent-val j few in
       let x = weight j few in
       (x .range (le-trans (v .1) (omega arith)), x .plus, exp-above x)
 
   -- ---- the denominator
-  log-bound : mag (logDecay h) ≤ ageMost * W
+  log-bound : mag l ≤ ageMost * W
   log-bound = le-trans (le-of-eq (sym (one-mul m))) (times-bound 1 (omega arith))
 
-  log-exp : Exp (logDecay h) (mag (logDecay h))
-  log-exp = exp-within (logDecay h) m (log-val h fit ok .0) (le-trans log-bound (omega arith))
+  log-exp : Exp l (mag l)
+  log-exp = exp-within l m (log-val l (d .fit) (d .ok) .0) (le-trans log-bound (omega arith))
 
   -- (T - 1) l, from l to 2 ^ periodBits l
   span : ℕ
-  span = near ((P - 1) * U * mag (logDecay h)) U
+  span = near ((P - 1) * U * mag l) U
 
-  span-within : (mag (logDecay h) ≤ span) × (span ≤ 2 ^ periodBits * mag (logDecay h))
+  span-within : (mag l ≤ span) × (span ≤ 2 ^ periodBits * mag l)
   unfolding span
   span-within =
       let n = (P - 1) * U * m in
-      let k = log-held h fit ok in (
+      let k = log-held l (d .fit) (d .ok) in (
         near-least n U m U-pos k (le-trans (le-of-eq (mul-comm m U)) (mul-le-mul-right m (le-trans (le-of-eq (sym (one-mul U))) (mul-le-mul-right U (omega arith))))),
         near-most n U (2 ^ periodBits * m) U-pos (subst Representable (mul-comm m (2 ^ periodBits)) (representable-up m periodBits k)) (le-trans (mul-le-mul-right m (mul-le-mul-right U (period-bits (le-trans (omega arith) most)))) (le-of-eq (mul-right-comm (2 ^ periodBits) U m))),
       )
 
-  above : ExpM1 (count (P - 1) ⊗ logDecay h) span
+  above : ExpM1 (count (P - 1) ⊗ l) span
   unfolding span
   above =
       let v = exponent-val (P - 1) (le-refl (P - 1)) in
-      expM1-within (count (P - 1) ⊗ logDecay h) (near ((P - 1) * U * m) U) (v .0) (lt-of-lt-of-le (log-val h fit ok .1) (unfold span in span-within .0)) (le-trans (v .1) (omega arith))
+      expM1-within (count (P - 1) ⊗ l) (near ((P - 1) * U * m) U) (v .0) (lt-of-lt-of-le (log-val l (d .fit) (d .ok) .1) (unfold span in span-within .0)) (le-trans (v .1) (omega arith))
 
-  twice-val : Val (two ⊗ logDecay h) true (2 * mag (logDecay h))
+  twice-val : Val (two ⊗ l) true (2 * mag l)
   twice-val =
-      let e : near (2 * U * m) U ≡ 2 * m = ap (λ (n : ℕ). near n U) (mul-right-comm 2 U m) ∙ near-representable (2 * m) U U-pos (subst Representable (mul-comm m 2) (representable-up m 1 (log-held h fit ok))) in
-      subst (Val (two ⊗ logDecay h) true) e (mul-most argumentMost (lit≤ tt) two (logDecay h) false true (2 * U) m two-val (log-val h fit ok .0)
+      let e : near (2 * U * m) U ≡ 2 * m = ap (λ (n : ℕ). near n U) (mul-right-comm 2 U m) ∙ near-representable (2 * m) U U-pos (subst Representable (mul-comm m 2) (representable-up m 1 (log-held l (d .fit) (d .ok)))) in
+      subst (Val (two ⊗ l) true) e (mul-most argumentMost (lit≤ tt) two l false true (2 * U) m two-val (log-val l (d .fit) (d .ok) .0)
       (le-trans (le-of-eq (mul-right-comm 2 U m)) (mul-le-mul-right U (let b = log-bound in omega arith))) .0)
 
-  below : ExpM1 (two ⊗ logDecay h) (2 * mag (logDecay h))
-  below = expM1-within (two ⊗ logDecay h) (2 * m) twice-val (let p = log-val h fit ok .1 in omega arith) (let b = log-bound in omega arith)
+  below : ExpM1 (two ⊗ l) (2 * mag l)
+  below = expM1-within (two ⊗ l) (2 * m) twice-val (let p = log-val l (d .fit) (d .ok) .1 in omega arith) (let b = log-bound in omega arith)
 
   -- 2 λ
   factor : ℕ
-  factor = 2 * mag (exp (logDecay h))
+  factor = 2 * mag (exp l)
 
-  exp-most : mag (exp (logDecay h)) ≤ 54 * W
-  exp-most = let x = log-exp in le-trans (le-trans (le-of-eq (sym (mul-one (mag (exp (logDecay h)))))) (mul-le-mul-left (mag (exp (logDecay h))) (pow-pos (x .power .K)))) (le-trans (le-of-eq (x .is)) (x .most))
+  exp-most : mag (exp l) ≤ 54 * W
+  exp-most = let x = log-exp in le-trans (le-trans (le-of-eq (sym (mul-one (mag (exp l))))) (mul-le-mul-left (mag (exp l)) (pow-pos (x .power .K)))) (le-trans (le-of-eq (x .is)) (x .most))
 
-  factor-val : Val (two ⊗ exp (logDecay h)) false factor
+  factor-val : Val (two ⊗ exp l) false factor
   unfolding factor
   factor-val =
       let x = log-exp in
-      let b = mag (exp (logDecay h)) in
-      let e : near (2 * U * b) U ≡ 2 * b = ap (λ (n : ℕ). near n U) (mul-right-comm 2 U b) ∙ near-representable (2 * b) U U-pos (subst Representable (mul-comm b 2) (representable-up b 1 (mag-representable (exp (logDecay h)) (x .fit) (x .finite) .0))) in
-      subst (Val (two ⊗ exp (logDecay h)) false) e (mul-most 108 (lit≤ tt) two (exp (logDecay h)) false false (2 * U) b two-val (exp-val x) (le-trans (le-of-eq (mul-right-comm 2 U b)) (mul-le-mul-right U (let l = exp-most in omega arith))) .0)
+      let b = mag (exp l) in
+      let e : near (2 * U * b) U ≡ 2 * b = ap (λ (n : ℕ). near n U) (mul-right-comm 2 U b) ∙ near-representable (2 * b) U U-pos (subst Representable (mul-comm b 2) (representable-up b 1 (mag-representable (exp l) (x .fit) (x .finite) .0))) in
+      subst (Val (two ⊗ exp l) false) e (mul-most 108 (lit≤ tt) two (exp l) false false (2 * U) b two-val (exp-val x) (le-trans (le-of-eq (mul-right-comm 2 U b)) (mul-le-mul-right U (let l = exp-most in omega arith))) .0)
 
   -- the two exp_m1, and the dividend
   E₁ : ℕ
@@ -199,37 +135,37 @@ module _ (P : ℕ) (periods : 2 ≤ P) (most : P ≤ maxPeriods) (h : Float) (fi
   unfolding E₁
   E₁-most = elim (le-or-lt span (16 * W)) [ inl c ↦ (let q = above .near-zero c .1 in omega arith) | inr c ↦ (let q = above .far c .1 in omega arith) ]
 
-  dividend-val : Val (two ⊗ exp (logDecay h) ⊗ neg (expM1 (count (P - 1) ⊗ logDecay h))) false dividend × (dividend ≤ 162 * W)
+  dividend-val : Val (two ⊗ exp l ⊗ neg (expM1 (count (P - 1) ⊗ l))) false dividend × (dividend ≤ 162 * W)
   unfolding dividend E₁ factor
-  dividend-val = mul-most 162 (lit≤ tt) (two ⊗ exp (logDecay h)) (neg (expM1 (count (P - 1) ⊗ logDecay h))) false false factor (above .E) factor-val (neg-val (expM1 (count (P - 1) ⊗ logDecay h)) true (above .E) (above .val))
+  dividend-val = mul-most 162 (lit≤ tt) (two ⊗ exp l) (neg (expM1 (count (P - 1) ⊗ l))) false false factor (above .E) factor-val (neg-val (expM1 (count (P - 1) ⊗ l)) true (above .E) (above .val))
       (le-trans (mul-le-mul (mul-le-mul-left 2 exp-most) E₁-most) (le-of-eq (regroup W ∙ ap (λ (u : ℕ). 162 * W * u) (sym U-W))))
     where
       regroup : (w : ℕ) → 2 * (54 * w) * (48 * w) ≡ 162 * w * (32 * w)
       regroup w = omega arith
 
   -- its quotient by the divisor: from 2 ^ -77 to 2 ^ 20
-  close : mag (logDecay h) ≤ 8 * W → (0 < E₂) × (E₂ ≤ 1536 * dividend) × (dividend ≤ 168 * 2 ^ periodBits * E₂)
+  close : mag l ≤ 8 * W → (0 < E₂) × (E₂ ≤ 1536 * dividend) × (dividend ≤ 168 * 2 ^ periodBits * E₂)
   unfolding E₂ dividend E₁ factor
   close c =
       let x = log-exp in
-      let k : mag (exp (logDecay h)) ≡ x .numerator = sym (mul-one (mag (exp (logDecay h)))) ∙ ap (λ (n : ℕ). mag (exp (logDecay h)) * 2 ^ n) (sym (x .power .none c)) ∙ x .is in
-      let n = near-error (2 * mag (exp (logDecay h)) * above .E) U U-pos in
+      let k : mag (exp l) ≡ x .numerator = sym (mul-one (mag (exp l))) ∙ ap (λ (n : ℕ). mag (exp l) * 2 ^ n) (sym (x .power .none c)) ∙ x .is in
+      let n = near-error (2 * mag (exp l) * above .E) U U-pos in
       let b = below .near-zero (omega arith) in
       let s = span-within in
       let e : (m ≤ 16 * above .E) × (above .E ≤ 3 * 2 ^ periodBits * m) = elim (le-or-lt span (16 * W)) [
         | inl q ↦ (let z = above .near-zero q in (omega arith, omega arith))
         | inr q ↦ (let z = above .far q in (omega arith, omega arith))
       ] in
-      let p = log-val h fit ok .1 in
-      let turn : above .E * (2 * mag (exp (logDecay h))) ≡ 2 * mag (exp (logDecay h)) * above .E = mul-comm (above .E) (2 * mag (exp (logDecay h))) in
-      let least : 20 * W ≤ 2 * mag (exp (logDecay h)) = (let l = le-trans (x .least) (le-of-eq (sym k)) in omega arith) in
-      let most : 2 * mag (exp (logDecay h)) ≤ 108 * W = (let l = exp-most in omega arith) in
-      let g = near (2 * mag (exp (logDecay h)) * above .E) U in
-      let q₁ = product-least (above .E) (2 * mag (exp (logDecay h))) g W U U-W W-pos (omega arith) least (le-trans (le-of-eq (ap (λ (z : ℕ). 2 * z) turn)) (n .halved)) in
-      let q₂ = product-most (above .E) (2 * mag (exp (logDecay h))) 108 g W U U-W W-pos most (le-trans (n .doubled) (le-of-eq (ap (λ (z : ℕ). 2 * z) (sym turn)))) in
+      let p = log-val l (d .fit) (d .ok) .1 in
+      let turn : above .E * (2 * mag (exp l)) ≡ 2 * mag (exp l) * above .E = mul-comm (above .E) (2 * mag (exp l)) in
+      let least : 20 * W ≤ 2 * mag (exp l) = (let l = le-trans (x .least) (le-of-eq (sym k)) in omega arith) in
+      let most : 2 * mag (exp l) ≤ 108 * W = (let l = exp-most in omega arith) in
+      let g = near (2 * mag (exp l) * above .E) U in
+      let q₁ = product-least (above .E) (2 * mag (exp l)) g W U U-W W-pos (omega arith) least (le-trans (le-of-eq (ap (λ (z : ℕ). 2 * z) turn)) (n .halved)) in
+      let q₂ = product-most (above .E) (2 * mag (exp l)) 108 g W U U-W W-pos most (le-trans (n .doubled) (le-of-eq (ap (λ (z : ℕ). 2 * z) (sym turn)))) in
       (omega arith, omega arith, omega arith)
 
-  apart : 8 * W < mag (logDecay h) → (5 * W ≤ E₂) × (E₂ ≤ 32 * W) × (2 ^ denominatorBounds .least ≤ dividend)
+  apart : 8 * W < mag l → (5 * W ≤ E₂) × (E₂ ≤ 32 * W) × (2 ^ denominatorBounds .least ≤ dividend)
   unfolding E₂ dividend E₁ factor
   apart c =
       let b = below .far (omega arith) in
@@ -238,8 +174,8 @@ module _ (P : ℕ) (periods : 2 ≤ P) (most : P ≤ maxPeriods) (h : Float) (fi
       let e : 1 * W ≤ 2 * above .E = elim (le-or-lt span (16 * W)) [ inl q ↦ (let z = above .near-zero q .0 in omega arith) | inr q ↦ (let z = above .far q .0 in omega arith) ] in (
         b .0,
         b .1,
-        near-least (2 * mag (exp (logDecay h)) * above .E) U (2 ^ denominatorBounds .least) U-pos (representable-pow (denominatorBounds .least))
-            (le-trans powers (le-trans (mul-le-mul (r .least (exp-above log-exp)) e) (le-of-eq (regroup (mag (exp (logDecay h))) (above .E))))),
+        near-least (2 * mag (exp l) * above .E) U (2 ^ denominatorBounds .least) U-pos (representable-pow (denominatorBounds .least))
+            (le-trans powers (le-trans (mul-le-mul (r .least (exp-above log-exp)) e) (le-of-eq (regroup (mag (exp l)) (above .E))))),
       )
     where
       powers : 2 ^ denominatorBounds .least * U ≤ 2 ^ weightBounds .least * (1 * W)
@@ -249,7 +185,7 @@ module _ (P : ℕ) (periods : 2 ≤ P) (most : P ≤ maxPeriods) (h : Float) (fi
       regroup b E = omega arith
 
   quotient-bounds : (0 < E₂) × (2 ^ denominatorBounds .least * E₂ ≤ dividend * U) × (dividend * U ≤ 2 ^ denominatorBounds .most * E₂)
-  quotient-bounds = elim (le-or-lt (mag (logDecay h)) (8 * W)) [
+  quotient-bounds = elim (le-or-lt (mag l) (8 * W)) [
     | inl c ↦
         let q = close c in (
           q .0,
@@ -273,15 +209,15 @@ module _ (P : ℕ) (periods : 2 ≤ P) (most : P ≤ maxPeriods) (h : Float) (fi
       bigger : (E w : ℕ) → 5 * w ≤ E → 162 * w ≤ 168 * 2 ^ periodBits * E
       bigger E w b = omega arith
 
-  pub denominator-range : Bounded denominatorBounds (denominator P (logDecay h)) × (sign (denominator P (logDecay h)) ≡ false) × (0 < mag (denominator P (logDecay h)))
+  pub denominator-range : Bounded denominatorBounds (denominator P l) × (sign (denominator P l) ≡ false) × (0 < mag (denominator P l))
   unfolding denominator E₂
   denominator-range =
-      let x = two ⊗ exp (logDecay h) ⊗ neg (expM1 (count (P - 1) ⊗ logDecay h)) in
-      let y = neg (expM1 (two ⊗ logDecay h)) in
+      let x = two ⊗ exp l ⊗ neg (expM1 (count (P - 1) ⊗ l)) in
+      let y = neg (expM1 (two ⊗ l)) in
       let q = quotient-bounds in
       let least = near-least (dividend * U) E₂ (2 ^ denominatorBounds .least) (q .0) (representable-pow (denominatorBounds .least)) (q .1) in
       let most = near-most (dividend * U) E₂ (2 ^ denominatorBounds .most) (q .0) (representable-pow (denominatorBounds .most)) (q .2) in
-      let v : Val (x ⊘ y) false (near (dividend * U) E₂) = subst (λ (z : Float). Val z false (near (dividend * U) E₂)) (sym (div-rounded x y false false dividend E₂ (dividend-val .0) (neg-val (expM1 (two ⊗ logDecay h)) true (below .E) (below .val)) (q .0)))
+      let v : Val (x ⊘ y) false (near (dividend * U) E₂) = subst (λ (z : Float). Val z false (near (dividend * U) E₂)) (sym (div-rounded x y false false dividend E₂ (dividend-val .0) (neg-val (expM1 (two ⊗ l)) true (below .E) (below .val)) (q .0)))
       (rounded-val false (dividend * U) E₂ (q .0) (lt-of-le-of-lt most (pow-under-Top (denominatorBounds .most) (lit≤ tt)))) in
       let i = val-mag (x ⊘ y) false (near (dividend * U) E₂) v in
       (range-size (denominatorBounds .least) (2 ^ denominatorBounds .most) (x ⊘ y) (lit≤ tt) (div-fits binary64 x y) (val-finite (x ⊘ y) false (near (dividend * U) E₂) v) (inr (rw (i .1) least)) (rw (i .1) most), i .0, rw (i .1) (lt-of-lt-of-le (pow-pos (denominatorBounds .least)) least))

@@ -1,5 +1,5 @@
--- Demand 3, the power-of-two law, over the definitions of the five calls: its statement. Each field of the hypotheses is a sentence of the demand or of document 01, "Scaling
--- ranges". Of that section only the sentence on two James-Stein decompositions that differ in bits is left out: none do.
+-- Demand 3, the power-of-two law, over the definitions of the five calls: its statement. Each field of the hypotheses is a sentence of the demand, of document 01, "Scaling
+-- ranges", or of document 02, "Paper 1". Of the second only the sentence on two James-Stein decompositions that differ in bits is left out: none do.
 use Prim.Native.Nat.{ℕ, suc, _-_, _*_, _/_, _^_, _≤_}
 use mathlib.Core.Path.{_≡_}
 use mathlib.Core.Bool.{Bool, true, false, not, cond, _&&_, _||_}
@@ -8,14 +8,17 @@ use mathlib.Core.Option.{Option, none, some}
 use lib.Dec.{T, eqb}
 use lib.IntN.{ℤ, pos, negsuc, negℤ, natAbs, _+ℤ_, _*ℤ_}
 use lib.ListN.{length, take}
-use lib.Ieee.{Float, nan, inf, fin, binary64, lt, le, eq, fits, up, down}
+use lib.Ieee.{Float, nan, inf, fin, binary64, neg, lt, le, eq, fits, up, down}
 use Rattle.leaves.specs.Numbers.{_⊗_, count, zero⁺, abs, signum}
 use Rattle.leaves.specs.Scaling.{pow2}
 use Rattle.rules.specs.Refusals.{number, detail}
 use Rattle.rules.specs.declared.Detail.{Detail}
 use Rattle.rules.specs.declared.Detail.the-variants.{Nothing as nothing, Only as only, Entry as entry, Value as value}
+use Rattle.rules.specs.Weighted.{logDecay, acceptedDecay}
 use Rattle.rules.specs.Adjusted.{isSample, isGiven}
 use Rattle.rules.specs.Calls.{Answered, answered, adjustedCovariance, ledoitWolfIntensity, exponentiallyWeightedMean, jamesSteinMean, bayesSteinMean}
+use Rattle.rules.specs.declared.Decay.{Decay}
+use Rattle.rules.specs.declared.Decay.the-variants.{HalfLife, Lambda}
 use Rattle.rules.specs.declared.Estimate.{Estimate}
 use Rattle.rules.specs.declared.Estimate.the-variants.{Sample, Given, Weighted, Semi, SemiBelow}
 use Rattle.rules.specs.declared.Target.{Target}
@@ -67,7 +70,7 @@ Each R (x ∷ xs) (y ∷ ys) = R x y × Each R xs ys
 pub data Question : Type 0 where
   adjusted : Settings → List Float → ℕ → Question
   intensity : Target → Question
-  weightedMean : Float → Question
+  weightedMean : Decay → Question
   jamesStein bayesStein : ℕ → Question
 
 pub record Input : Type 0 where
@@ -80,7 +83,7 @@ pub record Input : Type 0 where
 abbrev pub ask : List Float → ℕ → ℕ → Question → List Float → Answered
 ask r n T (adjusted s given side) slice = adjustedCovariance r n T s given side slice
 ask r n T (intensity F) slice = answered (ledoitWolfIntensity r n T F) slice
-ask r n T (weightedMean halfLife) slice = exponentiallyWeightedMean r n T halfLife slice
+ask r n T (weightedMean decay) slice = exponentiallyWeightedMean r n T decay slice
 ask r n T (jamesStein limit) slice = jamesSteinMean r n T limit slice
 ask r n T (bayesStein limit) slice = bayesSteinMean r n T limit slice
 
@@ -133,6 +136,10 @@ meanRange = 400
 abbrev pub maxHalfLives : ℕ
 maxHalfLives = 64
 
+-- by a decay factor, the log of the first weight is at least -44
+abbrev pub maxAgedLog : ℕ
+maxAgedLog = 44
+
 -- k is from -80 to 80
 abbrev pub maxPower : ℕ
 maxPower = 80
@@ -149,10 +156,19 @@ AtLeast l x = T (not (lt zero⁺ (abs x) && lt (abs x) (pow2 (negℤ (pos l)))))
 abbrev pub LongHalfLife : ℕ → Float → Type 0
 LongHalfLife periods h = T (fits binary64 h && (eqb periods 0 || le (count (periods - 1)) (count maxHalfLives ⊗ h)))
 
+-- "The power-of-two law covers such papers where (T − 1) × log is at least −44", log being that of an accepted decay factor; where the exact product is at least -44,
+-- so is the rounded one
+abbrev pub SlowFactor : ℕ → Float → Type 0
+SlowFactor periods f = T (not (acceptedDecay (Lambda f)) || le (neg (count maxAgedLog)) (count (periods - 1) ⊗ logDecay (Lambda f)))
+
+abbrev pub DecayInRange : ℕ → Decay → Type 0
+DecayInRange periods (HalfLife h) = LongHalfLife periods h
+DecayInRange periods (Lambda f) = SlowFactor periods f
+
 abbrev pub EstimateInRange : ℕ → Estimate → Type 0
 EstimateInRange periods Sample = Unit {0}
 EstimateInRange periods Given = Unit {0}
-EstimateInRange periods (Weighted halfLife) = LongHalfLife periods halfLife
+EstimateInRange periods (Weighted decay) = DecayInRange periods decay
 EstimateInRange periods Semi = Unit {0}
 EstimateInRange periods (SemiBelow threshold) = Sized returnRange threshold
 
@@ -167,7 +183,7 @@ ShrinkageInRange (Fixed δ) sample r n T = lib.Dec.T (fits binary64 δ) × AtLea
 ShrinkageInRange (LedoitWolf F) sample r n T = All (AtLeast intensityRange) (cond sample (answerParts n (ledoitWolfIntensity r n T F) [] .intensity) [])
 
 pub record SettingsInRange (a : Input) (s : Settings) (g : List Float) : Type 0 where
-  -- "In both inputs every return and threshold is 0 or of size 2^−40 to 2^40"; the half-life
+  -- "In both inputs every return and threshold is 0 or of size 2^−40 to 2^40"; the decay
   pub estimate : EstimateInRange (a .periods) (s .estimate)
   -- "Given entries and regularization are 0 or of size 2^−80 to 2^80"
   pub given : isGiven (s .estimate) ≡ true → All (Sized covarianceRange) g
@@ -183,7 +199,7 @@ Large w = All (AtLeast meanRange) (w .meansAndTarget ++ w .intensity)
 abbrev pub QuestionInRange : Input → Question → Type 0
 QuestionInRange a (adjusted s given side) = SettingsInRange a s given
 QuestionInRange a (intensity F) = Unit {0}
-QuestionInRange a (weightedMean halfLife) = LongHalfLife (a .periods) halfLife × All (AtLeast meanRange) (answer a .meansAndTarget)
+QuestionInRange a (weightedMean decay) = DecayInRange (a .periods) decay × All (AtLeast meanRange) (answer a .meansAndTarget)
 QuestionInRange a (jamesStein limit) = Large (answer a)
 QuestionInRange a (bayesStein limit) = Large (answer a)
 
@@ -197,11 +213,11 @@ pub record InRange (a : Input) : Type 0 where
 abbrev pub Copy : ℤ → Float → Float → Type 0
 Copy k x y = Times k x y × (signum x ≡ signum y)
 
--- "the second's threshold is the first's times 2^k"; half-lives are not scaled
+-- "the second's threshold is the first's times 2^k"; half-lives and decay factors are not scaled
 pub data CopiedEstimate (k : ℤ) : Estimate → Estimate → Type 0 where
   sample : CopiedEstimate k Sample Sample
   given : CopiedEstimate k Given Given
-  weighted : {halfLife : Float} → CopiedEstimate k (Weighted halfLife) (Weighted halfLife)
+  weighted : {decay : Decay} → CopiedEstimate k (Weighted decay) (Weighted decay)
   semi : CopiedEstimate k Semi Semi
   semiBelow : {x y : Float} → Copy k x y → CopiedEstimate k (SemiBelow x) (SemiBelow y)
 
@@ -222,7 +238,7 @@ pub record CopiedSettings (k : ℤ) (s s' : Settings) (g g' : List Float) : Type
 pub data CopiedQuestion (k : ℤ) : Question → Question → Type 0 where
   covariance : {s s' : Settings} {g g' : List Float} {side : ℕ} → CopiedSettings k s s' g g' → CopiedQuestion k (adjusted s g side) (adjusted s' g' side)
   ledoitWolf : {F : Target} → CopiedQuestion k (intensity F) (intensity F)
-  weighted : {halfLife : Float} → CopiedQuestion k (weightedMean halfLife) (weightedMean halfLife)
+  weighted : {decay : Decay} → CopiedQuestion k (weightedMean decay) (weightedMean decay)
   james : {limit : ℕ} → CopiedQuestion k (jamesStein limit) (jamesStein limit)
   bayes : {limit : ℕ} → CopiedQuestion k (bayesStein limit) (bayesStein limit)
 

@@ -6,6 +6,7 @@ use lib.IntN.{ℤ}
 use lib.Ieee.{fin}
 use Rattle.leaves.specs.Numbers.{half, one}
 use Rattle.matrix.specs.Limits.{maxSweeps}
+use Rattle.rules.specs.declared.Decay.the-variants.{HalfLife, Lambda}
 use Rattle.rules.specs.declared.Estimate.{Estimate}
 use Rattle.rules.specs.declared.Estimate.the-variants.{Sample, Given, Weighted, SemiBelow}
 use Rattle.rules.specs.declared.Target.the-variants.{ConstantCorrelation}
@@ -19,7 +20,7 @@ use Rattle.rules.specs.Adjusted.{isSample}
 use Rattle.examples.proofs.Evaluated.{evaluated}
 use Rattle.law.specs.Law as Law
 use Rattle.law.specs.Law.{Question, Input, adjusted, EstimateInRange, RegularizationInRange, ShrinkageInRange, SettingsInRange, CopiedEstimate, CopiedRegularization, CopiedSettings, sample, given, semiBelow, unregularized, ridge, covariance}
-use Rattle.law_examples.proofs.Inputs.{lowReturn, highReturn, lowCovariance, highCovariance, matrix, Pair, pair}
+use Rattle.law_examples.proofs.Inputs.{factor, lowReturn, highReturn, lowCovariance, highCovariance, matrix, Pair, pair}
 
 -- ---- no matrix given: the question, its settings in range, and its settings scaled
 abbrev ungiven : Estimate → Shrinkage → Regularization → Question
@@ -42,9 +43,14 @@ unfolding evaluated
 shrunk-pair = pair refl refl (in-range tt tt (tt, tt)) (in-range tt tt (tt, tt)) (covariance (copied sample (ridge (refl, refl)) refl refl))
 
 -- exponentially weighted, half-life 1
-pub weighted-pair : Pair (ungiven (Weighted one) Unshrunk Unregularized) (ungiven (Weighted one) Unshrunk Unregularized)
+pub weighted-pair : Pair (ungiven (Weighted (HalfLife one)) Unshrunk Unregularized) (ungiven (Weighted (HalfLife one)) Unshrunk Unregularized)
 unfolding evaluated
 weighted-pair = pair refl refl (in-range tt tt tt) (in-range tt tt tt) (covariance (copied Law.CopiedEstimate.weighted unregularized refl refl))
+
+-- exponentially weighted, decay factor 0.94
+pub factor-pair : Pair (ungiven (Weighted (Lambda factor)) Unshrunk Unregularized) (ungiven (Weighted (Lambda factor)) Unshrunk Unregularized)
+unfolding evaluated
+factor-pair = pair refl refl (in-range tt tt tt) (in-range tt tt tt) (covariance (copied Law.CopiedEstimate.weighted unregularized refl refl))
 
 -- the semicovariance below the smallest and the largest threshold of the range
 pub semi-pair : Pair (ungiven (SemiBelow (fin false 1 lowReturn)) Unshrunk Unregularized) (ungiven (SemiBelow (fin false 1 highReturn)) Unshrunk Unregularized)

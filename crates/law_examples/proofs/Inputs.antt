@@ -8,7 +8,7 @@ use mathlib.Core.Option.{none}
 use lib.Dec.{lit≤}
 use lib.IntN.{ℤ, pos, negℤ}
 use lib.Ieee.{Float, fin}
-use Rattle.leaves.specs.Numbers.{zero⁺, one}
+use Rattle.leaves.specs.Numbers.{float, zero⁺, one}
 use Rattle.examples.proofs.Evaluated.{evaluated}
 use Rattle.law.specs.Law.{Question, Input, answer, All, Each, Copy, Sized, CopiedQuestion, QuestionInRange, Scaled, returnRange, covarianceRange, maxPower}
 use Rattle.law.proofs.Theorem.{turned-down}
@@ -32,6 +32,10 @@ highCovariance = pos covarianceRange
 -- rows (0, -2^e), (2^e, 0), (0, 0)
 abbrev returns : ℤ → List Float
 returns e = zero⁺ ∷ fin true 1 e ∷ fin false 1 e ∷ zero⁺ ∷ zero⁺ ∷ zero⁺ ∷ []
+
+-- the decay factor 0.94, as the nearest float
+abbrev pub factor : Float
+factor = float 0x3FEE_147A_E147_AE14
 
 -- a matrix to be given
 abbrev pub matrix : ℤ → List Float

@@ -2,11 +2,12 @@
 use mathlib.Core.Path.{refl}
 use Rattle.leaves.specs.Numbers.{one}
 use Rattle.matrix.specs.Limits.{maxSweeps}
+use Rattle.rules.specs.declared.Decay.the-variants.{HalfLife, Lambda}
 use Rattle.rules.specs.declared.Target.the-variants.{ConstantVariance}
 use Rattle.examples.proofs.Evaluated.{evaluated}
 use Rattle.law.specs.Law as Law
 use Rattle.law.specs.Law.{intensity, weightedMean, jamesStein, bayesStein, ledoitWolf, james, bayes}
-use Rattle.law_examples.proofs.Inputs.{Pair, pair}
+use Rattle.law_examples.proofs.Inputs.{factor, Pair, pair}
 
 -- Ledoit and Wolf's intensity, to constant variance
 pub intensity-pair : Pair (intensity ConstantVariance) (intensity ConstantVariance)
@@ -14,9 +15,14 @@ unfolding evaluated
 intensity-pair = pair refl refl tt tt ledoitWolf
 
 -- the exponentially weighted mean, half-life 1
-pub mean-pair : Pair (weightedMean one) (weightedMean one)
+pub mean-pair : Pair (weightedMean (HalfLife one)) (weightedMean (HalfLife one))
 unfolding evaluated
 mean-pair = pair refl refl (tt, (tt, (tt, tt))) (tt, (tt, (tt, tt))) Law.CopiedQuestion.weighted
+
+-- the exponentially weighted mean, decay factor 0.94
+pub factor-mean-pair : Pair (weightedMean (Lambda factor)) (weightedMean (Lambda factor))
+unfolding evaluated
+factor-mean-pair = pair refl refl (tt, (tt, (tt, tt))) (tt, (tt, (tt, tt))) Law.CopiedQuestion.weighted
 
 -- the James-Stein mean
 pub james-pair : Pair (jamesStein maxSweeps) (jamesStein maxSweeps)

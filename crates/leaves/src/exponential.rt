@@ -9,9 +9,9 @@ use crate::scaling::pow2_scaled;
 // ln 2; and in two parts, of which H has so few digits that its products with whole numbers are exact.
 pub const LN_2: f64 = 0.693147180559945309417232121458;
 
-const H: f64 = 6.93147180369123816490e-01;
+pub(crate) const H: f64 = 6.93147180369123816490e-01;
 
-const L: f64 = 1.90821492927058770002e-10;
+pub(crate) const L: f64 = 1.90821492927058770002e-10;
 
 // p = 1 + (r * p) / m, for m from n + d down to 1 + d, from p = 1.
 fn horner(r: f64, n: u32, d: u32) -> f64

@@ -8,21 +8,23 @@ use lib.IntN.{pos, negsuc}
 use lib.Ieee.{nan, inf, fin, sub, mul, div, le, ofInt, ofBits, toBits}
 use Rattle.leaves.specs.Numbers.{isFinite, abs, larger, float}
 use Rattle.leaves.specs.Loops.{loop, sumTo, amaxTo, firstTo, tab, fill}
+use Rattle.leaves.specs.Log.{between01}
 use Rattle.leaves.specs.Shift.{shift}
 use Rattle.leaves.specs.Root.{root, sticky, halfExponent, radicand, sqrt}
 use Rattle.matrix.specs.Matrix.{rows, trace, firstEntry, allFinite}
 use Rattle.rules.specs.Refusals.{first}
 use Rattle.rules.specs.Sample.{mean, deviation, gram, covariance, largest, constantAsset}
+use Rattle.rules.specs.Weighted.{acceptedDecay}
 use Rattle.rules.specs.Adjusted.{base, intensity, shrunk, regularized, adjusted, isAdjusted}
-use Rattle.rules.specs.Order.{notFinite, opening, ofGiven, badRegularization, badShrinkage, badEstimate, notTheSample, noCorrelation, noVariance, ofSettings, adjustedOrder}
-use Rattle.rules.specs.Calls.{settle, adjustedWith, adjustedReturns, adjustedCovariance}
+use Rattle.rules.specs.Order.{notFinite, opening, ofGiven, badRegularization, badShrinkage, badDecay, badEstimate, notTheSample, noCorrelation, noVariance, ofSettings, adjustedOrder, weightedOrder}
+use Rattle.rules.specs.Calls.{settle, adjustedWith, adjustedReturns, adjustedCovariance, exponentiallyWeightedMean}
 use Rattle.paper.specs.declared.screen.Shown.the-variants.{Big, Number}
 use Rattle.paper.specs.Text.{glyph, digits, unpadded}
 use Rattle.paper.specs.Screen.{shownAs, shown, shownText, screenText}
 use Rattle.paper.specs.Answer.{refused, bitsText, lineText, linesText, outcome, outcomeText}
 use Rattle.paper.specs.Grammar.{kinds, placeIn, little, starts, taken, sheet}
-use Rattle.paper.specs.Rules.{outline, present, shapeFits, settingsFit, takes, wellFormed, malformed, isQuestion, readPaper}
-use Rattle.paper.specs.Marking.{estimateOf, shrinkageOf, regularizationOf, settingsOf, asked, columns, answerOf, examined, marking}
+use Rattle.paper.specs.Rules.{outline, present, shapeFits, settingsFit, hasDecay, takes, wellFormed, malformed, isQuestion, readPaper}
+use Rattle.paper.specs.Marking.{decayOf, estimateOf, shrinkageOf, regularizationOf, settingsOf, asked, columns, answerOf, examined, marking}
 
 -- 01 0200 0200 | 02 000000000000F03F | 02 0000000000000040 | 02 0000000000000840 | 02 0000000000001840 | 0B 00
 abbrev case-6 : List ℕ
@@ -51,7 +53,7 @@ text-6 =
 
 -- what a computed case unfolds
 unfoldable computed : ℕ
-unfolding marking examined readPaper isQuestion sheet kinds taken starts little outline wellFormed shapeFits settingsFit takes present placeIn answerOf columns asked settingsOf estimateOf shrinkageOf regularizationOf adjustedWith adjustedReturns adjustedCovariance settle first adjustedOrder opening ofGiven ofSettings notFinite badRegularization badShrinkage badEstimate notTheSample noCorrelation noVariance isAdjusted base covariance gram deviation mean largest constantAsset intensity adjusted shrunk regularized rows trace firstEntry allFinite loop sumTo amaxTo firstTo tab fill isFinite abs larger sqrt root sticky halfExponent radicand shift sub mul div le ofInt ofBits outcome outcomeText linesText lineText shownText shown shownAs digits unpadded glyph toBits
+unfolding marking examined readPaper isQuestion sheet kinds taken starts little outline wellFormed shapeFits settingsFit hasDecay takes present placeIn answerOf columns asked settingsOf decayOf estimateOf shrinkageOf regularizationOf adjustedWith adjustedReturns adjustedCovariance exponentiallyWeightedMean settle first adjustedOrder weightedOrder opening ofGiven ofSettings notFinite badRegularization badShrinkage badDecay acceptedDecay between01 badEstimate notTheSample noCorrelation noVariance isAdjusted base covariance gram deviation mean largest constantAsset intensity adjusted shrunk regularized rows trace firstEntry allFinite loop sumTo amaxTo firstTo tab fill isFinite abs larger sqrt root sticky halfExponent radicand shift sub mul div le ofInt ofBits outcome outcomeText linesText lineText shownText shown shownAs digits unpadded glyph toBits
 computed = 0
 
 pub marking-6 : marking case-6 ≡ text-6
@@ -81,7 +83,7 @@ pub record Malformed : Type 0 where
   pub no-question : readPaper (shape 0 2) ≡ malformed
   pub twice : readPaper (shape 0 2 ++ zero-of 3 ++ zero-of 3 ++ ask 0) ≡ malformed
   pub falling : readPaper (shape 0 2 ++ zero-of 4 ++ zero-of 3 ++ ask 0) ≡ malformed
-  pub unknown : readPaper (shape 0 2 ++ 12 ∷ 0 ∷ [] ++ ask 0) ≡ malformed
+  pub unknown : readPaper (shape 0 2 ++ 13 ∷ 0 ∷ [] ++ ask 0) ≡ malformed
   pub nine-assets : readPaper (shape 9 0 ++ ask 0) ≡ malformed
   pub periods-129 : readPaper (shape 0 129 ++ ask 0) ≡ malformed
   pub too-few-returns : readPaper (shape 1 2 ++ zero-of 2 ++ ask 0) ≡ malformed
@@ -91,9 +93,16 @@ pub record Malformed : Type 0 where
   pub target-2 : readPaper (shape 0 2 ++ 5 ∷ 2 ∷ [] ++ ask 0) ≡ malformed
   pub question-4 : readPaper (shape 0 2 ++ ask 4) ≡ malformed
   pub limit-alone : readPaper (shape 0 2 ++ 10 ∷ 5 ∷ [] ++ ask 0) ≡ malformed
-  pub no-half-life : readPaper (shape 0 2 ++ ask 1) ≡ malformed
+  pub no-decay : readPaper (shape 0 2 ++ ask 1) ≡ malformed
   pub weighted-and-more : readPaper (shape 0 2 ++ zero-of 3 ++ zero-of 6 ++ ask 1) ≡ malformed
   pub stein-and-more : readPaper (shape 0 2 ++ zero-of 3 ++ ask 2) ≡ malformed
+  -- kind 12, in its place before 11
+  pub factor-after-11 : readPaper (shape 0 2 ++ ask 1 ++ zero-of 12) ≡ malformed
+  pub factor-before-5 : readPaper (shape 0 2 ++ zero-of 12 ++ 5 ∷ 0 ∷ [] ++ ask 0) ≡ malformed
+  pub two-decays : readPaper (shape 0 2 ++ zero-of 6 ++ zero-of 12 ++ ask 1) ≡ malformed
+  pub factor-and-more : readPaper (shape 0 2 ++ zero-of 3 ++ zero-of 12 ++ ask 1) ≡ malformed
+  pub factor-and-limit : readPaper (shape 0 2 ++ 10 ∷ 100 ∷ [] ++ zero-of 12 ++ ask 0) ≡ malformed
+  pub factor-of-stein : readPaper (shape 0 2 ++ zero-of 12 ++ ask 2) ≡ malformed
 
 pub malformed-files : Malformed
 unfolding computed
@@ -115,9 +124,15 @@ malformed-files = record {
   target-2 = refl;
   question-4 = refl;
   limit-alone = refl;
-  no-half-life = refl;
+  no-decay = refl;
   weighted-and-more = refl;
   stein-and-more = refl;
+  factor-after-11 = refl;
+  factor-before-5 = refl;
+  two-decays = refl;
+  factor-and-more = refl;
+  factor-and-limit = refl;
+  factor-of-stein = refl;
 }
 
 -- well-formed files that the engine refuses; a malformed one is refused before that
@@ -125,11 +140,12 @@ pub record Refused : Type 0 where
   pub no-assets : marking (shape 0 128 ++ ask 0) ≡ refusal 1
   pub one-period : marking (shape 1 1 ++ zero-of 2 ++ ask 0) ≡ refusal 3
   pub zero-variance : marking (shape 1 2 ++ zero-of 2 ++ zero-of 2 ++ ask 0) ≡ refusal 9
+  pub factor-of-0 : marking (shape 1 2 ++ zero-of 2 ++ zero-of 2 ++ zero-of 12 ++ ask 1) ≡ refusal 7
   pub malformed-first : marking (shape 0 129 ++ ask 0) ≡ refusal 15
 
 pub refused-files : Refused
 unfolding computed
-refused-files = record { no-assets = refl; one-period = refl; zero-variance = refl; malformed-first = refl }
+refused-files = record { no-assets = refl; one-period = refl; zero-variance = refl; factor-of-0 = refl; malformed-first = refl }
 
 -- ---- the screen number
 

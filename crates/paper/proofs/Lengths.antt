@@ -14,6 +14,7 @@ use Rattle.leaves.specs.Numbers.{zero⁺}
 use Rattle.rules.specs.Calls.{adjustedCovariance, exponentiallyWeightedMean, jamesSteinMean, bayesSteinMean}
 use Rattle.rules.specs.declared.Answer.{Answer}
 use Rattle.rules.specs.declared.Answer.the-variants.{Refused, Covariance, Intensity, Mean, Shrunk}
+use Rattle.rules.specs.declared.Decay.{Decay}
 use Rattle.rules.specs.declared.Settings.{Settings}
 use Rattle.rules.proofs.Opened.{settle-length}
 use Rattle.rules.proofs.AdjustedCall.{adjusted-is}
@@ -56,7 +57,7 @@ sheet-bytes (k ∷ ks) bs = omega (arith, taken-bytes k (k .most) bs, sheet-byte
 
 -- as many records of each kind as there may be
 abbrev pub maxFile : ℕ
-maxFile = 9840
+maxFile = 9849
 
 -- a longer file is no question
 pub too-long : (bs : List ℕ) → maxFile < length bs → readPaper bs ≡ malformed
@@ -120,9 +121,9 @@ module _ (r : List Float) (n T : ℕ) (slice : List Float) where
   covariance-length s g side h = rw (adjusted-is r n T s g side slice) (settle-length _ _ (n * n) _ slice (λ e. h))
 
   module _ (h : n ≤ length slice) where
-    weighted-length : (l : Float) → length (exponentiallyWeightedMean r n T l slice .slice) ≡ length slice
+    weighted-length : (d : Decay) → length (exponentiallyWeightedMean r n T d slice .slice) ≡ length slice
     unfolding exponentiallyWeightedMean
-    weighted-length l = settle-length _ _ n _ slice (λ e. h)
+    weighted-length d = settle-length _ _ n _ slice (λ e. h)
 
     james-stein-length : (l : ℕ) → length (jamesSteinMean r n T l slice .slice) ≡ length slice
     unfolding jamesSteinMean

@@ -11,11 +11,12 @@ use lib.Ieee.{Float, ofBits}
 use borrow.Author.Tests.{eq-eqb, ne-eqb}
 use Rattle.leaves.specs.Numbers.{float}
 use Rattle.rules.specs.Calls.{adjustedCovariance, exponentiallyWeightedMean, jamesSteinMean, bayesSteinMean}
+use Rattle.rules.specs.declared.Decay.{Decay}
 use Rattle.rules.specs.declared.Settings.{Settings}
 use Rattle.paper.specs.declared.format.Outline.{Outline}
 use Rattle.paper.specs.Grammar.{fileAssets}
 use Rattle.paper.specs.Rules.{value, assets, periods}
-use Rattle.paper.specs.Marking.{settingsOf, limitOf, asked, columns, printed, answerOf}
+use Rattle.paper.specs.Marking.{decayOf, settingsOf, limitOf, asked, columns, printed, answerOf}
 
 -- ---- the question asked, from what the code holds: n, t and the settings
 
@@ -24,9 +25,9 @@ module _ (q : ℕ) (o : Outline) (r g slice : List Float) (n t : ℕ) (en : n �
   unfolding asked
   asked-0 s es e = rw (en, et, es, eq-eqb q 0 e, asked)
 
-  pub asked-1 : (h : Float) → h ≡ float (value o 6) → (q ≡ 0 → ⊥) → q ≡ 1 → exponentiallyWeightedMean r n t h slice ≡ asked q o r g slice
+  pub asked-1 : (d : Decay) → d ≡ decayOf o → (q ≡ 0 → ⊥) → q ≡ 1 → exponentiallyWeightedMean r n t d slice ≡ asked q o r g slice
   unfolding asked
-  asked-1 h eh z e = rw (en, et, eh, ne-eqb q 0 z, asked, eq-eqb q 1 e, asked)
+  asked-1 d ed z e = rw (en, et, ed, ne-eqb q 0 z, asked, eq-eqb q 1 e, asked)
 
   module _ (l : ℕ) (el : l ≡ limitOf o) (z : q ≡ 0 → ⊥) (w : q ≡ 1 → ⊥) where
     pub asked-2 : q ≡ 2 → jamesSteinMean r n t l slice ≡ asked q o r g slice

@@ -14,7 +14,7 @@ use Rattle.paper.specs.Grammar.{kinds, placeIn}
 use Rattle.paper.specs.Inner.{missing}
 use Rattle.paper.proofs.Writes.{drop-next}
 
-pub how-many : length kinds ≡ 11
+pub how-many : length kinds ≡ 12
 unfolding kinds
 how-many = refl
 

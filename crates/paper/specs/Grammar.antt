@@ -1,6 +1,6 @@
--- Document 01, "The exam program": the question file. The grammar is data: the kinds in the order of the file, each with its byte, the length of its body
--- and how many records of it there may be. A file is taken kind by kind; what is read of a kind is the list of its bodies, as numbers. A number of 8 bytes
--- stays a number here, since a float would not keep the bits of a NaN. Definitions only.
+-- Document 01, "The exam program", and document 02, "Paper 1", kind 12: the question file. The grammar is data: the kinds in the order of the file, each
+-- with its byte, the length of its body and how many records of it there may be. A file is taken kind by kind; what is read of a kind is the list of its
+-- bodies, as numbers. A number of 8 bytes stays a number here, since a float would not keep the bits of a NaN. Definitions only.
 use Prim.Native.Nat.{ℕ, zero, suc, _+_, _*_}
 use mathlib.Core.Bool.{Bool, _&&_, cond}
 use mathlib.Core.List.{List, [], _∷_}
@@ -19,7 +19,7 @@ abbrev pub kind : ℕ → ℕ → ℕ → Kind
 kind b l m = record { byte = b; body = l; most = m }
 
 -- 1 assets and periods, 2 a return, 3 regularization, 4 fixed shrinkage, 5 target, 6 half-life, 7 semi, 8 semi threshold, 9 a given entry, 10 sweep limit,
--- 11 question
+-- 12 decay factor, 11 question
 unfoldable pub kinds : List Kind
 kinds =
     kind 1 4 1 ∷
@@ -32,6 +32,7 @@ kinds =
     kind 8 8 1 ∷
     kind 9 8 (fileAssets * fileAssets) ∷
     kind 10 1 1 ∷
+    kind 12 8 1 ∷
     kind 11 1 1 ∷
     []
 

@@ -18,9 +18,9 @@ use Rattle.paper.specs.Rules.{outline, Reading, malformed, question, rea
 abbrev pub missing : Kind
 missing = kind 0 0 0
 
--- the most records of a file: nine of the eleven kinds come once at most
+-- the most records of a file: ten of the twelve kinds come once at most
 abbrev pub maxRecords : ℕ
-maxRecords = filePeriods * fileAssets + fileAssets * fileAssets + 9
+maxRecords = filePeriods * fileAssets + fileAssets * fileAssets + 10
 
 -- t was taken of the file s; its bodies went into the numbers v at i, which became v'
 pub record TookIs (s : List ℕ) (t : Taken) (v : List ℕ) (i : ℕ) (v' : List ℕ) (r : Took) : Type 0 where

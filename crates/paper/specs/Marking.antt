@@ -1,4 +1,5 @@
--- Document 01, "The exam program", as a whole: from the bytes of a question file to the bytes that are printed. Definitions only.
+-- Document 01, "The exam program", with document 02, "Paper 1", kind 12, as a whole: from the bytes of a question file to the bytes that are printed.
+-- Definitions only.
 use Prim.Native.Nat.{ℕ, _*_}
 use mathlib.Core.Bool.{true, false, cond}
 use mathlib.Core.List.{List, [], map}
@@ -9,6 +10,8 @@ use Rattle.leaves.specs.Numbers.{zero⁺, float}
 use Rattle.matrix.specs.Limits.{maxSweeps}
 use Rattle.rules.specs.Settings.{targetOf}
 use Rattle.rules.specs.Calls.{Answered, adjustedCovariance, exponentiallyWeightedMean, jamesSteinMean, bayesSteinMean}
+use Rattle.rules.specs.declared.Decay.{Decay}
+use Rattle.rules.specs.declared.Decay.the-variants.{HalfLife, Lambda}
 use Rattle.rules.specs.declared.Estimate.{Estimate}
 use Rattle.rules.specs.declared.Estimate.the-variants.{Sample, Given, Weighted, Semi, SemiBelow}
 use Rattle.rules.specs.declared.Shrinkage.{Shrinkage}
@@ -18,14 +21,17 @@ use Rattle.rules.specs.declared.Regularization.the-variants.{Unregularized, Rid
 use Rattle.rules.specs.declared.Settings.{Settings}
 use Rattle.paper.specs.declared.format.Outline.{Outline}
 use Rattle.paper.specs.Grammar.{kinds, placeIn}
-use Rattle.paper.specs.Rules.{outline, has, value, assets, periods, Reading, malformed, question, readPaper}
+use Rattle.paper.specs.Rules.{outline, has, value, assets, periods, hasDecay, Reading, malformed, question, readPaper}
 use Rattle.paper.specs.Answer.{malformedNumber, Outcome, refused, outcome, outcomeText}
 
 -- ---- the settings record
 
+unfoldable pub decayOf : Outline → Decay
+decayOf o = cond (has o 6) (HalfLife (float (value o 6))) (Lambda (float (value o 12)))
+
 unfoldable pub estimateOf : Outline → Estimate
 estimateOf o =
-    cond (has o 6) (Weighted (float (value o 6)))
+    cond (hasDecay o) (Weighted (decayOf o))
     (cond (has o 7) Semi
     (cond (has o 8) (SemiBelow (float (value o 8)))
     (cond (has o 9) Given Sample)))
@@ -53,7 +59,7 @@ asked q o returns given slice =
     elim (eqb q 0) [
       | true ↦ adjustedCovariance returns n T (settingsOf o) given n slice
       | false ↦ elim (eqb q 1) [
-        | true ↦ exponentiallyWeightedMean returns n T (float (value o 6)) slice
+        | true ↦ exponentiallyWeightedMean returns n T (decayOf o) slice
         | false ↦ elim (eqb q 2) [ true ↦ jamesSteinMean returns n T (limitOf o) slice | false ↦ bayesSteinMean returns n T (limitOf o) slice ]
       ]
     ]

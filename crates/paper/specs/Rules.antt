@@ -1,5 +1,5 @@
--- Document 01, "The exam program": which files are questions. The rules look at an outline: of each kind, in the order of the file, how many records there are
--- and the first body, 0 where there is none. Definitions only.
+-- Document 01, "The exam program", and document 02, "Paper 1", kind 12: which files are questions. The rules look at an outline: of each kind, in the order
+-- of the file, how many records there are and the first body, 0 where there is none. Definitions only.
 use Prim.Native.Nat.{ℕ, suc, _*_, _/_, _%_}
 use mathlib.Core.Bool.{Bool, not, _&&_, _||_, cond}
 use mathlib.Core.List.{List, [], _∷_, map}
@@ -46,24 +46,28 @@ shapeFits o =
     eqb (count o 2) (periods o * assets o) && (eqb (count o 9) 0 || eqb (count o 9) (assets o * assets o))
 
 abbrev pub settings : List ℕ
-settings = 3 ∷ 4 ∷ 5 ∷ 6 ∷ 7 ∷ 8 ∷ 9 ∷ 10 ∷ []
+settings = 3 ∷ 4 ∷ 5 ∷ 6 ∷ 7 ∷ 8 ∷ 9 ∷ 10 ∷ 12 ∷ []
 
 abbrev pub shrinkages : List ℕ
 shrinkages = 4 ∷ 5 ∷ []
 
 abbrev pub estimates : List ℕ
-estimates = 6 ∷ 7 ∷ 8 ∷ 9 ∷ []
+estimates = 6 ∷ 7 ∷ 8 ∷ 9 ∷ 12 ∷ []
 
 -- at most one shrinkage and one estimate; a known target
 unfoldable pub settingsFit : Outline → Bool
 settingsFit o = leb (present o shrinkages) 1 && leb (present o estimates) 1 && isTarget (value o 5)
 
--- what question q takes: 0 covariance, a sweep limit only beside a given matrix; 1 weighted mean, the half-life and no other setting;
+-- a half-life or a decay factor
+unfoldable pub hasDecay : Outline → Bool
+hasDecay o = has o 6 || has o 12
+
+-- what question q takes: 0 covariance, a sweep limit only beside a given matrix; 1 weighted mean, a half-life or a decay factor and no other setting;
 -- 2 James-Stein and 3 Bayes-Stein, a sweep limit alone
 unfoldable pub takes : ℕ → Outline → Bool
 takes q o =
     cond (eqb q 0) (not (has o 10) || has o 9)
-    (cond (eqb q 1) (has o 6 && eqb (present o settings) 1)
+    (cond (eqb q 1) (hasDecay o && eqb (present o settings) 1)
     (leb q 3 && eqb (present o settings) (present o (10 ∷ []))))
 
 unfoldable pub wellFormed : Outline → Bool

@@ -93,11 +93,11 @@ fn shape_fits(o: Outline) -> bool
     given == n * n
 }
 
-const SETTINGS: [u8; 8] = [3, 4, 5, 6, 7, 8, 9, 10];
+const SETTINGS: [u8; 9] = [3, 4, 5, 6, 7, 8, 9, 10, 12];
 
 const SHRINKAGES: [u8; 2] = [4, 5];
 
-const ESTIMATES: [u8; 4] = [6, 7, 8, 9];
+const ESTIMATES: [u8; 5] = [6, 7, 8, 9, 12];
 
 const LIMIT: [u8; 1] = [10];
 
@@ -113,6 +113,12 @@ fn settings_fit(o: Outline) -> bool
     value(o, 5) <= 1
 }
 
+pub(crate) fn has_decay(o: Outline) -> bool
+    ensures { λ r. ⌜ r ≡ Rules.hasDecay o ⌝ }
+{
+    has(o, 6) || has(o, 12)
+}
+
 // Whether the settings are those that question q takes.
 fn takes(q: u64, o: Outline) -> bool
     ensures { λ r. ⌜ r ≡ Rules.takes q o ⌝ }
@@ -124,7 +130,7 @@ fn takes(q: u64, o: Outline) -> bool
         return true;
     }
     if q == 1 {
-        if has(o, 6) {
+        if has_decay(o) {
             return present(o, &SETTINGS) == 1;
         }
         return false;

@@ -16,7 +16,7 @@ pub(crate) const RETURNS: usize = FILE_PERIODS * FILE_ASSETS;
 pub(crate) const ENTRIES: usize = FILE_ASSETS * FILE_ASSETS;
 
 // How many kinds there are, and the most records of a file: all kinds but two come once at most.
-pub(crate) const KINDS: usize = 11;
+pub(crate) const KINDS: usize = 12;
 
 pub(crate) const RECORDS: usize = RETURNS + ENTRIES + KINDS - 2;
 
@@ -27,11 +27,11 @@ pub(crate) struct Kind {
     pub most: usize,
 }
 
-const BYTES: [u8; KINDS] = [1, 2, 3, 4, 5, 6, 7, 8, 9, 10, 11];
+const BYTES: [u8; KINDS] = [1, 2, 3, 4, 5, 6, 7, 8, 9, 10, 12, 11];
 
-const BODIES: [usize; KINDS] = [4, 8, 8, 8, 1, 8, 0, 8, 8, 1, 1];
+const BODIES: [usize; KINDS] = [4, 8, 8, 8, 1, 8, 0, 8, 8, 1, 8, 1];
 
-const MOSTS: [usize; KINDS] = [1, RETURNS, 1, 1, 1, 1, 1, 1, ENTRIES, 1, 1];
+const MOSTS: [usize; KINDS] = [1, RETURNS, 1, 1, 1, 1, 1, 1, ENTRIES, 1, 1, 1];
 
 pub(crate) fn kind_at(i: usize) -> Kind
     requires { ⌜ i < length Grammar.kinds ⌝ }

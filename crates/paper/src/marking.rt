@@ -18,8 +18,8 @@ use crate::format::periods;
 use crate::format::value;
 use crate::kinds::ENTRIES;
 use crate::kinds::RETURNS;
+use crate::settings::decay;
 use crate::settings::limit;
-use crate::settings::number_of;
 use crate::settings::settings;
 use estimators::calls::adjusted_covariance;
 use estimators::calls::bayes_stein_mean;
@@ -37,7 +37,7 @@ fn ask(q: u64, o: Outline, returns: &[f64], given: &[f64], slice: &mut [f64]) ->
         return adjusted_covariance(returns, n, t, settings(o), given, n, slice);
     }
     if q == 1 {
-        return exponentially_weighted_mean(returns, n, t, number_of(o, 6), slice);
+        return exponentially_weighted_mean(returns, n, t, decay(o), slice);
     }
     if q == 2 {
         return james_stein_mean(returns, n, t, limit(o), slice);

@@ -5,8 +5,10 @@ ghost use Rattle.paper.specs.Rules as Rules;
 ghost use Rattle.paper.specs.Marking as Marking;
 use crate::format::Outline;
 use crate::format::has;
+use crate::format::has_decay;
 use crate::format::value;
 use leaves::numbers::float;
+use rules::Decay;
 use rules::Estimate;
 use rules::Regularization;
 use rules::Settings;
@@ -14,17 +16,26 @@ use rules::Shrinkage;
 use rules::targets::target;
 
 // The number of a kind.
-pub(crate) fn number_of(o: Outline, kind: u8) -> f64
+fn number_of(o: Outline, kind: u8) -> f64
     ensures { λ r. ⌜ r ≡ Numbers.float (Rules.value o kind) ⌝ }
 {
     float(value(o, kind))
 }
 
+pub(crate) fn decay(o: Outline) -> Decay
+    ensures { λ r. ⌜ r ≡ Marking.decayOf o ⌝ }
+{
+    if has(o, 6) {
+        return Decay::HalfLife(number_of(o, 6));
+    }
+    Decay::Lambda(number_of(o, 12))
+}
+
 fn estimate(o: Outline) -> Estimate
     ensures { λ r. ⌜ r ≡ Marking.estimateOf o ⌝ }
 {
-    if has(o, 6) {
-        return Estimate::Weighted(number_of(o, 6));
+    if has_decay(o) {
+        return Estimate::Weighted(decay(o));
     }
     if has(o, 7) {
         return Estimate::Semi;

@@ -6,6 +6,7 @@ ghost use Rattle.leaves.specs.Loops as Loops;
 ghost use Rattle.leaves.specs.Scaling as Scaling;
 ghost use Rattle.leaves.specs.Root as Root;
 ghost use Rattle.leaves.specs.Exp as Exp;
+ghost use Rattle.leaves.specs.Log as Log;
 
 #[no_mangle]
 pub extern "C" fn leaf_is_finite(x: f64) -> bool
@@ -96,6 +97,13 @@ pub extern "C" fn leaf_exp_m1(y: f64) -> f64
     ensures { λ r. ⌜ r ≡ Exp.expM1 y ⌝ }
 {
     leaves::exponential::exp_m1(y)
+}
+
+#[no_mangle]
+pub extern "C" fn leaf_ln(x: f64) -> f64
+    ensures { λ r. ⌜ r ≡ Log.ln x ⌝ }
+{
+    leaves::logarithm::ln(x)
 }
 
 #[no_mangle]

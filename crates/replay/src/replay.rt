@@ -122,6 +122,31 @@ fn with_given(
     )
 }
 
+// The weighted mean, by half-life and by decay factor.
+fn with_half_life(
+    returns: &[f64],
+    assets: usize,
+    periods: usize,
+    answer: &mut [f64],
+    numbers: &mut [f64; 2],
+    wholes: &mut [usize; 2],
+) -> u32 {
+    let half_life = input::float();
+    calls::engine_weighted_mean(returns, assets, periods, half_life, answer, numbers, wholes)
+}
+
+fn with_factor(
+    returns: &[f64],
+    assets: usize,
+    periods: usize,
+    answer: &mut [f64],
+    numbers: &mut [f64; 2],
+    wholes: &mut [usize; 2],
+) -> u32 {
+    let factor = input::float();
+    calls::engine_weighted_mean_by_factor(returns, assets, periods, factor, answer, numbers, wholes)
+}
+
 // The two means that decompose a matrix.
 fn with_limit(
     call: u32,
@@ -147,7 +172,7 @@ fn with_limit(
     calls::engine_bayes_stein_mean(returns, assets, periods, limit, answer, numbers, wholes)
 }
 
-// 0 the adjusted covariance, 1 Ledoit-Wolf, 2 the weighted mean, 3 James-Stein, 4 Bayes-Stein.
+// 0 the adjusted covariance, 1 Ledoit-Wolf, 2 the weighted mean by half-life, 3 James-Stein, 4 Bayes-Stein, 5 the weighted mean by decay factor.
 fn made(
     returns: &[f64],
     assets: usize,
@@ -165,16 +190,10 @@ fn made(
         return calls::engine_ledoit_wolf(returns, assets, periods, target, numbers, wholes);
     }
     if call == 2 {
-        let half_life = input::float();
-        return calls::engine_weighted_mean(
-            returns,
-            assets,
-            periods,
-            half_life,
-            answer,
-            numbers,
-            wholes,
-        );
+        return with_half_life(returns, assets, periods, answer, numbers, wholes);
+    }
+    if call == 5 {
+        return with_factor(returns, assets, periods, answer, numbers, wholes);
     }
     with_limit(call, returns, assets, periods, answer, numbers, wholes)
 }

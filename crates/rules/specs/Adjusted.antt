@@ -24,14 +24,14 @@ use Rattle.rules.specs.declared.Settings.{Settings}
 abbrev pub isSample : Estimate → Bool
 isSample Sample = true
 isSample Given = false
-isSample (Weighted halfLife) = false
+isSample (Weighted decay) = false
 isSample Semi = false
 isSample (SemiBelow threshold) = false
 
 abbrev pub isGiven : Estimate → Bool
 isGiven Sample = false
 isGiven Given = true
-isGiven (Weighted halfLife) = false
+isGiven (Weighted decay) = false
 isGiven Semi = false
 isGiven (SemiBelow threshold) = false
 
@@ -43,7 +43,7 @@ decompositionOf s given side = elim (isGiven (s .estimate)) [ true ↦ decompose
 unfoldable pub base : Estimate → ℕ → Matrix → Matrix → Matrix
 base Sample T x g = covariance T x
 base Given T x g = g
-base (Weighted halfLife) T x g = weightedCovariance T (logDecay halfLife) x
+base (Weighted decay) T x g = weightedCovariance T (logDecay decay) x
 base Semi T x g = semicovariance T x
 base (SemiBelow threshold) T x g = semicovarianceBelow threshold T x
 

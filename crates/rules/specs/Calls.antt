@@ -17,6 +17,7 @@ use Rattle.rules.specs.Shrinking.{shrunkBy}
 use Rattle.rules.specs.JamesStein.{jamesStein}
 use Rattle.rules.specs.BayesStein.{exponentsOf, largestIn, correlations, bayesStein}
 use Rattle.rules.specs.Order.{byShape, adjustedOrder, ledoitWolfOrder, weightedOrder, jamesSteinOrder, bayesSteinOrder}
+use Rattle.rules.specs.declared.Decay.{Decay}
 use Rattle.rules.specs.declared.Target.{Target}
 use Rattle.rules.specs.declared.Settings.{Settings}
 use Rattle.rules.specs.declared.Answer.{Answer}
@@ -59,11 +60,11 @@ ledoitWolfIntensity r n T F =
     let accepted = answered (Intensity (ledoitWolf F T n (at r n))) [] in
     settle (first (ledoitWolfOrder r n T F)) [] accepted .answer
 
-unfoldable pub exponentiallyWeightedMean : List Float → ℕ → ℕ → Float → List Float → Answered
-exponentiallyWeightedMean r n T halfLife slice =
-    let w = weights T (logDecay halfLife) in
+unfoldable pub exponentiallyWeightedMean : List Float → ℕ → ℕ → Decay → List Float → Answered
+exponentiallyWeightedMean r n T decay slice =
+    let w = weights T (logDecay decay) in
     let accepted = answered Mean (fill n (weightedMean T w (at r n)) slice) in
-    settle (first (weightedOrder r n T halfLife slice)) slice accepted
+    settle (first (weightedOrder r n T decay slice)) slice accepted
 
 -- all returns over one power of two near the largest
 unfoldable pub jamesSteinMean : List Float → ℕ → ℕ → ℕ → List Float → Answered

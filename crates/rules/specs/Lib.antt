@@ -1,4 +1,4 @@
--- Document 01: its opening paragraph, "Records", "Estimators", "Causes" and "How tight", a.
+-- Document 01: its opening paragraph, "Records", "Estimators", "Causes" and "How tight", a; document 02, "Paper 1".
 pub mod Refusals
 pub mod Sample
 pub mod Weighted

@@ -1,4 +1,4 @@
--- Document 01, "Causes", the paragraph "Order": which refusals a call looks for, in their order. Definitions only.
+-- Document 01, "Causes", the paragraph "Order": which refusals a call looks for, in their order; document 02, "Paper 1", field 6. Definitions only.
 use Prim.Native.Nat.{ℕ, _*_}
 use mathlib.Core.Bool.{Bool, true, false, not, _&&_, _||_}
 use mathlib.Core.List.{List, [], _∷_, _++_}
@@ -12,10 +12,12 @@ use Rattle.matrix.specs.Matrix.{Matrix, at, amax, trace, averaged, firstNotFini
 use Rattle.matrix.specs.Jacobi.{Decomposition, smallestValue}
 use Rattle.rules.specs.Refusals.{Check, passes, when, whenSome}
 use Rattle.rules.specs.Sample.{covariance, largest, constantAsset}
-use Rattle.rules.specs.Weighted.{logDecay, accepted}
+use Rattle.rules.specs.Weighted.{acceptedDecay}
 use Rattle.rules.specs.Given.{asymmetry, indefinite}
 use Rattle.rules.specs.BayesStein.{singular}
 use Rattle.rules.specs.Adjusted.{isSample, isGiven, decompositionOf, isAdjusted}
+use Rattle.rules.specs.declared.Decay.{Decay}
+use Rattle.rules.specs.declared.Decay.the-variants.{HalfLife, Lambda}
 use Rattle.rules.specs.declared.Estimate.{Estimate}
 use Rattle.rules.specs.declared.Estimate.the-variants.{Sample, Given, Weighted, Semi, SemiBelow}
 use Rattle.rules.specs.declared.Target.{Target}
@@ -25,7 +27,8 @@ use Rattle.rules.specs.declared.Shrinkage.the-variants.{Unshrunk, Fixed,
 use Rattle.rules.specs.declared.Regularization.{Regularization}
 use Rattle.rules.specs.declared.Regularization.the-variants.{Unregularized, Ridge}
 use Rattle.rules.specs.declared.Settings.{Settings}
-use Rattle.rules.specs.declared.Field.the-variants.{RegularizationField, ShrinkageField, HalfLifeField, ThresholdField, SweepLimitField}
+use Rattle.rules.specs.declared.Field.{Field}
+use Rattle.rules.specs.declared.Field.the-variants.{RegularizationField, ShrinkageField, HalfLifeField, ThresholdField, SweepLimitField, DecayFactorField}
 use Rattle.rules.specs.declared.Refusal.the-variants.{NoAssets, TooLarge, TooFewPeriods, WrongLength, NotFinite, CovarianceNotFinite, BadSetting, NotTheSample, ZeroVariance, WrongSide, Asymmetric, Indefinite, NotDecomposed, Singular}
 
 -- the fewest and the most periods; the most assets are the matrices' `maxSide`
@@ -104,15 +107,19 @@ badShrinkage Unshrunk = passes
 badShrinkage (Fixed δ) = when (not (le zero⁺ δ && le δ one)) (BadSetting ShrinkageField)
 badShrinkage (LedoitWolf F) = passes
 
--- field 3
-unfoldable pub badHalfLife : Float → Check
-badHalfLife halfLife = when (not (accepted (logDecay halfLife))) (BadSetting HalfLifeField)
+-- field 3, or 6 in its place
+abbrev pub decayField : Decay → Field
+decayField (HalfLife h) = HalfLifeField
+decayField (Lambda f) = DecayFactorField
 
--- fields 3 and 4
+unfoldable pub badDecay : Decay → Check
+badDecay decay = when (not (acceptedDecay decay)) (BadSetting (decayField decay))
+
+-- fields 3, 6 and 4
 unfoldable pub badEstimate : Estimate → Check
 badEstimate Sample = passes
 badEstimate Given = passes
-badEstimate (Weighted halfLife) = badHalfLife halfLife
+badEstimate (Weighted decay) = badDecay decay
 badEstimate Semi = passes
 badEstimate (SemiBelow threshold) = when (not (isFinite threshold)) (BadSetting ThresholdField)
 
@@ -145,7 +152,7 @@ noVariance false estimate T n x b = elim (isGiven estimate) [ true ↦ zeroVaria
 abbrev pub wrongSide : Estimate → ℕ → ℕ → Check
 wrongSide estimate side n = when (isGiven estimate && not (eqb side n)) (WrongSide side)
 
--- fields 1 to 4; 8; 9 by constant correlation; 10 (side)
+-- fields 1, 2, 3 or 6, 4; 8; 9 by constant correlation; 10 (side)
 abbrev pub bySettings : Settings → ℕ → ℕ → ℕ → Matrix → List Check
 bySettings s T n side x =
     badRegularization (s .regularization) ∷
@@ -164,7 +171,7 @@ byAnswer n a = when (not (allFinite n n a)) CovarianceNotFinite ∷ when (eq (tr
 abbrev pub byEstimate : Settings → Float → ℕ → ℕ → Matrix → Matrix → Matrix → List Check
 byEstimate s δ T n x b a = noVariance (isAdjusted δ (s .regularization)) (s .estimate) T n x b ∷ byAnswer n a
 
--- fields 1 to 4; 8; 9 by constant correlation; 10 (side); unadjusted 9; 6; 14. b is the estimate, a the answer
+-- fields 1, 2, 3 or 6, 4; 8; 9 by constant correlation; 10 (side); unadjusted 9; 6; 14. b is the estimate, a the answer
 unfoldable pub ofSettings : Settings → Float → ℕ → ℕ → ℕ → Matrix → Matrix → Matrix → List Check
 ofSettings s δ T n side x b a = bySettings s T n side x ++ byEstimate s δ T n x b a
 
@@ -193,8 +200,8 @@ adjustedOrder n T s given side x δ b a = byReturns T n x ++ ofGiven s given sid
 unfoldable pub ledoitWolfOrder : List Float → ℕ → ℕ → Target → List Check
 ledoitWolfOrder r n T F = opening r n T 0 [] ++ noCorrelation (LedoitWolf F) T n (at r n) ∷ []
 
-unfoldable pub weightedOrder : List Float → ℕ → ℕ → Float → List Float → List Check
-weightedOrder r n T halfLife slice = opening r n T n slice ++ badHalfLife halfLife ∷ []
+unfoldable pub weightedOrder : List Float → ℕ → ℕ → Decay → List Float → List Check
+weightedOrder r n T decay slice = opening r n T n slice ++ badDecay decay ∷ []
 
 unfoldable pub jamesSteinOrder : List Float → ℕ → ℕ → ℕ → List Float → Decomposition → List Check
 jamesSteinOrder r n T limit slice d = opening r n T n slice ++ badSweepLimit limit ∷ notFound d ∷ []

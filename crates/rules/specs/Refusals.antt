@@ -6,7 +6,7 @@ use mathlib.Core.Option.{Option, none, some}
 use Rattle.rules.specs.declared.Detail.{Detail}
 use Rattle.rules.specs.declared.Detail.the-variants.{Nothing as nothing, Only as only, Entry as entry, Value as value}
 use Rattle.rules.specs.declared.Field.{Field}
-use Rattle.rules.specs.declared.Field.the-variants.{RegularizationField, ShrinkageField, HalfLifeField, ThresholdField, SweepLimitField}
+use Rattle.rules.specs.declared.Field.the-variants.{RegularizationField, ShrinkageField, HalfLifeField, ThresholdField, SweepLimitField, DecayFactorField}
 use Rattle.rules.specs.declared.Refusal.{Refusal}
 use Rattle.rules.specs.declared.Refusal.the-variants.{NoAssets, TooLarge, TooFewPeriods, WrongLength, NotFinite, CovarianceNotFinite, BadSetting, NotTheSample, ZeroVariance, WrongSide, Asymmetric, Indefinite, NotDecomposed, Singular}
 
@@ -32,6 +32,8 @@ fieldNumber ShrinkageField = 2
 fieldNumber HalfLifeField = 3
 fieldNumber ThresholdField = 4
 fieldNumber SweepLimitField = 5
+-- document 02, "Paper 1"
+fieldNumber DecayFactorField = 6
 
 -- what is returned with a refusal
 abbrev pub detail : Refusal → Detail

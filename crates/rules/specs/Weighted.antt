@@ -1,4 +1,5 @@
--- Document 01, "Estimators": the exponentially weighted mean and covariance (covariance.rs, expected_returns.rs). Definitions only.
+-- Document 01, "Estimators": the exponentially weighted mean and covariance (covariance.rs, expected_returns.rs); document 02, "Paper 1. Decay factors in
+-- the syllabus". Definitions only.
 -- Period t of T has the weight λ ^ (T - 1 - t), with ln λ = l.
 use Prim.Native.Nat.{ℕ, _-_}
 use mathlib.Core.Bool.{Bool, true, _&&_}
@@ -10,12 +11,16 @@ use Rattle.leaves.specs.Loops.{sumTo, tab, nth}
 use Rattle.leaves.specs.Scaling.{binaryExponent, pow2Scaled}
 use Rattle.leaves.specs.Root.{sqrt}
 use Rattle.leaves.specs.Exp.{ln2, exp, expM1}
+use Rattle.leaves.specs.Log.{between01, ln}
 use Rattle.matrix.specs.Matrix.{Matrix}
 use Rattle.rules.specs.Sample.{gram, largest}
+use Rattle.rules.specs.declared.Decay.{Decay}
+use Rattle.rules.specs.declared.Decay.the-variants.{HalfLife, Lambda}
 
--- ln λ for the half-life h
-unfoldable pub logDecay : Float → Float
-logDecay h = neg ln2 ⊘ h
+-- ln λ, for a half-life and for the decay factor λ = f
+unfoldable pub logDecay : Decay → Float
+logDecay (HalfLife h) = neg ln2 ⊘ h
+logDecay (Lambda f) = ln f
 
 -- -708
 abbrev pub minLogDecay : Float
@@ -24,6 +29,11 @@ minLogDecay = fin true 177 (pos 2)
 -- in [-708, 0)
 unfoldable pub accepted : Float → Bool
 accepted l = le minLogDecay l && lt l zero⁺
+
+-- a decay factor lies above 0 and below 1 besides
+unfoldable pub acceptedDecay : Decay → Bool
+acceptedDecay (HalfLife h) = accepted (logDecay (HalfLife h))
+acceptedDecay (Lambda f) = between01 f && accepted (logDecay (Lambda f))
 
 unfoldable pub weights : ℕ → Float → List Float
 weights T l = tab T (λ t. exp (count (T - 1 - t) ⊗ l))

@@ -1,4 +1,4 @@
-// The records of document 01 that cross a call, and the limits of periods.
+// The records of documents 01 and 02 that cross a call, and the limits of periods.
 pub mod refusals;
 pub mod targets;
 
@@ -7,11 +7,17 @@ pub const MIN_PERIODS: usize = 2;
 
 pub const MAX_PERIODS: usize = 4096;
 
-// The weighted case carries its half-life, in periods, and the case below a threshold the threshold.
+// How weights fall with age: the periods in which one halves, or the factor of each period.
+pub enum Decay {
+    HalfLife(f64),
+    Lambda(f64),
+}
+
+// The weighted case carries its decay, and the case below a threshold the threshold.
 pub enum Estimate {
     Sample,
     Given,
-    Weighted(f64),
+    Weighted(Decay),
     Semi,
     SemiBelow(f64),
 }
@@ -50,6 +56,7 @@ pub enum Field {
     HalfLifeField,
     ThresholdField,
     SweepLimitField,
+    DecayFactorField,
 }
 
 // Each with what is returned with it: a count of periods, a row and a column, a setting, a column, a side, an eigenvalue.

@@ -1,4 +1,4 @@
-// The numbers of the refusals and what is returned with each (document 01, "Causes").
+// The numbers of the refusals and what is returned with each (document 01, "Causes"; document 02).
 ghost use mathlib.Core.Path.{_≡_};
 ghost use Rattle.rules.specs.Refusals as Refusals;
 use crate::Detail;
@@ -35,6 +35,7 @@ fn field_number(field: Field) -> usize
         Field::HalfLifeField => 3,
         Field::ThresholdField => 4,
         Field::SweepLimitField => 5,
+        Field::DecayFactorField => 6,
     }
 }
 

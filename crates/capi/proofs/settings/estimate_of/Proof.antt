@@ -20,9 +20,18 @@ returns-4 : tie.Need-returns-4
 unfolding estimateOf
 returns-4 c = rw (ne-eqb _ _ (c .before .before .before .if1 .left), ne-eqb _ _ (c .before .before .if2 .left), ne-eqb _ _ (c .before .if3 .left), eq-eqb _ _ (c .if4 .taken))
 
+-- kind is none of 0 to 3
 returns-5 : tie.Need-returns-5
 unfolding estimateOf
-returns-5 c = rw (ne-eqb _ _ (c .before .before .before .if1 .left), ne-eqb _ _ (c .before .before .if2 .left), ne-eqb _ _ (c .before .if3 .left), ne-eqb _ _ (c .if4 .left))
+returns-5 c =
+    let s = c .before .before in
+    rw (ne-eqb _ _ (s .before .before .if1 .left), ne-eqb _ _ (s .before .if2 .left), ne-eqb _ _ (s .if3 .left), ne-eqb _ _ (c .before .if4 .left), eq-eqb _ _ (c .if5 .taken))
+
+returns-6 : tie.Need-returns-6
+unfolding estimateOf
+returns-6 c =
+    let s = c .before .before in
+    rw (ne-eqb _ _ (s .before .before .if1 .left), ne-eqb _ _ (s .before .if2 .left), ne-eqb _ _ (s .if3 .left), ne-eqb _ _ (c .before .if4 .left), ne-eqb _ _ (c .if5 .left))
 
 pub estimate-of-spec : {M : Type 1} → statement M
-estimate-of-spec = tie.close (tie.spec returns returns-2 returns-3 returns-4 returns-5)
+estimate-of-spec = tie.close (tie.spec returns returns-2 returns-3 returns-4 returns-5 returns-6)

@@ -13,8 +13,8 @@ enum-told-2 c = search needs
 enum-known-estimate : tie.Need-enum-known-estimate
 enum-known-estimate c = search needs
 
-bad-half-life-requires : tie.Need-bad-half-life-requires
-bad-half-life-requires c κs = search needs
+bad-decay-requires : tie.Need-bad-decay-requires
+bad-decay-requires c κs = search needs
 
 enum-told-3 : tie.Need-enum-told-3
 enum-told-3 c = search needs
@@ -38,7 +38,7 @@ returns-2 c = rw (c .enum-told2 .given .1)
 
 returns-3 : tie.Need-returns-3
 unfolding badEstimate
-returns-3 c = rw (c .before .before .estimate .given .1) (c .bad-half-life .ensures)
+returns-3 c = rw (c .before .before .estimate .given .1) (c .bad-decay .ensures)
 
 returns-4 : tie.Need-returns-4
 unfolding badEstimate
@@ -49,4 +49,4 @@ unfolding badEstimate
 returns-5 c = rw (c .before .before .before .estimate2 .given .1) (rw (c .before .is-finite .ensures) at (c .when .ensures))
 
 pub bad-estimate-spec : {M : Type 1} → statement M
-bad-estimate-spec = tie.close (tie.spec enum-told enum-told-2 enum-known-estimate bad-half-life-requires enum-told-3 enum-known-estimate-2 is-finite-requires when-requires returns returns-2 returns-3 returns-4 returns-5)
+bad-estimate-spec = tie.close (tie.spec enum-told enum-told-2 enum-known-estimate bad-decay-requires enum-told-3 enum-known-estimate-2 is-finite-requires when-requires returns returns-2 returns-3 returns-4 returns-5)

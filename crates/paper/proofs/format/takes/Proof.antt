@@ -20,8 +20,8 @@ returns-2 : tie.Need-returns-2
 unfolding takes
 returns-2 c = rw (eq-eqb _ _ (c .before .before .if1 .taken), sym (c .before .has .ensures) ∙ c .if2 .left)
 
-has-requires-3 : tie.Need-has-requires-3
-has-requires-3 c κs = search needs
+has-decay-requires : tie.Need-has-decay-requires
+has-decay-requires c κs = search needs
 
 slice-aggregate-present : tie.Need-slice-aggregate-present
 slice-aggregate-present c = search needs
@@ -33,11 +33,11 @@ returns-3 : tie.Need-returns-3
 unfolding takes
 returns-3 c =
     let h = c .before .before .before in
-    rw (ne-eqb _ _ (h .before .before .if1 .left), eq-eqb _ _ (h .before .if3 .taken), sym (h .has3 .ensures) ∙ c .before .before .if4 .taken, c .present .ensures)
+    rw (ne-eqb _ _ (h .before .before .if1 .left), eq-eqb _ _ (h .before .if3 .taken), sym (h .has-decay .ensures) ∙ c .before .before .if4 .taken, c .present .ensures)
 
 returns-4 : tie.Need-returns-4
 unfolding takes
-returns-4 c = rw (ne-eqb _ _ (c .before .before .before .if1 .left), eq-eqb _ _ (c .before .before .if3 .taken), sym (c .before .has3 .ensures) ∙ c .if4 .left)
+returns-4 c = rw (ne-eqb _ _ (c .before .before .before .if1 .left), eq-eqb _ _ (c .before .before .if3 .taken), sym (c .before .has-decay .ensures) ∙ c .if4 .left)
 
 returns-5 : tie.Need-returns-5
 unfolding takes
@@ -62,4 +62,4 @@ returns-6 c =
     rw (ne-eqb _ _ (t .before .before .if1 .left), ne-eqb _ _ (t .before .if3 .left), le-leb _ _ (t .if5 .left), c .before .before .present2 .ensures, c .present3 .ensures)
 
 pub takes-spec : {M : Type 1} → statement M
-takes-spec = tie.close (tie.spec has-requires has-requires-2 returns returns-2 has-requires-3 slice-aggregate-present present-requires returns-3 returns-4 returns-5 slice-aggregate-present-2 present-requires-2 slice-aggregate-present-3 present-requires-3 returns-6)
+takes-spec = tie.close (tie.spec has-requires has-requires-2 returns returns-2 has-decay-requires slice-aggregate-present present-requires returns-3 returns-4 returns-5 slice-aggregate-present-2 present-requires-2 slice-aggregate-present-3 present-requires-3 returns-6)

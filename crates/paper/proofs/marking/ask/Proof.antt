@@ -26,8 +26,8 @@ returns c =
     let f = s .before in
     c .before .before .adjusted-covariance .ensures ∙ asked-0 _ _ _ _ _ _ _ (f .before .before .assets .ensures) (f .before .periods .ensures) _ (s .settings .ensures) (f .if1 .taken)
 
-number-of-requires : tie.Need-number-of-requires
-number-of-requires c κs = search needs
+decay-requires : tie.Need-decay-requires
+decay-requires c κs = search needs
 
 exponentially-weighted-mean-requires : tie.Need-exponentially-weighted-mean-requires
 exponentially-weighted-mean-requires c κs = search needs
@@ -39,7 +39,7 @@ returns-2 : tie.Need-returns-2
 returns-2 c =
     let s = c .before .before .before .before in
     let f = s .before .before in
-    c .before .before .exponentially-weighted-mean .ensures ∙ asked-1 _ _ _ _ _ _ _ (f .before .before .assets .ensures) (f .before .periods .ensures) _ (s .number-of .ensures) (f .if1 .left) (s .before .if2 .taken)
+    c .before .before .exponentially-weighted-mean .ensures ∙ asked-1 _ _ _ _ _ _ _ (f .before .before .assets .ensures) (f .before .periods .ensures) _ (s .decay .ensures) (f .if1 .left) (s .before .if2 .taken)
 
 limit-requires : tie.Need-limit-requires
 limit-requires c κs = search needs
@@ -72,4 +72,4 @@ returns-4 c =
     c .before .before .bayes-stein-mean .ensures ∙ asked-3 _ _ _ _ _ _ _ (f .before .before .assets .ensures) (f .before .periods .ensures) _ (s .limit2 .ensures) (f .if1 .left) (s .before .before .if2 .left) (s .before .if3 .left)
 
 pub ask-spec : {M : Type 1} → statement M
-ask-spec = tie.close (tie.spec assets-requires periods-requires settings-requires adjusted-covariance-requires same-length returns number-of-requires exponentially-weighted-mean-requires same-length-2 returns-2 limit-requires james-stein-mean-requires same-length-3 returns-3 limit-requires-2 bayes-stein-mean-requires same-length-4 returns-4)
+ask-spec = tie.close (tie.spec assets-requires periods-requires settings-requires adjusted-covariance-requires same-length returns decay-requires exponentially-weighted-mean-requires same-length-2 returns-2 limit-requires james-stein-mean-requires same-length-3 returns-3 limit-requires-2 bayes-stein-mean-requires same-length-4 returns-4)

@@ -1,8 +1,8 @@
--- `capi::calls::engine_weighted_mean` meets its contract: the report of the call's answer, and its answer slice.
+-- `capi::calls::weighted_mean` meets its contract: the report of the call's answer, and its answer slice.
 use borrow.Author.Needs.{needs}
 use Rattle.capi.proofs.Tells.{tells}
-use Rattle.capi.proofs.calls.engine_weighted_mean.Statement.{statement}
-use Rattle.capi.proofs.calls.engine_weighted_mean.Tie as tie
+use Rattle.capi.proofs.calls.weighted_mean.Statement.{statement}
+use Rattle.capi.proofs.calls.weighted_mean.Tie as tie
 
 exponentially-weighted-mean-requires : tie.Need-exponentially-weighted-mean-requires
 exponentially-weighted-mean-requires c κs = search needs
@@ -21,5 +21,5 @@ returns c =
     let told = c .before .before .before in
     tells (c .hand-out .ensures) (told .report-of .ensures) (told .before .before .before .exponentially-weighted-mean .ensures)
 
-pub engine-weighted-mean-spec : {M : Type 1} → statement M
-engine-weighted-mean-spec = tie.close (tie.spec exponentially-weighted-mean-requires report-of-requires hand-out-requires same-length returns)
+pub weighted-mean-spec : {M : Type 1} → statement M
+weighted-mean-spec = tie.close (tie.spec exponentially-weighted-mean-requires report-of-requires hand-out-requires same-length returns)
