@@ -1,19 +1,17 @@
-// Compares the five calls of the copy with the engine's, bit for bit, NaN equal to NaN: accepted or
-// refused, what comes with it, and the whole answer slice, of which the numbers past the answer, and
-// all of them after a refusal, keep their very bits. Prints a table for each range of shapes. Ends
-// with 1 where the two differ or a refusal never occurred.
+// Compares the five calls of the copy with the engine's (agreement.rs), and prints a table for each
+// range of shapes. Ends with 1 where the two differ or a refusal never occurred.
 // Arguments: how many inputs of each range.
 
+mod agreement;
 mod argument;
 mod tally;
 
-use engine::calls::{adjusted_covariance, answered, ledoit_wolf};
+use engine::calls::{adjusted_covariance, ledoit_wolf};
 use generator::random::Random;
 use generator::{draw, Shapes};
 use reference::covariance::{Estimate, Settings};
 use reference::flat::{Flat, FlatSettings};
 use reference::input::Input;
-use reference::leaves::all_bits;
 use reference::{MAX_PERIODS, MAX_SIDE, MIN_PERIODS};
 use std::ops::RangeInclusive;
 use tally::{Tally, ACCEPTED, OWN};
@@ -56,20 +54,12 @@ fn main() {
 }
 
 fn compare(input: &Input, tally: &mut Tally) {
-    let (report, slice) = input.answered();
-    let (copied, computed) = ((Flat::of(&report), slice), answered(input));
-    let number = copied.0.number as usize;
+    let (number, same) = agreement::judge(input);
     tally.add(&input.call, number);
-    let filled = input.filled(number);
-    let same = copied.0 == computed.0
-        && all_bits(&copied.1[..filled]) == all_bits(&computed.1[..filled])
-        && input.kept(number, &copied.1)
-        && input.kept(number, &computed.1);
     if !same {
         tally.add(&input.call, DIFFERENT);
         if tally.total(DIFFERENT) <= 3 {
-            let words = format!("{input:?}: copy {copied:?}, engine {computed:?}");
-            println!("    {}", words.chars().take(2000).collect::<String>());
+            agreement::show(input);
         }
     }
 }

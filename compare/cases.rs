@@ -5,6 +5,7 @@ mod case6;
 mod corners;
 mod factor_papers;
 mod factors;
+mod widest;
 
 use reference::covariance::{Decay, Estimate, Settings};
 use reference::exam::exam;
@@ -36,6 +37,7 @@ fn main() {
     james_stein(&mut table);
     corners::all(&mut table);
     factors::all(&mut table);
+    widest::all(&mut table);
     println!("differences: {}", table.wrong);
     if table.wrong > 0 {
         std::process::exit(1);

@@ -31,7 +31,7 @@ fn order_of_shapes(table: &mut Table) {
         let rows = Input::covariance(&ROWS, 2, sample);
         Input { n, t, ..rows }.told()
     };
-    table.line("33 assets, 1 period", &shaped(33, 1), "refused 2");
+    table.line("25 assets, 1 period", &shaped(25, 1), "refused 2");
     table.line(
         "0 assets, many periods",
         &shaped(0, usize::MAX),

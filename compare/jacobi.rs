@@ -6,8 +6,10 @@
 mod argument;
 
 use engine::jacobi::decompose;
+use generator::damage::TOO_WIDE;
 use generator::matrices::KINDS;
 use generator::random::Random;
+use generator::sides::FORMER_MAX_SIDE;
 use reference::eigen::SymmetricEigen;
 use reference::input::UNTOUCHED;
 use reference::leaves::all_bits;
@@ -114,9 +116,9 @@ fn misfits(random: &Random) -> usize {
             match what {
                 0 => n += 1,
                 1 => n = n.wrapping_sub(1),
-                2 => n = random.pick(&[MAX_SIDE + 1, 1 << 32, usize::MAX]),
+                2 => n = random.pick(&TOO_WIDE),
                 3 => {
-                    n = MAX_SIDE + 1;
+                    n = random.pick(&[MAX_SIDE + 1, FORMER_MAX_SIDE]);
                     lengths = [n * n, n, n * n];
                 }
                 4 => limit = MAX_SWEEPS + 1,

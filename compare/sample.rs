@@ -9,6 +9,7 @@
 // Floats are bits, NaN as 7FF8000000000000.
 
 use generator::random::Random;
+use generator::sides::{draw_with_side, Whose, SIDES};
 use generator::{draw, Shapes};
 use reference::covariance::Decay;
 use reference::flat::{flat_target, Flat, FlatSettings};
@@ -53,10 +54,16 @@ fn main() {
     fs::write("crates/replay/stdout", printed(&counts)).expect("crates/replay can be written");
 }
 
-/// The next input that the program has room for.
+/// The next input that the program has room for, now and then one with a side about the limit.
 fn drawn(random: &Random, shapes: &Shapes) -> Input {
     loop {
-        let input = draw(random, shapes);
+        let input = match random.below(6) {
+            0 => {
+                let whose = random.pick(&[Whose::Returns, Whose::Given, Whose::Both]);
+                draw_with_side(random, random.pick(&SIDES), whose, 10)
+            }
+            _ => draw(random, shapes),
+        };
         let entries = match &input.call {
             Call::AdjustedCovariance { given, .. } => given.len(),
             _ => 0,

@@ -27,7 +27,7 @@ extern "C" {
    else the number of the refusal, with what comes with it; the rest of numbers and wholes is 0:
 
     1  assets or given side 0
-    2  over 32 assets or side, or over 4,096 periods
+    2  over 24 assets or side, or over 4,096 periods
     3  fewer than 2 periods                            wholes[0]: the periods
     4  returns_len is not periods * assets, or answer_len too small
     5  an entry is NaN or infinite                     wholes: the first row and column

@@ -14,7 +14,7 @@ extern "C" {
 
 /* ---- The decomposition
 
-   a = V diag(values) V', for a symmetric matrix of `side` at most 32, in at most `limit` sweeps, at
+   a = V diag(values) V', for a symmetric matrix of `side` at most 24, in at most `limit` sweeps, at
    most 100. Returns 0 where it is found and 1 where it is not: values and vectors then hold what
    the sweeps reached, or zeros and the identity where an entry is NaN or infinite. counts: the
    sweeps and the rotations made. Returns 2, and writes nothing, where side or limit is larger, or

@@ -4,11 +4,21 @@ use crate::given::draw_given;
 use crate::random::Random;
 use crate::returns::set_column;
 use crate::settings::{draw_target, SMALLEST_FACTOR};
+use crate::sides::FORMER_MAX_SIDE;
 use reference::covariance::{Decay, Estimate, Settings, Shrinkage};
 use reference::input::{Call, Input};
 use reference::{MAX_PERIODS, MAX_SIDE, MAX_SWEEPS, MIN_PERIODS};
 
 const NOT_FINITE: [f64; 3] = [f64::NAN, f64::INFINITY, f64::NEG_INFINITY];
+/// Sides that no matrix may have, among them the largest that document 01 allowed.
+pub const TOO_WIDE: [usize; 6] = [
+    MAX_SIDE + 1,
+    FORMER_MAX_SIDE,
+    FORMER_MAX_SIDE + 1,
+    1000,
+    1 << 32,
+    usize::MAX,
+];
 const BAD_LIMITS: [usize; 4] = [MAX_SWEEPS + 1, 200, 1 << 32, usize::MAX];
 /// The log of 9.7e-4 is below -708, that of 9e-4 below -745, where exp is 0.
 const BAD_HALF_LIVES: [f64; 8] = [
@@ -51,7 +61,7 @@ pub fn damage(random: &Random, input: &mut Input) {
 fn damage_returns(random: &Random, input: &mut Input) {
     match random.below(9) {
         0 => input.n = 0,
-        1 => input.n = random.pick(&[MAX_SIDE + 1, 1000, usize::MAX]),
+        1 => input.n = random.pick(&TOO_WIDE),
         2 => input.t = random.pick(&[MAX_PERIODS + 1, 1 << 40, usize::MAX]),
         3 => input.t = random.below(MIN_PERIODS),
         4 => wrong_length(random, &mut input.returns),
@@ -140,7 +150,7 @@ fn damage_given(
     *given = draw_given(random, n);
     match random.below(11) {
         0 => *side = 0,
-        1 => *side = random.pick(&[MAX_SIDE + 1, 1 << 32, usize::MAX]),
+        1 => *side = random.pick(&TOO_WIDE),
         2 => wrong_length(random, given),
         3 => {
             // Square, but of another side than the returns.

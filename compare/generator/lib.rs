@@ -1,7 +1,7 @@
 // Draws inputs for the five calls from a fixed seed: mostly good ones of every shape, kind of
 // number and setting, the rest damaged so that each refusal occurs.
 
-mod damage;
+pub mod damage;
 pub mod given;
 pub mod matrices;
 pub mod pairs;
@@ -9,6 +9,7 @@ pub mod papers;
 pub mod random;
 pub mod returns;
 pub mod settings;
+pub mod sides;
 
 use damage::damage;
 use given::draw_given;

@@ -2,7 +2,7 @@
 // bound for decay factors: an input, and the same one with its returns and threshold times 2^k, its
 // given matrix and regularization times 2^2k.
 
-use crate::damage::BAD_FACTORS;
+use crate::damage::{BAD_FACTORS, TOO_WIDE};
 use crate::given::product;
 use crate::random::Random;
 use crate::returns::set_column;
@@ -322,7 +322,7 @@ fn draw_given(random: &Random, side: usize, sizes: &Sizes) -> Vec<f64> {
 fn damage(random: &Random, input: &mut Input) {
     match random.below(8) {
         0 => input.n = 0,
-        1 => input.n = MAX_SIDE + 1,
+        1 => input.n = random.pick(&TOO_WIDE),
         2 => input.t = random.below(MIN_PERIODS),
         3 => input.t = MAX_PERIODS + 1,
         4 => input.returns.truncate(1),
@@ -332,10 +332,11 @@ fn damage(random: &Random, input: &mut Input) {
                 settings,
                 given,
                 side,
-            } => match random.below(4) {
+            } => match random.below(5) {
                 0 => settings.limit = MAX_SWEEPS + 1,
                 1 => *side = 0,
-                2 => given.truncate(1),
+                2 => *side = random.pick(&TOO_WIDE),
+                3 => given.truncate(1),
                 _ => {
                     *side = 1;
                     given.truncate(1);

@@ -17,7 +17,7 @@ pub mod returns;
 pub mod screen;
 
 /// The largest side of a matrix: the most assets, and the largest given side.
-pub const MAX_SIDE: usize = 32;
+pub const MAX_SIDE: usize = 24;
 /// The fewest and the most periods.
 pub const MIN_PERIODS: usize = 2;
 pub const MAX_PERIODS: usize = 4096;

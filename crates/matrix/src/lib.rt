@@ -8,7 +8,7 @@ pub mod sums;
 mod symmetric;
 pub mod tables;
 
-// Document 01's largest side of a matrix and largest sweep limit.
-pub const MAX_SIDE: usize = 32;
+// Document 02's largest side of a matrix, and document 01's largest sweep limit.
+pub const MAX_SIDE: usize = 24;
 
 pub const MAX_SWEEPS: usize = 100;
