@@ -5,6 +5,8 @@ mod case6;
 mod corners;
 mod factor_papers;
 mod factors;
+mod minus_zero;
+mod rounded;
 mod widest;
 
 use reference::covariance::{Decay, Estimate, Settings};
@@ -38,6 +40,7 @@ fn main() {
     corners::all(&mut table);
     factors::all(&mut table);
     widest::all(&mut table);
+    rounded::all(&mut table);
     println!("differences: {}", table.wrong);
     if table.wrong > 0 {
         std::process::exit(1);

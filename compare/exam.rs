@@ -5,10 +5,11 @@
 mod argument;
 mod case6;
 mod factor_papers;
+mod marked;
 
-use engine::exam::mark;
 use generator::papers::draw_paper;
 use generator::random::Random;
+use marked::other_text;
 use reference::exam::{exam, outcome, MALFORMED};
 
 fn main() {
@@ -35,18 +36,12 @@ fn main() {
     }
 }
 
-/// What include/engine.h says is always enough for a text.
-const ENOUGH: usize = 8192;
-
 /// Whether the engine prints another text, or writes behind it.
 fn differs(file: &[u8], text: &[u8]) -> bool {
-    const UNTOUCHED: u8 = 0xA5;
-    let mut out = [UNTOUCHED; ENOUGH];
-    let count = mark(file, &mut out);
-    let same = out[..count] == *text && out[count..].iter().all(|&b| b == UNTOUCHED);
-    if !same {
+    let other = other_text(file, text);
+    if let Some(engine) = &other {
         println!("{file:02X?}: copy {:?}", String::from_utf8_lossy(text));
-        println!("    engine {:?}", String::from_utf8_lossy(&out[..count]));
+        println!("    engine {engine:?}");
     }
-    !same
+    other.is_some()
 }

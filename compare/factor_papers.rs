@@ -20,8 +20,8 @@ type Example = (&'static str, &'static [&'static [u8]], &'static str);
 #[rustfmt::skip]
 const EXAMPLES: [Example; 10] = [
     ("mean", &[FACTOR, MEAN], "ok 1 1\n0 0 4008000000000000 3.0000\n"),
-    // The number is just below 5.5, and the screen cuts it.
-    ("ridge", &[RIDGE_1, FACTOR, COVARIANCE], "ok 1 1\n0 0 4015FFFFFFFFFFFF 5.4999\n"),
+    // The number is just below 5.5, and the screen shows the nearest ten-thousandth.
+    ("ridge", &[RIDGE_1, FACTOR, COVARIANCE], "ok 1 1\n0 0 4015FFFFFFFFFFFF 5.5000\n"),
     ("behind the question", &[MEAN, FACTOR], "refused 15\n"),
     ("half-life, mean", &[HALF_LIFE_1, FACTOR, MEAN], "refused 15\n"),
     ("ridge, mean", &[RIDGE_1, FACTOR, MEAN], "refused 15\n"),

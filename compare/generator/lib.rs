@@ -8,6 +8,7 @@ pub mod pairs;
 pub mod papers;
 pub mod random;
 pub mod returns;
+pub mod screens;
 pub mod settings;
 pub mod sides;
 

@@ -4,7 +4,7 @@ use mathlib.Core.Path.{_≡_, refl}
 use mathlib.Core.Bool.{true, false}
 use mathlib.Core.List.{List, [], _∷_, _++_}
 use Prim.Native.Nat.{ℕ}
-use lib.IntN.{pos, negsuc}
+use lib.IntN.{pos}
 use lib.Ieee.{nan, inf, fin, sub, mul, div, le, ofInt, ofBits, toBits}
 use Rattle.leaves.specs.Numbers.{isFinite, abs, larger, float}
 use Rattle.leaves.specs.Loops.{loop, sumTo, amaxTo, firstTo, tab, fill}
@@ -18,9 +18,9 @@ use Rattle.rules.specs.Weighted.{acceptedDecay}
 use Rattle.rules.specs.Adjusted.{base, intensity, shrunk, regularized, adjusted, isAdjusted}
 use Rattle.rules.specs.Order.{notFinite, opening, ofGiven, badRegularization, badShrinkage, badDecay, badEstimate, notTheSample, noCorrelation, noVariance, ofSettings, adjustedOrder, weightedOrder}
 use Rattle.rules.specs.Calls.{settle, adjustedWith, adjustedReturns, adjustedCovariance, exponentiallyWeightedMean}
-use Rattle.paper.specs.declared.screen.Shown.the-variants.{Big, Number}
+use Rattle.paper.specs.declared.screen.Shown.the-variants.{Big}
 use Rattle.paper.specs.Text.{glyph, digits, unpadded}
-use Rattle.paper.specs.Screen.{shownAs, shown, shownText, screenText}
+use Rattle.paper.specs.Screen.{nearest, shownAs, shown, shownText, screenText}
 use Rattle.paper.specs.Answer.{refused, bitsText, lineText, linesText, outcome, outcomeText}
 use Rattle.paper.specs.Grammar.{kinds, placeIn, little, starts, taken, sheet}
 use Rattle.paper.specs.Rules.{outline, present, shapeFits, settingsFit, hasDecay, takes, wellFormed, malformed, isQuestion, readPaper}
@@ -53,7 +53,7 @@ text-6 =
 
 -- what a computed case unfolds
 unfoldable computed : ℕ
-unfolding marking examined readPaper isQuestion sheet kinds taken starts little outline wellFormed shapeFits settingsFit hasDecay takes present placeIn answerOf columns asked settingsOf decayOf estimateOf shrinkageOf regularizationOf adjustedWith adjustedReturns adjustedCovariance exponentiallyWeightedMean settle first adjustedOrder weightedOrder opening ofGiven ofSettings notFinite badRegularization badShrinkage badDecay acceptedDecay between01 badEstimate notTheSample noCorrelation noVariance isAdjusted base covariance gram deviation mean largest constantAsset intensity adjusted shrunk regularized rows trace firstEntry allFinite loop sumTo amaxTo firstTo tab fill isFinite abs larger sqrt root sticky halfExponent radicand shift sub mul div le ofInt ofBits outcome outcomeText linesText lineText shownText shown shownAs digits unpadded glyph toBits
+unfolding marking examined readPaper isQuestion sheet kinds taken starts little outline wellFormed shapeFits settingsFit hasDecay takes present placeIn answerOf columns asked settingsOf decayOf estimateOf shrinkageOf regularizationOf adjustedWith adjustedReturns adjustedCovariance exponentiallyWeightedMean settle first adjustedOrder weightedOrder opening ofGiven ofSettings notFinite badRegularization badShrinkage badDecay acceptedDecay between01 badEstimate notTheSample noCorrelation noVariance isAdjusted base covariance gram deviation mean largest constantAsset intensity adjusted shrunk regularized rows trace firstEntry allFinite loop sumTo amaxTo firstTo tab fill isFinite abs larger sqrt root sticky halfExponent radicand shift sub mul div le ofInt ofBits outcome outcomeText linesText lineText shownText shown shownAs nearest digits unpadded glyph toBits
 computed = 0
 
 pub marking-6 : marking case-6 ≡ text-6
@@ -149,15 +149,47 @@ refused-files = record { no-assets = refl; one-period = refl; zero-variance = re
 
 -- ---- the screen number
 
+-- the text of the screen number of the float with these bits
+abbrev Shows : ℕ → List ℕ → Type 0
+Shows b text = screenText (float b) ≡ text
+
+-- 0.000d
+abbrev last : ℕ → List ℕ
+last d = 48 ∷ 46 ∷ 48 ∷ 48 ∷ 48 ∷ d ∷ []
+
+abbrev zeros : List ℕ
+zeros = last 48
+
 pub record Screens : Type 0 where
-  -- 2 ^ -20 and 1.99999
-  pub truncates : (screenText (fin false 1 (negsuc 19)) ≡ 48 ∷ 46 ∷ 48 ∷ 48 ∷ 48 ∷ 48 ∷ []) × (screenText (float 0x3FFF_FFF5_83A5_3B8E) ≡ 49 ∷ 46 ∷ 57 ∷ 57 ∷ 57 ∷ 57 ∷ [])
-  -- -2 ^ -20 and -0.5
-  pub minus : (screenText (fin true 1 (negsuc 19)) ≡ 48 ∷ 46 ∷ 48 ∷ 48 ∷ 48 ∷ 48 ∷ []) × (screenText (fin true 1 (negsuc 0)) ≡ 45 ∷ 48 ∷ 46 ∷ 53 ∷ 48 ∷ 48 ∷ 48 ∷ [])
-  -- -2 ^ 31, the largest below it in size, NaN and an infinity
-  pub large : (shown (fin true 1 (pos 31)) ≡ Big) × (shown (float 0xC1DF_FFFF_FFFF_FFFF) ≡ Number true 21474836479999) × (shown nan ≡ Big) × (shown (inf false) ≡ Big)
+  -- 0.03125, -0.03125 and 0.09375 are halves
+  pub half : Shows 0x3FA0_0000_0000_0000 (48 ∷ 46 ∷ 48 ∷ 51 ∷ 49 ∷ 51 ∷ [])
+  pub minus-half : Shows 0xBFA0_0000_0000_0000 (45 ∷ 48 ∷ 46 ∷ 48 ∷ 51 ∷ 49 ∷ 51 ∷ [])
+  pub other-half : Shows 0x3FB8_0000_0000_0000 (48 ∷ 46 ∷ 48 ∷ 57 ∷ 51 ∷ 56 ∷ [])
+  -- 0.00005 and 0.00025 lie a little above a half, 0.00015 and 0.00035 a little below
+  pub above : Shows 0x3F0A_36E2_EB1C_432D (last 49) × Shows 0x3F30_624D_D2F1_A9FC (last 51)
+  pub below : Shows 0x3F23_A92A_3055_3261 (last 49) × Shows 0x3F36_F006_8DB8_BAC7 (last 51)
+  -- 9.99995 lies above one, 1.99995 below
+  pub nines : Shows 0x4023_FFF9_7247_4539 (49 ∷ 48 ∷ 46 ∷ 48 ∷ 48 ∷ 48 ∷ 48 ∷ []) × Shows 0x3FFF_FFCB_923A_29C7 (49 ∷ 46 ∷ 57 ∷ 57 ∷ 57 ∷ 57 ∷ [])
+  -- -0.00004, -0 and -0.00005
+  pub minus : Shows 0xBF04_F8B5_88E3_68F1 zeros × Shows 0x8000_0000_0000_0000 zeros × Shows 0xBF0A_36E2_EB1C_432D (45 ∷ last 49)
+  -- 2147483647.99999, and the number next to -2 ^ 31, with the longest text; 2 ^ 31, its negative, NaN and an infinity
+  pub below-big : Shows 0x41DF_FFFF_FFFF_FFD6 (50 ∷ 49 ∷ 52 ∷ 55 ∷ 52 ∷ 56 ∷ 51 ∷ 54 ∷ 52 ∷ 56 ∷ 46 ∷ 48 ∷ 48 ∷ 48 ∷ 48 ∷ [])
+  pub longest : Shows 0xC1DF_FFFF_FFFF_FFFF (45 ∷ 50 ∷ 49 ∷ 52 ∷ 55 ∷ 52 ∷ 56 ∷ 51 ∷ 54 ∷ 52 ∷ 56 ∷ 46 ∷ 48 ∷ 48 ∷ 48 ∷ 48 ∷ [])
+  pub big : (shown (fin false 1 (pos 31)) ≡ Big) × (shown (fin true 1 (pos 31)) ≡ Big) × (shown nan ≡ Big) × (shown (inf false) ≡ Big)
   pub nan-bits : bitsText nan ≡ 55 ∷ 70 ∷ 70 ∷ 56 ∷ 48 ∷ 48 ∷ 48 ∷ 48 ∷ 48 ∷ 48 ∷ 48 ∷ 48 ∷ 48 ∷ 48 ∷ 48 ∷ 48 ∷ []
 
 pub screens : Screens
 unfolding computed
-screens = record { truncates = (refl, refl); minus = (refl, refl); large = (refl, refl, refl, refl); nan-bits = refl }
+screens = record {
+  half = refl;
+  minus-half = refl;
+  other-half = refl;
+  above = (refl, refl);
+  below = (refl, refl);
+  nines = (refl, refl);
+  minus = (refl, refl, refl);
+  below-big = refl;
+  longest = refl;
+  big = (refl, refl, refl, refl);
+  nan-bits = refl;
+}

@@ -1,12 +1,15 @@
 -- Laws of `specs/Text.antt`: digits formed from the last to the first, and the zeros in front. Assumes nothing.
 use mathlib.Core.Path.{_≡_, refl, sym, ap, _∙_}
+use mathlib.Core.Bool.{Bool, true, false, cond}
 use mathlib.Core.List.{List, [], _∷_, _++_, append-nil}
-use Prim.Native.Nat.{ℕ, zero, suc, _+_, _-_, _/_, _%_, _≤_, _<_}
-use native.Mathlib.Nat.{not-suc-le-zero, le-of-suc-le-suc, sub-zero, suc-sub-suc}
+use Prim.Native.Nat.{ℕ, zero, suc, _+_, _-_, _/_, _%_, _^_, _≤_, _<_}
+use native.Mathlib.Nat.{not-suc-le-zero, le-of-suc-le-suc, le-trans, le-of-eq, lt-of-lt-of-le, zero-add, suc-add, sub-zero, suc-sub-suc}
+use native.Mathlib.Nat.{zero-mod, pow-zero, pow-suc, pow-le-pow-right, div-lt-iff-lt-mul}
 use native.Mathlib.Numerals.{add-one, sub-one}
 use native.Mathlib.Omega.{arith}
 use lib.ListN.{length, set, take, drop, getD, length-append, length-drop, drop-of-length-le}
 use lib.Seq.{take-all, drop-cons, append-snoc, drop-set-lt, getD-set-same, lt-length-set, drop-length, drop-append-le}
+use lib.Dec.{eqb}
 use borrow.Author.Tests.{eq-eqb, ne-eqb}
 use Rattle.paper.specs.Text.{digitZero, glyph, digits, unpadded}
 
@@ -31,6 +34,16 @@ digits-end b rest (suc i) text w h e = absurd (not-suc-le-zero h)
 
 -- ---- fewer digits
 
+pub unpadded-length : (l : List ℕ) → length (unpadded l) ≤ length l
+unfolding unpadded
+unpadded-length [] = omega arith
+unpadded-length (d ∷ []) = omega arith
+unpadded-length (d ∷ e ∷ l) = go (eqb d digitZero) (unpadded-length (e ∷ l))
+  where
+    go : (t : Bool) → length (unpadded (e ∷ l)) ≤ length (e ∷ l) → length (cond t (unpadded (e ∷ l)) (d ∷ e ∷ l)) ≤ length (d ∷ e ∷ l)
+    go true h = omega arith
+    go false h = omega arith
+
 pub digits-length : (b k n : ℕ) → length (digits b k n) ≡ k
 unfolding digits
 digits-length b zero n = refl
@@ -43,6 +56,26 @@ digits-last b m zero n h = rw sub-zero (drop-of-length-le (digits b m n) {i = m}
 digits-last b zero (suc k) n h = absurd (not-suc-le-zero h)
 digits-last b (suc m) (suc k) n h =
     rw (suc-sub-suc m k, drop-append-le (m - k) (digits b m (n / b)) (glyph (n % b) ∷ []) (omega (arith, digits-length b m (n / b))), digits-last b m k (n / b) (le-of-suc-le-suc h))
+
+-- below b ^ m, the first of m + 1 digits is 0
+leading-zero : (b m n : ℕ) → 0 < b → n < b ^ m → digits b (suc m) n ≡ digitZero ∷ digits b m n
+unfolding digits glyph
+leading-zero b zero n B h = let e : n ≡ 0 = omega (arith, pow-zero b) in rw (e, zero-mod b)
+leading-zero b (suc m) n B h = rw (leading-zero b m (n / b) B (div-lt-iff-lt-mul B .1 (rw (pow-suc b m) at h)))
+
+-- a number below b ^ (k + 1) has k + 1 digits at most, with those in front left out
+pub few-digits : (b j k n : ℕ) → 0 < b → n < b ^ suc k → length (unpadded (digits b (j + suc k) n)) ≤ suc k
+unfolding unpadded
+few-digits b zero k n B h = rw zero-add (le-trans (unpadded-length (digits b (suc k) n)) (le-of-eq (digits-length b (suc k) n)))
+few-digits b (suc j) k n B h =
+    let i = j + suc k in
+    let more : n < b ^ i = lt-of-lt-of-le h (pow-le-pow-right B (omega arith)) in
+    let some : 0 < length (digits b i n) = rw (digits-length b i n) (omega arith) in
+    rw (suc-add j (suc k), leading-zero b i n B more, after-zero (digits b i n) some) (few-digits b j k n B h)
+  where
+    after-zero : (l : List ℕ) → 0 < length l → unpadded (digitZero ∷ l) ≡ unpadded l
+    after-zero [] h = absurd (not-suc-le-zero h)
+    after-zero (d ∷ l) h = refl
 
 -- ---- m digits, written from place i on
 

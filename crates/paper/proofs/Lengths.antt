@@ -22,14 +22,15 @@ use Rattle.paper.specs.declared.kinds.Kind.{Kind}
 use Rattle.paper.specs.declared.format.Outline.{Outline}
 use Rattle.paper.specs.declared.screen.Shown.{Shown}
 use Rattle.paper.specs.declared.screen.Shown.the-variants.{Big, Number}
-use Rattle.paper.specs.Text.{minusSign, digitZero, Out, out, write, digits, unpadded, maxDigits, decimal}
-use Rattle.paper.specs.Screen.{shown, shownText}
+use Rattle.paper.specs.Text.{minusSign, Out, out, write, digits, maxDigits, decimal}
+use Rattle.paper.specs.Screen.{shown, shownText, screenText}
 use Rattle.paper.specs.Answer.{malformedNumber, Outcome, refused, ok, lineText, linesText, outcome, outcomeText}
 use Rattle.paper.specs.Grammar.{fileAssets, starts, body, none, more, taken, Sheet, sheet, kinds}
 use Rattle.paper.specs.Rules.{outline, value, assets, periods, wellFormed, malformed, question, isQuestion, readPaper}
 use Rattle.paper.specs.Marking.{asked, columns, answerOf, examined, marking}
 use Rattle.paper.specs.Inner.{buffer, total}
-use Rattle.paper.proofs.Digits.{digits-length}
+use Rattle.paper.proofs.Digits.{digits-length, unpadded-length, few-digits}
+use Rattle.paper.proofs.ScreenLaws.{screen-bounded}
 use Rattle.paper.proofs.Writes.{write-room}
 use Rattle.paper.proofs.Outlines.{well-formed, sizes}
 use Rattle.paper.proofs.Marks.{asked-0, asked-1, asked-2, asked-3, answer-fits}
@@ -66,35 +67,34 @@ too-long bs h = rw (ne-eqb (length (sheet kinds bs .rest)) 0 (λ e. omega (arith
 
 -- ---- a text
 
-unpadded-length : (l : List ℕ) → length (unpadded l) ≤ length l
-unfolding unpadded
-unpadded-length [] = omega arith
-unpadded-length (d ∷ []) = omega arith
-unpadded-length (d ∷ e ∷ l) = go (eqb d digitZero) (unpadded-length (e ∷ l))
-  where
-    go : (t : Bool) → length (unpadded (e ∷ l)) ≤ length (e ∷ l) → length (cond t (unpadded (e ∷ l)) (d ∷ e ∷ l)) ≤ length (d ∷ e ∷ l)
-    go true h = omega arith
-    go false h = omega arith
-
 decimal-length : (n : ℕ) → length (decimal n) ≤ maxDigits
 decimal-length n = omega (arith, unpadded-length (digits 10 maxDigits n), digits-length 10 maxDigits n)
 
-shown-length : (s : Shown) → length (shownText s) ≤ 26
+-- the longest is -2147483648.0000
+abbrev pub maxScreen : ℕ
+maxScreen = 16
+
+pub screen-length : (x : Float) → length (screenText x) ≤ maxScreen
 unfolding shownText
-shown-length Big = omega arith
-shown-length (Number m u) = simp (length-append, digits-length) (omega (arith, sign m, decimal-length (u / 10000)))
+screen-length x = go (shown x) refl
   where
     sign : (m : Bool) → length {A = ℕ} (cond m (minusSign ∷ []) []) ≤ 1
     sign true = omega arith
     sign false = omega arith
 
+    go : (s : Shown) → shown x ≡ s → length (shownText s) ≤ maxScreen
+    go Big e = omega arith
+    go (Number m u) e =
+        let whole : length (decimal (u / 10000)) ≤ 10 = few-digits 10 10 9 (u / 10000) (omega arith) (omega (arith, screen-bounded x m u e)) in
+        simp (length-append, digits-length) (omega (arith, sign m))
+
 -- row, column, bits, screen number, three spaces and a line feed
 abbrev maxLine : ℕ
-maxLine = 86
+maxLine = 76
 
 line-length : (i j : ℕ) (x : Float) → length (lineText i j x) ≤ maxLine
 unfolding lineText
-line-length i j x = simp (length-append, digits-length) (omega (arith, decimal-length i, decimal-length j, shown-length (shown x)))
+line-length i j x = simp (length-append, digits-length) (omega (arith, decimal-length i, decimal-length j, screen-length x))
 
 lines-length : (c k : ℕ) (xs : List Float) → length (linesText c k xs) ≤ maxLine * length xs
 unfolding linesText

@@ -1,8 +1,8 @@
-// The screen number: the exact value, truncated to four decimals.
+// The screen number: the exact value, rounded to four decimals.
 ghost use mathlib.Core.Path.{_≡_};
 ghost use mathlib.Core.Bool.{cond};
 ghost use mathlib.Core.List.{[], _∷_};
-ghost use Prim.Native.Nat.{_*_, _/_, _^_, _<_};
+ghost use Prim.Native.Nat.{_*_, _^_, _<_};
 ghost use Rattle.paper.specs.Text.{minusSign, out as into, write};
 ghost use Rattle.paper.specs.Screen as Screen;
 use crate::text::put;
@@ -16,12 +16,27 @@ pub(crate) enum Shown {
     Number { minus: bool, units: u64 },
 }
 
-// The ten-thousandths in m * 2^(-shift - 4), truncated.
+// The whole number nearest to n / unit, of two as near the larger.
+fn nearest(n: u64, unit: u64) -> u64
+    requires { ⌜ (n < 2 ^ 63) × (0 < unit) ⌝ }
+    ensures { λ r. ⌜ r ≡ Screen.nearest n unit ⌝ }
+{
+    let below = n / unit;
+    let rest = n % unit;
+    // The way down and the way up.
+    if rest < unit - rest { below } else { below + 1 }
+}
+
+// The ten-thousandths nearest to m * 2^(-shift - 4).
 fn units(m: u64, shift: u64) -> u64
     requires { ⌜ m < 2 ^ 53 ⌝ }
-    ensures { λ r. ⌜ r ≡ m * 625 / 2 ^ shift ⌝ }
+    ensures { λ r. ⌜ r ≡ Screen.nearest (m * 625) (2 ^ shift) ⌝ }
 {
-    if shift > 63 { 0 } else { m * 625 >> shift }
+    if shift > 63 {
+        0
+    } else {
+        nearest(m * 625, 1 << shift)
+    }
 }
 
 // From the fields of the bits. Size 2^31 has the exponent 1054.

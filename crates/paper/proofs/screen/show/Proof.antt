@@ -6,11 +6,10 @@ use Prim.Native.Nat.{_^_}
 use lib.Dec.{leb, eqb}
 use lib.Ieee.{binary64, toBits}
 use borrow.Author.Needs.{needs}
-use borrow.Author.Tests.{eq-eqb, ne-eqb}
 use Rattle.leaves.proofs.IsNan.{itself-number}
 use Rattle.paper.specs.declared.screen.Shown.the-variants.{Number}
 use Rattle.paper.specs.Screen.{shown}
-use Rattle.paper.proofs.Screens.{shown-nan, shown-big, shown-units}
+use Rattle.paper.proofs.Screens.{shown-nan, shown-big, shown-units, no-minus, own-minus}
 use Rattle.paper.proofs.screen.show.Statement.{statement}
 use Rattle.paper.proofs.screen.show.Tie as tie
 
@@ -43,10 +42,10 @@ met c =
     (λ n. ⊎-elim (λ w. absurd (n (w .0 .taken))) (λ w. w .2 ∙ w .1 .ensures) (c .if3 .came))
 
 returns-3 : tie.Need-returns-3
-returns-3 c = sym (met (c .before) ∙ rw (eq-eqb _ _ (c .if4 .taken)))
+returns-3 c = sym (met (c .before) ∙ no-minus (c .before .if3 .units) _ (c .if4 .taken))
 
 returns-4 : tie.Need-returns-4
-returns-4 c = sym (met (c .before) ∙ rw (ne-eqb _ _ (c .if4 .left)))
+returns-4 c = sym (met (c .before) ∙ own-minus (c .before .if3 .units) _ (c .if4 .left))
 
 pub show-spec : {M : Type 1} → statement M
 show-spec = tie.close (tie.spec returns float-to-bits-bits returns-2 units-requires add-units sub-units units-requires-2 returns-3 returns-4)
