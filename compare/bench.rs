@@ -1,21 +1,23 @@
 // Times the engine and the copy on the same inputs, in turns and in one process, by the processor's
 // time, so that a busy machine matters little: the median times for one input, and the median ratio
-// of the turns. Below stands what numpy and scikit-learn take on the same returns, in one thread,
-// where a python3 has them.
+// of the turns. Below stands what numpy and scikit-learn take on the same returns and prices, in one
+// thread, where a python3 has them.
 
 mod peers;
 mod stopwatch;
 
-use engine::calls::answer_into;
+use engine::calls::{answer_into, returns_from_prices};
 use engine::jacobi::decompose;
 use generator::given::product;
+use generator::prices::walks;
 use generator::random::Random;
-use generator::returns::realistic;
+use generator::returns::{realistic, set_column};
 use reference::covariance::{Decay, Estimate, Settings, Target};
 use reference::eigen::SymmetricEigen;
 use reference::input::{Call, Input};
 use reference::matrix::Matrix;
-use reference::{MAX_PERIODS, MAX_SIDE, MAX_SWEEPS};
+use reference::prices;
+use reference::{MAX_PERIODS, MAX_PRICE_ROWS, MAX_SIDE, MAX_SWEEPS};
 use std::hint::black_box;
 use stopwatch::{median, micros};
 
@@ -25,6 +27,10 @@ const SHAPES: [(usize, usize, usize, usize); 3] = [
     (MAX_SIDE, 512, 4, 31),
     (MAX_SIDE, MAX_PERIODS, 1, 21),
 ];
+
+/// Assets, rows of prices, how many inputs, how many turns.
+const PRICE_SHAPES: [(usize, usize, usize, usize); 2] =
+    [(MAX_SIDE, 513, 40, 41), (MAX_SIDE, MAX_PRICE_ROWS, 5, 41)];
 
 fn main() {
     println!(
@@ -41,10 +47,21 @@ fn main() {
             let name = format!("{name}, {assets} × {periods}");
             timed(&name, turns, &returns, assets, &call);
         }
-        peers::note(&returns[0], assets, periods);
+        peers::note(peers::RETURNS, &returns[0], assets, periods);
     }
     for (side, count) in [(8, 200), (16, 40), (MAX_SIDE, 8)] {
         decomposition(&random, side, count);
+    }
+    for (assets, rows, count, turns) in PRICE_SHAPES {
+        let mut prices: Vec<Vec<f64>> = (0..count).map(|_| walks(&random, assets, rows)).collect();
+        let name = format!("returns from prices, {assets} × {rows}");
+        timed_prices(&name, turns, &prices, assets, rows);
+        peers::note(peers::PRICES, &prices[0], assets, rows);
+        if rows == MAX_PRICE_ROWS {
+            prices.iter_mut().for_each(|prices| enlarge(prices, assets));
+            let name = format!("and one column by 1e200, {assets} × {rows}");
+            timed_prices(&name, turns, &prices, assets, rows);
+        }
     }
     peers::print();
 }
@@ -111,6 +128,33 @@ fn timed(name: &str, turns: usize, returns: &[Vec<f64>], assets: usize, call: &C
         }
     };
     line(name, turns, inputs.len(), engine, copy);
+}
+
+/// The last column times 1e200.
+fn enlarge(prices: &mut [f64], assets: usize) {
+    let last = assets - 1;
+    let column: Vec<f64> = prices[last..].iter().step_by(assets).copied().collect();
+    set_column(prices, assets, last, |row| column[row] * 1e200);
+}
+
+fn timed_prices(name: &str, turns: usize, prices: &[Vec<f64>], assets: usize, rows: usize) {
+    let mut computed = vec![0.0; (rows - 1) * assets];
+    let mut copied = computed.clone();
+    let engine = || {
+        for prices in prices {
+            let flat = returns_from_prices(prices, (assets, rows), &mut computed);
+            assert_eq!(flat.number, 0);
+            black_box(&computed);
+        }
+    };
+    let copy = || {
+        for prices in prices {
+            let answer = prices::returns_from_prices(prices, assets, rows, &mut copied);
+            assert!(answer.is_ok());
+            black_box(&copied);
+        }
+    };
+    line(name, turns, prices.len(), engine, copy);
 }
 
 /// One line of the table: `engine` and `copy` each treat all of the inputs.

@@ -6,6 +6,7 @@ mod corners;
 mod factor_papers;
 mod factors;
 mod minus_zero;
+mod priced;
 mod rounded;
 mod widest;
 
@@ -41,6 +42,7 @@ fn main() {
     factors::all(&mut table);
     widest::all(&mut table);
     rounded::all(&mut table);
+    priced::all(&mut table);
     println!("differences: {}", table.wrong);
     if table.wrong > 0 {
         std::process::exit(1);

@@ -1,18 +1,20 @@
 // The stack that the engine's calls take, on Linux: for each call the most bytes over drawn inputs,
-// good and damaged, and for the marker over drawn question files. What a call takes depends on its
-// way, not on the size of the matrices. Argument: how many inputs, and as many files.
+// good and damaged, for the marker over drawn question files, and for the call that takes prices over
+// drawn prices. What a call takes depends on its way, not on the size of the matrices. Argument: how
+// many inputs, and as many files and prices.
 
 mod argument;
 mod painted;
 
-use engine::calls::answer_into;
+use engine::calls::{answer_into, returns_from_prices};
 use engine::exam::mark;
 use generator::papers::draw_paper;
+use generator::prices::draw_prices;
 use generator::random::Random;
 use generator::{draw, Shapes};
 use painted::Stack;
 use reference::input::Call;
-use reference::{MAX_SIDE, MIN_PERIODS};
+use reference::{MAX_SIDE, MIN_PERIODS, MIN_PRICE_ROWS};
 use std::collections::BTreeMap;
 
 /// What include/engine.h says is always enough for a text.
@@ -45,6 +47,18 @@ fn main() {
             mark(&paper, &mut out);
         });
         note("exam_mark", taken);
+    }
+    let shapes = Shapes {
+        assets: 1..=MAX_SIDE,
+        periods: MIN_PRICE_ROWS..=64,
+    };
+    for _ in 0..inputs {
+        let mut input = draw_prices(&random, &shapes);
+        let shape = (input.n, input.rows);
+        let taken = stack.taken(&mut || {
+            returns_from_prices(&input.prices, shape, &mut input.returns);
+        });
+        note("engine_returns_from_prices", taken);
     }
     println!("{:30} {:>7}", "call", "bytes");
     for (name, taken) in most {

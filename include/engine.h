@@ -45,7 +45,7 @@ extern "C" {
    14  trace 0; a mean's decomposition fails, or its correlation is not finite or singular
   100  a number that stands for no kind: this interface only, before all other causes
 
-   (15 is the exam program's: a malformed paper.) */
+   (15 is the exam program's: a malformed paper. 16 is refused by the call on prices alone.) */
 
 enum engine_estimate {
     ENGINE_SAMPLE = 0,
@@ -108,6 +108,25 @@ uint32_t engine_bayes_stein_mean(
     const double *returns, size_t returns_len, size_t assets, size_t periods,
     size_t limit,
     double *answer, size_t answer_len, double numbers[2], size_t wholes[2]);
+
+/* ---- Returns from prices (document 02, 'Questions in prices')
+
+   `prices` has `assets` columns and `rows` rows, one more than the returns. `returns` receives the
+   first (rows - 1) * assets numbers: each price over the one in the row before, minus 1, rounded
+   twice. Its later numbers keep their value; a call that refuses writes nothing to it. Returns 0
+   where it accepts, with all of numbers and wholes 0, else the number of the first refusal of these:
+
+    1  no assets
+    2  over 24 assets, or over 4,097 rows
+    3  fewer than 3 rows                               wholes[0]: the rows
+    4  prices_len is not rows * assets, or returns_len is less than (rows - 1) * assets
+    5  a price is NaN or infinite                      wholes: the first row and column
+   16  a price is zero or negative                     wholes: the first row and column
+    5  a return is infinite                            wholes: its row among the returns, its column */
+
+uint32_t engine_returns_from_prices(
+    const double *prices, size_t prices_len, size_t assets, size_t rows,
+    double *returns, size_t returns_len, double numbers[2], size_t wholes[2]);
 
 /* ---- The exam program (document 01, 'The exam program')
 

@@ -1,5 +1,5 @@
 // The five calls, over the inputs of the copy and with reports of the same form. The weighted mean
-// has an export for each of its two settings.
+// has an export for each of its two settings. Beside them the call that takes prices.
 
 use reference::covariance::Decay;
 use reference::flat::{flat_target, Flat, FlatSettings};
@@ -32,6 +32,16 @@ unsafe extern "C" {
         assets: usize,
         periods: usize,
         target: u32,
+        numbers: *mut [f64; 2],
+        wholes: *mut [usize; 2],
+    ) -> u32;
+    fn engine_returns_from_prices(
+        prices: *const f64,
+        prices_len: usize,
+        assets: usize,
+        rows: usize,
+        returns: *mut f64,
+        returns_len: usize,
         numbers: *mut [f64; 2],
         wholes: *mut [usize; 2],
     ) -> u32;
@@ -150,6 +160,25 @@ pub fn ledoit_wolf(returns: &[f64], (assets, periods): (usize, usize), target: u
             assets,
             periods,
             target,
+            numbers,
+            wholes,
+        )
+    })
+}
+
+pub fn returns_from_prices(
+    prices: &[f64],
+    (assets, rows): (usize, usize),
+    returns: &mut [f64],
+) -> Flat {
+    reported(|numbers, wholes| unsafe {
+        engine_returns_from_prices(
+            prices.as_ptr(),
+            prices.len(),
+            assets,
+            rows,
+            returns.as_mut_ptr(),
+            returns.len(),
             numbers,
             wholes,
         )

@@ -9,7 +9,7 @@ use reference::covariance::{Decay, Estimate, Settings, Shrinkage};
 use reference::input::{Call, Input};
 use reference::{MAX_PERIODS, MAX_SIDE, MAX_SWEEPS, MIN_PERIODS};
 
-const NOT_FINITE: [f64; 3] = [f64::NAN, f64::INFINITY, f64::NEG_INFINITY];
+pub const NOT_FINITE: [f64; 3] = [f64::NAN, f64::INFINITY, f64::NEG_INFINITY];
 /// Sides that no matrix may have, among them the largest that document 01 allowed.
 pub const TOO_WIDE: [usize; 6] = [
     MAX_SIDE + 1,
@@ -169,7 +169,7 @@ fn damage_given(
     }
 }
 
-fn wrong_length(random: &Random, numbers: &mut Vec<f64>) {
+pub fn wrong_length(random: &Random, numbers: &mut Vec<f64>) {
     match random.below(3) {
         0 => numbers.push(0.125),
         1 => numbers.clear(),
@@ -180,7 +180,7 @@ fn wrong_length(random: &Random, numbers: &mut Vec<f64>) {
 }
 
 /// Replaces one number, if there is one.
-fn put(random: &Random, numbers: &mut [f64], value: f64) {
+pub fn put(random: &Random, numbers: &mut [f64], value: f64) {
     if !numbers.is_empty() {
         numbers[random.below(numbers.len())] = value;
     }

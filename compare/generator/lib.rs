@@ -1,11 +1,14 @@
 // Draws inputs for the five calls from a fixed seed: mostly good ones of every shape, kind of
-// number and setting, the rest damaged so that each refusal occurs.
+// number and setting, the rest damaged so that each refusal occurs. For the call that takes prices
+// likewise.
 
 pub mod damage;
 pub mod given;
 pub mod matrices;
 pub mod pairs;
 pub mod papers;
+pub mod price_pairs;
+pub mod prices;
 pub mod random;
 pub mod returns;
 pub mod screens;

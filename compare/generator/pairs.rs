@@ -64,14 +64,14 @@ pub fn draw_pair(random: &Random) -> Pair {
 }
 
 /// The sizes from `2^low` to `2^high` that a factor leaves within the range of the law.
-struct Sizes {
-    low: i32,
-    high: i32,
+pub struct Sizes {
+    pub low: i32,
+    pub high: i32,
 }
 
 impl Sizes {
     /// From `2^-most` to `2^most`, for both numbers of a pair, the second `2^k` times the first.
-    fn within(most: i32, k: i32) -> Self {
+    pub fn within(most: i32, k: i32) -> Self {
         Sizes {
             low: -most - k.min(0),
             high: most - k.max(0),
@@ -90,7 +90,7 @@ impl Sizes {
     }
 
     /// The nearest number of such a size. A zero stays.
-    fn fitted(&self, x: f64) -> f64 {
+    pub fn fitted(&self, x: f64) -> f64 {
         let (least, most) = (pow2_scaled(1.0, self.low), pow2_scaled(1.0, self.high));
         if x == 0.0 {
             x
@@ -100,7 +100,7 @@ impl Sizes {
     }
 
     /// A power between the ends.
-    fn power(&self, random: &Random) -> i32 {
+    pub fn power(&self, random: &Random) -> i32 {
         random.between(self.low, self.high)
     }
 }

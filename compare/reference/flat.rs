@@ -56,25 +56,36 @@ pub struct Flat {
 
 impl Flat {
     pub fn of(answer: &Result<Report, Refusal>) -> Self {
-        let flat = |number, numbers, wholes| Flat {
-            number,
+        let accepted = |numbers, wholes| Flat {
+            number: 0,
             numbers,
             wholes,
         };
         match answer {
-            Ok(Report::Covariance(c)) => flat(0, [c.intensity, 0.0], [c.sweeps, c.rotations]),
-            Ok(Report::Intensity(intensity)) => flat(0, [*intensity, 0.0], [0, 0]),
-            Ok(Report::Mean) => flat(0, [0.0, 0.0], [0, 0]),
-            Ok(Report::Shrunk(s)) => flat(0, [s.intensity, s.target], [s.sweeps, s.rotations]),
-            Err(refusal) => {
-                let number = refusal.number() as u32;
-                match refusal.detail() {
-                    Detail::Nothing => flat(number, [0.0, 0.0], [0, 0]),
-                    Detail::Whole(whole) => flat(number, [0.0, 0.0], [whole, 0]),
-                    Detail::Entry(row, column) => flat(number, [0.0, 0.0], [row, column]),
-                    Detail::Value(value) => flat(number, [value, 0.0], [0, 0]),
-                }
-            }
+            Ok(Report::Covariance(c)) => accepted([c.intensity, 0.0], [c.sweeps, c.rotations]),
+            Ok(Report::Intensity(intensity)) => accepted([*intensity, 0.0], [0, 0]),
+            Ok(Report::Mean) => Flat::of_filled(&Ok(())),
+            Ok(Report::Shrunk(s)) => accepted([s.intensity, s.target], [s.sweeps, s.rotations]),
+            Err(refusal) => Flat::of_filled(&Err(*refusal)),
+        }
+    }
+
+    /// Of a call that reports nothing beside the numbers that it fills.
+    pub fn of_filled(answer: &Result<(), Refusal>) -> Self {
+        let (number, detail) = match answer {
+            Ok(()) => (0, Detail::Nothing),
+            Err(refusal) => (refusal.number() as u32, refusal.detail()),
+        };
+        let (numbers, wholes) = match detail {
+            Detail::Nothing => ([0.0, 0.0], [0, 0]),
+            Detail::Whole(whole) => ([0.0, 0.0], [whole, 0]),
+            Detail::Entry(row, column) => ([0.0, 0.0], [row, column]),
+            Detail::Value(value) => ([value, 0.0], [0, 0]),
+        };
+        Flat {
+            number,
+            numbers,
+            wholes,
         }
     }
 }

@@ -7,7 +7,7 @@ use crate::calls::{
 };
 use crate::covariance::{Decay, Settings, Target};
 use crate::expected_returns::Shrunk;
-use crate::refusal::{Detail, Refusal};
+use crate::refusal::Refusal;
 
 /// What a lent slice holds before a call, where nothing else is asked for. The program `replay`
 /// begins with the same number.
@@ -163,12 +163,7 @@ impl Input {
                 s.sweeps,
                 s.rotations
             ),
-            Err(refusal) => match refusal.detail() {
-                Detail::Nothing => format!("refused {}", refusal.number()),
-                Detail::Whole(whole) => format!("refused {} at {whole}", refusal.number()),
-                Detail::Entry(i, j) => format!("refused {} at {i} {j}", refusal.number()),
-                Detail::Value(value) => format!("refused {} at {value}", refusal.number()),
-            },
+            Err(refusal) => refusal.told(),
         }
     }
 }

@@ -12,6 +12,7 @@ pub mod input;
 pub mod leaves;
 pub mod matrix;
 pub mod methods;
+pub mod prices;
 pub mod refusal;
 pub mod returns;
 pub mod screen;
@@ -21,5 +22,8 @@ pub const MAX_SIDE: usize = 24;
 /// The fewest and the most periods.
 pub const MIN_PERIODS: usize = 2;
 pub const MAX_PERIODS: usize = 4096;
+/// The fewest and the most rows of prices: one more than the periods of the returns.
+pub const MIN_PRICE_ROWS: usize = MIN_PERIODS + 1;
+pub const MAX_PRICE_ROWS: usize = MAX_PERIODS + 1;
 /// The largest sweep limit, which is the source's own.
 pub const MAX_SWEEPS: usize = 100;

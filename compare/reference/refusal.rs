@@ -1,4 +1,4 @@
-// Document 01, 'Causes': the refusals 1 to 14, with what is returned with each.
+// Document 01, 'Causes': the refusals 1 to 14, and document 02's 16, with what is returned with each.
 
 #[derive(Debug, Clone, Copy, PartialEq)]
 pub enum Refusal {
@@ -7,7 +7,7 @@ pub enum Refusal {
     /// The periods.
     TooFewPeriods(usize),
     WrongLength,
-    /// The first row and column, of the returns or of the given matrix.
+    /// The first row and column, of the returns, of the given matrix or of the prices.
     NotFinite(usize, usize),
     CovarianceNotFinite,
     BadSetting(Field),
@@ -22,10 +22,14 @@ pub enum Refusal {
     Indefinite(f64),
     NotDecomposed,
     Singular,
+    /// The first row and column. Document 02, Paper 4.
+    NonPositivePrice(usize, usize),
 }
 
-/// How many there are: their numbers begin at 1.
+/// How many the five calls of document 01 have: their numbers begin at 1.
 pub const REFUSALS: usize = 14;
+/// The largest number of all. 15 is the exam program's, and no call answers it.
+pub const LARGEST_NUMBER: usize = 16;
 
 /// The setting that refusal 7 names.
 #[derive(Debug, Clone, Copy, PartialEq)]
@@ -51,7 +55,7 @@ pub enum Detail {
 }
 
 impl Refusal {
-    /// Document 01's number of the cause.
+    /// The documents' number of the cause.
     pub const fn number(self) -> usize {
         match self {
             Refusal::NoAssets => 1,
@@ -68,15 +72,16 @@ impl Refusal {
             Refusal::Indefinite(_) => 12,
             Refusal::NotDecomposed => 13,
             Refusal::Singular => 14,
+            Refusal::NonPositivePrice(..) => 16,
         }
     }
 
     pub fn detail(self) -> Detail {
         match self {
             Refusal::TooFewPeriods(periods) => Detail::Whole(periods),
-            Refusal::NotFinite(row, column) | Refusal::Asymmetric(row, column) => {
-                Detail::Entry(row, column)
-            }
+            Refusal::NotFinite(row, column)
+            | Refusal::Asymmetric(row, column)
+            | Refusal::NonPositivePrice(row, column) => Detail::Entry(row, column),
             Refusal::BadSetting(field) => Detail::Whole(field as usize),
             Refusal::ZeroVariance(column) => Detail::Whole(column),
             Refusal::WrongSide(side) => Detail::Whole(side),
@@ -88,6 +93,17 @@ impl Refusal {
             | Refusal::NotTheSample
             | Refusal::NotDecomposed
             | Refusal::Singular => Detail::Nothing,
+        }
+    }
+
+    /// The number with what is returned, in words.
+    pub fn told(self) -> String {
+        let number = self.number();
+        match self.detail() {
+            Detail::Nothing => format!("refused {number}"),
+            Detail::Whole(whole) => format!("refused {number} at {whole}"),
+            Detail::Entry(i, j) => format!("refused {number} at {i} {j}"),
+            Detail::Value(value) => format!("refused {number} at {value}"),
         }
     }
 }

@@ -1,6 +1,6 @@
 // Carried over from returns.rs of the source; see NOTICE.
-// `Returns` with its sample covariance, the first entry that is not finite, and the rule of zero
-// variance. Shapes and lengths are checked before, in calls.rs.
+// `Returns` with its sample covariance, the first entry that is not finite, the rule of zero variance,
+// and the returns of prices. Shapes and lengths are checked before, in calls.rs and prices.rs.
 
 use crate::leaves::{is_finite, sqrt};
 use crate::matrix::Matrix;
@@ -17,6 +17,18 @@ impl Returns {
     pub fn new(returns: Matrix) -> Result<Self, Refusal> {
         Returns::validate(&returns)?;
         Returns::build(returns)
+    }
+
+    /// The returns of prices: refuses a price that is not finite (5), then one that is zero or
+    /// negative (16), then a return that is infinite (5).
+    pub fn prices_matrix(prices: &Matrix) -> Result<Matrix, Refusal> {
+        Returns::validate(prices)?;
+        if let Some((row, col)) = Returns::find(prices, |p| p <= 0.0) {
+            return Err(Refusal::NonPositivePrice(row, col));
+        }
+        let returns = Returns::compute_returns(prices);
+        Returns::validate(&returns)?;
+        Ok(returns)
     }
 
     fn build(returns: Matrix) -> Result<Self, Refusal> {
@@ -43,7 +55,7 @@ impl Returns {
         })
     }
 
-    /// Checks that `data` has only finite values, for returns and for a given matrix.
+    /// Checks that `data` has only finite values, for returns, for a given matrix and for prices.
     pub fn validate(data: &Matrix) -> Result<(), Refusal> {
         match Returns::find(data, |x| !is_finite(x)) {
             Some((row, col)) => Err(Refusal::NotFinite(row, col)),
@@ -56,6 +68,14 @@ impl Returns {
         (0..data.nrows())
             .flat_map(|row| (0..data.ncols()).map(move |col| (row, col)))
             .find(|&(row, col)| predicate(data[(row, col)]))
+    }
+
+    /// Each price over the one before, minus 1: one row fewer than there are of prices.
+    pub fn compute_returns(prices: &Matrix) -> Matrix {
+        let rows = prices.nrows().saturating_sub(1);
+        Matrix::from_fn(rows, prices.ncols(), |t, j| {
+            prices[(t + 1, j)] / prices[(t, j)] - 1.0
+        })
     }
 
     fn compute_covariance_matrix(returns: &Matrix) -> Matrix {

@@ -2,3 +2,4 @@
 pub mod Settings
 pub mod Report
 pub mod Calls
+pub mod Returns

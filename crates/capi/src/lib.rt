@@ -2,4 +2,5 @@
 pub mod calls;
 pub mod exam;
 mod report;
+pub mod returns;
 mod settings;

@@ -47,7 +47,7 @@ fn value_or(otherwise: f64, detail: Detail) -> f64
     }
 }
 
-fn refused(refusal: Refusal) -> Report
+pub(crate) fn refused(refusal: Refusal) -> Report
     ensures { λ r. ⌜ r ≡ Reports.refused refusal ⌝ }
 {
     let with = detail(refusal);

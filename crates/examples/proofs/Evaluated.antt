@@ -23,7 +23,8 @@ use Rattle.rules.specs.JamesStein.{grandMean, largestDeviation, decomposeUnequa
 use Rattle.rules.specs.BayesStein.{singular, commonExponent, gathered, project, form, bayesSteinShrinkage, shrunkMean}
 use Rattle.rules.specs.Order.{notFinite, opening, badSweepLimit, ofGiven, badRegularization, badShrinkage, badDecay, badEstimate, notTheSample, noCorrelation, noVariance, ofSettings, adjustedOrder, ledoitWolfOrder, weightedOrder, jamesSteinOrder, bayesSteinOrder}
 use Rattle.rules.specs.Calls.{settle, adjustedWith, adjustedReturns, adjustedCovariance, ledoitWolfIntensity, exponentiallyWeightedMean, jamesSteinMean, bayesSteinMean}
+use Rattle.rules.specs.Prices.{simpleReturns, nonPositive, pricesOrder, convert, returnsFromPrices}
 
 unfoldable pub evaluated : ℕ
-unfolding add sub mul div neg lt le eq ne isNan fits ofInt ofBits size round isFinite abs signum clamp01 max0 min0 larger smaller loop sumTo amaxTo maxTo minTo firstTo tab fill binaryExponent times pow2Scaled root sticky halfExponent radicand shift sqrt floor horner nearestPower reduced exp expM1 series lnOf lnScaled between01 ln rows trace amax sumOver total squares firstEntry allFinite tangent turn turnColumns turnRows rotated rotateBy rotate sweep afterSweeps offDiagonal test sweeping start swept scaledBack unturned decompose first mean deviation gram covariance largest constantAsset scaled logDecay accepted acceptedDecay weights weightedMean denominator weightedCovariance shortfall semicovariance semicovarianceBelow asymmetry decomposeGiven indefinite averageVariance averageCorrelation constantCorrelation target variation covariation targetCovariation error squaredDistance intensityBy intensityOf ledoitWolf decompositionOf base intensity weightedTarget mixed shrunk regularized adjusted isAdjusted moments grandMean largestDeviation decomposeUnequal spread jamesSteinIntensity towards singular commonExponent gathered project form bayesSteinShrinkage shrunkMean notFinite opening badSweepLimit ofGiven badRegularization badShrinkage badDecay badEstimate notTheSample noCorrelation noVariance ofSettings adjustedOrder ledoitWolfOrder weightedOrder jamesSteinOrder bayesSteinOrder settle adjustedWith adjustedReturns adjustedCovariance ledoitWolfIntensity exponentiallyWeightedMean jamesSteinMean bayesSteinMean
+unfolding add sub mul div neg lt le eq ne isNan fits ofInt ofBits size round isFinite abs signum clamp01 max0 min0 larger smaller loop sumTo amaxTo maxTo minTo firstTo tab fill binaryExponent times pow2Scaled root sticky halfExponent radicand shift sqrt floor horner nearestPower reduced exp expM1 series lnOf lnScaled between01 ln rows trace amax sumOver total squares firstEntry allFinite tangent turn turnColumns turnRows rotated rotateBy rotate sweep afterSweeps offDiagonal test sweeping start swept scaledBack unturned decompose first mean deviation gram covariance largest constantAsset scaled logDecay accepted acceptedDecay weights weightedMean denominator weightedCovariance shortfall semicovariance semicovarianceBelow asymmetry decomposeGiven indefinite averageVariance averageCorrelation constantCorrelation target variation covariation targetCovariation error squaredDistance intensityBy intensityOf ledoitWolf decompositionOf base intensity weightedTarget mixed shrunk regularized adjusted isAdjusted moments grandMean largestDeviation decomposeUnequal spread jamesSteinIntensity towards singular commonExponent gathered project form bayesSteinShrinkage shrunkMean notFinite opening badSweepLimit ofGiven badRegularization badShrinkage badDecay badEstimate notTheSample noCorrelation noVariance ofSettings adjustedOrder ledoitWolfOrder weightedOrder jamesSteinOrder bayesSteinOrder settle adjustedWith adjustedReturns adjustedCovariance ledoitWolfIntensity exponentiallyWeightedMean jamesSteinMean bayesSteinMean simpleReturns nonPositive pricesOrder convert returnsFromPrices
 evaluated = 0

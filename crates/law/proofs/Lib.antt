@@ -43,3 +43,5 @@ pub mod Intensities
 pub mod Zeros
 pub mod Diagonal
 pub mod NotDecomposed
+pub mod Prices
+pub mod PriceReturns

@@ -88,7 +88,7 @@ each-tab R zero f f' h = tt
 each-tab R (suc n) f f' h = (h 0 (omega arith), each-tab R n (λ i. f (suc i)) (λ i. f' (suc i)) (λ i l. h (suc i) (omega arith)))
 
 -- the answer's part of a slice
-take-fill : (n : ℕ) (f : ℕ → Float) (slice : List Float) → take n (fill n f slice) ≡ tab n f
+pub take-fill : (n : ℕ) (f : ℕ → Float) (slice : List Float) → take n (fill n f slice) ≡ tab n f
 unfolding fill
 take-fill n f slice = take-at (tab n f) (drop n slice) n (length-tab f n)
 

@@ -1,6 +1,7 @@
 // One stored answer: its call is made again, and what comes back is held to what is stored.
 use crate::input;
 use capi::calls;
+use capi::returns::engine_returns_from_prices;
 
 pub(crate) struct Outcome {
     pub number: u32,
@@ -172,7 +173,8 @@ fn with_limit(
     calls::engine_bayes_stein_mean(returns, assets, periods, limit, answer, numbers, wholes)
 }
 
-// 0 the adjusted covariance, 1 Ledoit-Wolf, 2 the weighted mean by half-life, 3 James-Stein, 4 Bayes-Stein, 5 the weighted mean by decay factor.
+// 0 the adjusted covariance, 1 Ledoit-Wolf, 2 the weighted mean by half-life, 3 James-Stein, 4 Bayes-Stein, 5 the weighted mean by decay factor, 6 returns from
+// prices: the slice then has prices, and the periods are their rows.
 fn made(
     returns: &[f64],
     assets: usize,
@@ -194,6 +196,9 @@ fn made(
     }
     if call == 5 {
         return with_factor(returns, assets, periods, answer, numbers, wholes);
+    }
+    if call == 6 {
+        return engine_returns_from_prices(returns, assets, periods, answer, numbers, wholes);
     }
     with_limit(call, returns, assets, periods, answer, numbers, wholes)
 }

@@ -2,11 +2,11 @@
 ghost use Prim.Native.Nat.{_<_};
 use libc::STDOUT_FILENO;
 
-// A place for answers, one for each refusal of a call, and the last for all other numbers: it is printed as 15, which no call answers.
-pub(crate) const PLACES: usize = 16;
+// A place for answers, one for each number up to 16, and the last for all others: it is printed as 17. No call answers 15 or 17.
+pub(crate) const PLACES: usize = 18;
 
 fn place(number: u32) -> usize
-    ensures { λ r. ⌜ r < 16 ⌝ }
+    ensures { λ r. ⌜ r < 18 ⌝ }
 {
     if number < PLACES as u32 - 1 {
         number as usize

@@ -1,4 +1,4 @@
--- Document 01: its opening paragraph, "Records", "Estimators", "Causes" and "How tight", a; document 02, "Paper 1".
+-- Document 01: its opening paragraph, "Records", "Estimators", "Causes" and "How tight", a; document 02, "Paper 1" and "Paper 4".
 pub mod Refusals
 pub mod Sample
 pub mod Weighted
@@ -14,3 +14,4 @@ pub mod BayesStein
 pub mod Order
 pub mod Shapes
 pub mod Calls
+pub mod Prices

@@ -9,6 +9,7 @@ use Rattle.rules.specs.declared.Field.{Field}
 use Rattle.rules.specs.declared.Field.the-variants.{RegularizationField, ShrinkageField, HalfLifeField, ThresholdField, SweepLimitField, DecayFactorField}
 use Rattle.rules.specs.declared.Refusal.{Refusal}
 use Rattle.rules.specs.declared.Refusal.the-variants.{NoAssets, TooLarge, TooFewPeriods, WrongLength, NotFinite, CovarianceNotFinite, BadSetting, NotTheSample, ZeroVariance, WrongSide, Asymmetric, Indefinite, NotDecomposed, Singular}
+use Rattle.rules.specs.declared.Refusal.the-variants.{NonPositivePrice}
 
 abbrev pub number : Refusal → ℕ
 number NoAssets = 1
@@ -25,6 +26,8 @@ number (Asymmetric i j) = 11
 number (Indefinite x) = 12
 number NotDecomposed = 13
 number Singular = 14
+-- document 02, "Paper 4"
+number (NonPositivePrice i j) = 16
 
 abbrev pub fieldNumber : Field → ℕ
 fieldNumber RegularizationField = 1
@@ -51,6 +54,7 @@ detail (Asymmetric i j) = entry i j
 detail (Indefinite x) = value x
 detail NotDecomposed = nothing
 detail Singular = nothing
+detail (NonPositivePrice i j) = entry i j
 
 -- ---- checks
 

@@ -75,6 +75,7 @@ pub enum Refusal {
     Indefinite(f64),
     NotDecomposed,
     Singular,
+    NonPositivePrice(usize, usize),
 }
 
 // What is returned with a refusal.

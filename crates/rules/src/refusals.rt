@@ -23,6 +23,7 @@ pub fn number(refusal: Refusal) -> u32
         Refusal::Indefinite(_) => 12,
         Refusal::NotDecomposed => 13,
         Refusal::Singular => 14,
+        Refusal::NonPositivePrice(_, _) => 16,
     }
 }
 
@@ -57,5 +58,6 @@ pub fn detail(refusal: Refusal) -> Detail
         Refusal::Indefinite(value) => Detail::Value(value),
         Refusal::NotDecomposed => Detail::Nothing,
         Refusal::Singular => Detail::Nothing,
+        Refusal::NonPositivePrice(row, column) => Detail::Entry(row, column),
     }
 }

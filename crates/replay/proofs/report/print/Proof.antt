@@ -8,7 +8,7 @@ abbrev Inv-loop : tie.InvT-loop
 Inv-loop counts different i₀ t5 i = Unit {0}
 
 abbrev μ-loop : tie.MeasureT-loop
-μ-loop counts different i₀ t5 i = 16 - i
+μ-loop counts different i₀ t5 i = 18 - i
 
 slice-aggregate-line : tie.Need-slice-aggregate-line Inv-loop μ-loop
 slice-aggregate-line c = search needs

@@ -48,6 +48,9 @@ enum-told-6 c = search needs
 enum-told-7 : tie.Need-enum-told-7
 enum-told-7 c = search needs
 
+enum-known-refusal-8 : tie.Need-enum-known-refusal-8
+enum-known-refusal-8 c = search needs
+
 returns : tie.Need-returns
 returns c = search needs
 
@@ -90,6 +93,9 @@ returns-13 c = search needs
 returns-14 : tie.Need-returns-14
 returns-14 c = search needs
 
+returns-15 : tie.Need-returns-15
+returns-15 c = rw (c .before .refusal8 .given .1)
+
 pub detail-spec : {M : Type 1} → statement M
 detail-spec =
     tie.close
@@ -109,6 +115,7 @@ detail-spec =
     enum-known-refusal-7
     enum-told-6
     enum-told-7
+    enum-known-refusal-8
     returns
     returns-2
     returns-3
@@ -122,4 +129,5 @@ detail-spec =
     returns-11
     returns-12
     returns-13
-    returns-14)
+    returns-14
+    returns-15)
