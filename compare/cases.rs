@@ -1,6 +1,8 @@
 // Document 01's twelve cases as the copy computes them, held to the values that it states, then the
 // corners where document 01 and the source meet, and those of document 02. Ends with 1 if one differs.
 
+mod authored;
+mod authored_papers;
 mod case6;
 mod corners;
 mod factor_papers;
@@ -43,6 +45,7 @@ fn main() {
     widest::all(&mut table);
     rounded::all(&mut table);
     priced::all(&mut table);
+    authored::all(&mut table);
     println!("differences: {}", table.wrong);
     if table.wrong > 0 {
         std::process::exit(1);

@@ -45,7 +45,8 @@ extern "C" {
    14  trace 0; a mean's decomposition fails, or its correlation is not finite or singular
   100  a number that stands for no kind: this interface only, before all other causes
 
-   (15 is the exam program's: a malformed paper. 16 is refused by the call on prices alone.) */
+   (15 is a file that is no question, 16 is refused by the call on prices alone, 17 and 18 by the writer
+   of question files.) */
 
 enum engine_estimate {
     ENGINE_SAMPLE = 0,
@@ -127,6 +128,51 @@ uint32_t engine_bayes_stein_mean(
 uint32_t engine_returns_from_prices(
     const double *prices, size_t prices_len, size_t assets, size_t rows,
     double *returns, size_t returns_len, double numbers[2], size_t wholes[2]);
+
+/* ---- Question files (document 02, 'Question authors write files')
+
+   A question record in numbers: assets and periods; a kind each for the estimate, the shrinkage and
+   the regularization, as in the enums above, with the 64 bits of its float beside it, so that every NaN
+   comes back as it was; whether there is a sweep limit, and the limit; the question. `returns` and
+   `given` have the bits of the returns, periods * assets, and of the given entries, assets * assets for
+   ENGINE_GIVEN and none for another estimate. Bits and a limit that a kind does not have are not read. */
+
+enum engine_question {
+    ENGINE_COVARIANCE = 0,
+    ENGINE_WEIGHTED_MEAN = 1,
+    ENGINE_JAMES_STEIN = 2,
+    ENGINE_BAYES_STEIN = 3
+};
+
+/* Writes the file of a question to the front of `out`; the bytes behind it keep their value. Returns 0
+   with the bytes written in wholes[0]; else, with all of numbers and wholes 0 and `out` as it was,
+
+   17  the record breaks a rule of the format, or has a given matrix of 0 assets
+   18  out_len is less than the file's length; 9,849 bytes are always enough
+  100  a number that stands for no kind or no question, or a has_limit above 1; before all other causes */
+
+uint32_t engine_write_question(
+    size_t assets, size_t periods, const uint64_t *returns, size_t returns_len,
+    uint32_t estimate, uint64_t estimate_bits,
+    uint32_t shrinkage, uint64_t shrinkage_bits,
+    uint32_t regularization, uint64_t regularization_bits,
+    const uint64_t *given, size_t given_len,
+    uint32_t has_limit, size_t limit, uint32_t question,
+    uint8_t *out, size_t out_len, double numbers[2], size_t wholes[2]);
+
+/* Reads a question file. Returns 0 and writes the returns and the given entries to the front of their
+   slices, whose later numbers keep their value, and
+       bits:   those of the estimate, the shrinkage and the regularization, 0 where there are none
+       wholes: assets, periods, estimate, shrinkage, regularization, has_limit, limit (0 if none), question
+   else, with nothing written anywhere,
+
+   15  the file is no question
+    4  returns_len or given_len is less than the file has; 1,024 and 64 are always enough */
+
+uint32_t engine_read_question(
+    const uint8_t *file, size_t file_len,
+    uint64_t *returns, size_t returns_len, uint64_t *given, size_t given_len,
+    uint64_t bits[3], size_t wholes[8]);
 
 /* ---- The exam program (document 01, 'The exam program')
 

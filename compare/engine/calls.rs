@@ -186,7 +186,7 @@ pub fn returns_from_prices(
 }
 
 /// The report of a call.
-fn reported(call: impl FnOnce(*mut [f64; 2], *mut [usize; 2]) -> u32) -> Flat {
+pub(crate) fn reported(call: impl FnOnce(*mut [f64; 2], *mut [usize; 2]) -> u32) -> Flat {
     let (mut numbers, mut wholes) = ([UNTOUCHED; 2], [usize::MAX; 2]);
     let number = call(&mut numbers, &mut wholes);
     Flat {

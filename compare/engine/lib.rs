@@ -5,3 +5,4 @@ pub mod calls;
 pub mod exam;
 pub mod jacobi;
 pub mod leaves;
+pub mod questions;

@@ -1,7 +1,8 @@
 // Draws inputs for the five calls from a fixed seed: mostly good ones of every shape, kind of
 // number and setting, the rest damaged so that each refusal occurs. For the call that takes prices
-// likewise.
+// and for question records likewise.
 
+pub mod broken;
 pub mod damage;
 pub mod given;
 pub mod matrices;
@@ -9,6 +10,7 @@ pub mod pairs;
 pub mod papers;
 pub mod price_pairs;
 pub mod prices;
+pub mod questions;
 pub mod random;
 pub mod returns;
 pub mod screens;

@@ -1,12 +1,14 @@
 // Document 01, 'The exam program', with document 02's kind 12: the question file as the documents
 // word it, and the printed answer. The reader goes through the file record by record and keeps what
-// it meets; the rules on what may stand beside what are asked afterwards.
+// it meets; the rules on what may stand beside what are asked afterwards. It gives the question record
+// of document 02, Paper 5, in bits, of which the marking makes floats.
 
 use crate::calls::{
     adjusted_covariance, bayes_stein_mean, exponentially_weighted_mean, james_stein_mean,
 };
 use crate::covariance::{Decay, Estimate, Settings, Shrinkage, Target};
 use crate::leaves::bits;
+use crate::question::{self, Asked, Paper, Question};
 use crate::screen::screen;
 use crate::MAX_SWEEPS;
 
@@ -18,38 +20,34 @@ pub const FILE_PERIODS: usize = 128;
 pub const MALFORMED: usize = 15;
 
 /// The file is no question.
-struct Malformed;
-
-/// A question: 0 covariance, 1 weighted mean, 2 James-Stein, 3 Bayes-Stein.
-struct Question {
-    number: u8,
-    n: usize,
-    t: usize,
-    returns: Vec<f64>,
-    given: Vec<f64>,
-    settings: Settings,
-}
+pub struct Malformed;
 
 /// What is printed of a file.
 pub fn exam(file: &[u8]) -> Vec<u8> {
-    let Ok(question) = read(file) else {
+    let Ok(paper) = read(file) else {
         return refused(MALFORMED);
     };
-    let Question { n, t, .. } = question;
-    let settings = &question.settings;
-    let columns = if question.number == 0 { n } else { 1 };
+    let (n, t) = (paper.question.assets, paper.question.periods);
+    let settings = &settings(&paper.question);
+    let columns = match paper.question.asked {
+        Asked::Covariance => n,
+        _ => 1,
+    };
     let mut answer = vec![0.0; n * columns];
-    let (returns, slice) = (&question.returns, &mut answer[..]);
-    let report = match question.number {
-        0 => adjusted_covariance(returns, n, t, settings, &question.given, n, slice).map(|_| ()),
-        1 => match settings.estimate {
+    let (returns, given) = (&floats(&paper.returns), &floats(&paper.given));
+    let slice = &mut answer[..];
+    let report = match paper.question.asked {
+        Asked::Covariance => {
+            adjusted_covariance(returns, n, t, settings, given, n, slice).map(|_| ())
+        }
+        Asked::WeightedMean => match settings.estimate {
             Estimate::ExponentiallyWeighted(decay) => {
                 exponentially_weighted_mean(returns, n, t, decay, slice)
             }
             _ => unreachable!("question 1 has a half-life or a decay factor"),
         },
-        2 => james_stein_mean(returns, n, t, settings.limit, slice).map(|_| ()),
-        _ => bayes_stein_mean(returns, n, t, settings.limit, slice).map(|_| ()),
+        Asked::JamesStein => james_stein_mean(returns, n, t, settings.limit, slice).map(|_| ()),
+        Asked::BayesStein => bayes_stein_mean(returns, n, t, settings.limit, slice).map(|_| ()),
     };
     match report {
         Ok(()) => printed(n, columns, &answer),
@@ -84,20 +82,47 @@ fn printed(n: usize, columns: usize, answer: &[f64]) -> Vec<u8> {
     text.into_bytes()
 }
 
+fn floats(numbers: &[u64]) -> Vec<f64> {
+    numbers.iter().copied().map(f64::from_bits).collect()
+}
+
+/// The settings that a question record stands for.
+fn settings(question: &Question) -> Settings {
+    let weighted = |decay| Estimate::ExponentiallyWeighted(decay);
+    let float = f64::from_bits;
+    Settings {
+        estimate: match question.estimate {
+            question::Estimate::Sample => Estimate::Sample,
+            question::Estimate::Given => Estimate::Given,
+            question::Estimate::HalfLife(bits) => weighted(Decay::HalfLife(float(bits))),
+            question::Estimate::Semi => Estimate::Semi,
+            question::Estimate::SemiBelow(bits) => Estimate::SemiBelow(float(bits)),
+            question::Estimate::Factor(bits) => weighted(Decay::Lambda(float(bits))),
+        },
+        shrinkage: match question.shrinkage {
+            question::Shrinkage::Unshrunk => Shrinkage::Unshrunk,
+            question::Shrinkage::Fixed(bits) => Shrinkage::Fixed(float(bits)),
+            question::Shrinkage::LedoitWolf(target) => Shrinkage::LedoitWolf(target),
+        },
+        regularization: question.regularization.map(float),
+        limit: question.limit.unwrap_or(MAX_SWEEPS),
+    }
+}
+
 /// What stands in a file, in the order of its records.
 #[derive(Default)]
 struct Records {
     shape: Option<(usize, usize)>,
-    returns: Vec<f64>,
-    regularization: Option<f64>,
-    fixed: Option<f64>,
+    returns: Vec<u64>,
+    regularization: Option<u64>,
+    fixed: Option<u64>,
     target: Option<Target>,
-    half_life: Option<f64>,
+    half_life: Option<u64>,
     semi: bool,
-    threshold: Option<f64>,
-    given: Vec<f64>,
+    threshold: Option<u64>,
+    given: Vec<u64>,
     limit: Option<u8>,
-    factor: Option<f64>,
+    factor: Option<u64>,
     question: Option<u8>,
 }
 
@@ -110,7 +135,7 @@ fn place(kind: u8) -> u8 {
     }
 }
 
-fn read(file: &[u8]) -> Result<Question, Malformed> {
+pub fn read(file: &[u8]) -> Result<Paper, Malformed> {
     let mut records = Records::default();
     let mut bytes = file;
     let mut last = 0;
@@ -123,7 +148,7 @@ fn read(file: &[u8]) -> Result<Question, Malformed> {
         last = kind;
         records.take(kind, &mut bytes)?;
     }
-    records.question()
+    records.paper()
 }
 
 /// The first bytes, which are taken away.
@@ -137,8 +162,8 @@ fn count(bytes: &mut &[u8]) -> Result<usize, Malformed> {
     Ok(u16::from_le_bytes(front(bytes)?).into())
 }
 
-fn number(bytes: &mut &[u8]) -> Result<f64, Malformed> {
-    Ok(f64::from_le_bytes(front(bytes)?))
+fn number(bytes: &mut &[u8]) -> Result<u64, Malformed> {
+    Ok(u64::from_le_bytes(front(bytes)?))
 }
 
 fn byte(bytes: &mut &[u8]) -> Result<u8, Malformed> {
@@ -173,11 +198,17 @@ impl Records {
     }
 
     /// The question, where the rules grant one.
-    fn question(self) -> Result<Question, Malformed> {
+    fn paper(self) -> Result<Paper, Malformed> {
         let (n, t) = self.shape.ok_or(Malformed)?;
-        let number = self.question.ok_or(Malformed)?;
-        let estimates = self.half_life.is_some() as usize
-            + self.factor.is_some() as usize
+        let asked = match self.question.ok_or(Malformed)? {
+            0 => Asked::Covariance,
+            1 => Asked::WeightedMean,
+            2 => Asked::JamesStein,
+            3 => Asked::BayesStein,
+            _ => return Err(Malformed),
+        };
+        let decays = self.half_life.is_some() as usize + self.factor.is_some() as usize;
+        let estimates = decays
             + self.semi as usize
             + self.threshold.is_some() as usize
             + !self.given.is_empty() as usize;
@@ -189,50 +220,41 @@ impl Records {
             && estimates <= 1
             && shrinkages <= 1;
         let adjusts = self.regularization.is_some() || shrinkages > 0;
-        let fits = match number {
-            0 => self.limit.is_none() || !self.given.is_empty(),
-            1 => self.decay().is_some() && !adjusts && self.limit.is_none(),
-            2 | 3 => !adjusts && estimates == 0,
-            _ => false,
+        let fits = match asked {
+            Asked::Covariance => self.limit.is_none() || !self.given.is_empty(),
+            Asked::WeightedMean => decays == 1 && !adjusts && self.limit.is_none(),
+            Asked::JamesStein | Asked::BayesStein => !adjusts && estimates == 0,
         };
         if !rules || !fits {
             return Err(Malformed);
         }
-        let settings = self.settings();
-        Ok(Question {
-            number,
-            n,
-            t,
+        Ok(Paper {
+            question: self.question(n, t, asked),
             returns: self.returns,
             given: self.given,
-            settings,
         })
     }
 
-    /// By a half-life or by a decay factor: at most one of them stands in a question.
-    fn decay(&self) -> Option<Decay> {
-        let factor = self.factor.map(Decay::Lambda);
-        self.half_life.map(Decay::HalfLife).or(factor)
-    }
-
-    fn settings(&self) -> Settings {
-        let estimate = match (self.decay(), self.threshold) {
-            (Some(decay), _) => Estimate::ExponentiallyWeighted(decay),
-            (_, Some(threshold)) => Estimate::SemiBelow(threshold),
-            _ if self.semi => Estimate::Semi,
-            _ if !self.given.is_empty() => Estimate::Given,
-            _ => Estimate::Sample,
-        };
-        let shrinkage = match (self.fixed, self.target) {
-            (Some(intensity), _) => Shrinkage::Fixed(intensity),
-            (_, Some(target)) => Shrinkage::LedoitWolf(target),
-            _ => Shrinkage::Unshrunk,
-        };
-        Settings {
-            estimate,
-            shrinkage,
+    /// The rules leave at most one estimate and one shrinkage.
+    fn question(&self, assets: usize, periods: usize, asked: Asked) -> Question {
+        use question::{Estimate, Shrinkage};
+        let given = (!self.given.is_empty()).then_some(Estimate::Given);
+        let semi = self.semi.then_some(Estimate::Semi);
+        let estimate = given
+            .or(semi)
+            .or(self.half_life.map(Estimate::HalfLife))
+            .or(self.threshold.map(Estimate::SemiBelow))
+            .or(self.factor.map(Estimate::Factor));
+        let fixed = self.fixed.map(Shrinkage::Fixed);
+        let shrinkage = fixed.or(self.target.map(Shrinkage::LedoitWolf));
+        Question {
+            assets,
+            periods,
+            estimate: estimate.unwrap_or(Estimate::Sample),
+            shrinkage: shrinkage.unwrap_or(Shrinkage::Unshrunk),
             regularization: self.regularization,
-            limit: self.limit.map_or(MAX_SWEEPS, usize::from),
+            limit: self.limit.map(usize::from),
+            asked,
         }
     }
 }

@@ -28,7 +28,8 @@ pub enum Refusal {
 
 /// How many the five calls of document 01 have: their numbers begin at 1.
 pub const REFUSALS: usize = 14;
-/// The largest number of all. 15 is the exam program's, and no call answers it.
+/// The largest number of these. 15, 17 and 18 are about question files, and no call on floats answers
+/// them.
 pub const LARGEST_NUMBER: usize = 16;
 
 /// The setting that refusal 7 names.

@@ -3,3 +3,5 @@ pub mod Settings
 pub mod Report
 pub mod Calls
 pub mod Returns
+pub mod Record
+pub mod Questions

@@ -13,7 +13,7 @@ use estimators::calls;
 use rules::Decay;
 
 // A number that stands for no kind, before all other causes: the definitions' `unknownKind`.
-const UNKNOWN_KIND: u32 = 100;
+pub(crate) const UNKNOWN_KIND: u32 = 100;
 
 // A value is read where its kind has one.
 #[no_mangle]

@@ -24,7 +24,8 @@ use Rattle.paper.specs.Screen.{nearest, shownAs, shown, shownText, scree
 use Rattle.paper.specs.Answer.{refused, bitsText, lineText, linesText, outcome, outcomeText}
 use Rattle.paper.specs.Grammar.{kinds, placeIn, little, starts, taken, sheet}
 use Rattle.paper.specs.Rules.{outline, present, shapeFits, settingsFit, hasDecay, takes, wellFormed, malformed, isQuestion, readPaper}
-use Rattle.paper.specs.Marking.{decayOf, estimateOf, shrinkageOf, regularizationOf, settingsOf, asked, columns, answerOf, examined, marking}
+use Rattle.paper.specs.Question.{estimateIn, shrinkageIn, regularizationIn, limitIn, askedOf, questionIn, contentsIn, said, readQuestion}
+use Rattle.paper.specs.Marking.{settingsOf, askedFor, answerTo, examined, marking}
 
 -- 01 0200 0200 | 02 000000000000F03F | 02 0000000000000040 | 02 0000000000000840 | 02 0000000000001840 | 0B 00
 abbrev case-6 : List ℕ
@@ -53,7 +54,7 @@ text-6 =
 
 -- what a computed case unfolds
 unfoldable computed : ℕ
-unfolding marking examined readPaper isQuestion sheet kinds taken starts little outline wellFormed shapeFits settingsFit hasDecay takes present placeIn answerOf columns asked settingsOf decayOf estimateOf shrinkageOf regularizationOf adjustedWith adjustedReturns adjustedCovariance exponentiallyWeightedMean settle first adjustedOrder weightedOrder opening ofGiven ofSettings notFinite badRegularization badShrinkage badDecay acceptedDecay between01 badEstimate notTheSample noCorrelation noVariance isAdjusted base covariance gram deviation mean largest constantAsset intensity adjusted shrunk regularized rows trace firstEntry allFinite loop sumTo amaxTo firstTo tab fill isFinite abs larger sqrt root sticky halfExponent radicand shift sub mul div le ofInt ofBits outcome outcomeText linesText lineText shownText shown shownAs nearest digits unpadded glyph toBits
+unfolding marking examined readQuestion said contentsIn questionIn estimateIn shrinkageIn regularizationIn limitIn askedOf readPaper isQuestion sheet kinds taken starts little outline wellFormed shapeFits settingsFit hasDecay takes present placeIn answerTo askedFor settingsOf adjustedWith adjustedReturns adjustedCovariance exponentiallyWeightedMean settle first adjustedOrder weightedOrder opening ofGiven ofSettings notFinite badRegularization badShrinkage badDecay acceptedDecay between01 badEstimate notTheSample noCorrelation noVariance isAdjusted base covariance gram deviation mean largest constantAsset intensity adjusted shrunk regularized rows trace firstEntry allFinite loop sumTo amaxTo firstTo tab fill isFinite abs larger sqrt root sticky halfExponent radicand shift sub mul div le ofInt ofBits outcome outcomeText linesText lineText shownText shown shownAs nearest digits unpadded glyph toBits
 computed = 0
 
 pub marking-6 : marking case-6 ≡ text-6

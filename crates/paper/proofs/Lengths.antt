@@ -3,13 +3,13 @@
 use mathlib.Core.Path.{_≡_, refl, sym, ap, _∙_}
 use mathlib.Core.Bool.{Bool, true, false, cond}
 use mathlib.Core.List.{List, [], _∷_, _++_, map, sum}
+use mathlib.Core.Option.{Option, none, some}
 use Prim.Native.Nat.{ℕ, zero, suc, _+_, _-_, _*_, _/_, _%_, _≤_, _<_}
 use native.Mathlib.Omega.{arith}
 use lib.ListN.{length, take, drop, replicate, length-append, length-drop, length-replicate}
 use lib.Seq.{take-at, drop-at}
-use lib.Dec.{eqb}
 use lib.Ieee.{Float}
-use borrow.Author.Tests.{eqb-true, eqb-false, ne-eqb}
+use borrow.Author.Tests.{ne-eqb}
 use Rattle.leaves.specs.Numbers.{zero⁺}
 use Rattle.rules.specs.Calls.{adjustedCovariance, exponentiallyWeightedMean, jamesSteinMean, bayesSteinMean}
 use Rattle.rules.specs.declared.Answer.{Answer}
@@ -19,21 +19,24 @@ use Rattle.rules.specs.declared.Settings.{Settings}
 use Rattle.rules.proofs.Opened.{settle-length}
 use Rattle.rules.proofs.AdjustedCall.{adjusted-is}
 use Rattle.paper.specs.declared.kinds.Kind.{Kind}
-use Rattle.paper.specs.declared.format.Outline.{Outline}
+use Rattle.paper.specs.declared.question.Asked.{Asked}
+use Rattle.paper.specs.declared.question.Asked.the-variants.{WeightedMean, JamesStein, BayesStein, Covariance as AskedCovariance}
+use Rattle.paper.specs.declared.question.Question.{Question}
 use Rattle.paper.specs.declared.screen.Shown.{Shown}
 use Rattle.paper.specs.declared.screen.Shown.the-variants.{Big, Number}
 use Rattle.paper.specs.Text.{minusSign, Out, out, write, digits, maxDigits, decimal}
 use Rattle.paper.specs.Screen.{shown, shownText, screenText}
 use Rattle.paper.specs.Answer.{malformedNumber, Outcome, refused, ok, lineText, linesText, outcome, outcomeText}
-use Rattle.paper.specs.Grammar.{fileAssets, starts, body, none, more, taken, Sheet, sheet, kinds}
-use Rattle.paper.specs.Rules.{outline, value, assets, periods, wellFormed, malformed, question, isQuestion, readPaper}
-use Rattle.paper.specs.Marking.{asked, columns, answerOf, examined, marking}
+use Rattle.paper.specs.Grammar.{fileAssets, starts, body, more, taken, sheet, kinds, none as nothing}
+use Rattle.paper.specs.Rules.{malformed, isQuestion, readPaper}
+use Rattle.paper.specs.Question.{Contents, readQuestion}
+use Rattle.paper.specs.Marking.{decayOf, limitOf, settingsOf, askedFor, asked, columns, answerTo, examined, marking}
 use Rattle.paper.specs.Inner.{buffer, total}
 use Rattle.paper.proofs.Digits.{digits-length, unpadded-length, few-digits}
 use Rattle.paper.proofs.ScreenLaws.{screen-bounded}
 use Rattle.paper.proofs.Writes.{write-room}
-use Rattle.paper.proofs.Outlines.{well-formed, sizes}
-use Rattle.paper.proofs.Marks.{asked-0, asked-1, asked-2, asked-3, answer-fits}
+use Rattle.paper.proofs.Questions.{read-beside}
+use Rattle.paper.proofs.Marks.{answer-fits}
 
 -- ---- a file
 
@@ -47,7 +50,7 @@ taken-bytes k (suc m) bs = go (starts k bs) (taken-bytes k m (drop (k .body + 1)
     sum m q l r h = omega arith
 
     go : (t : Bool) → length (drop (k .body + 1) bs) ≤ m * (k .body + 1) + length (taken k m (drop (k .body + 1) bs) .rest)
-        → length bs ≤ suc m * (k .body + 1) + length (cond t (more (body k bs) (taken k m (drop (k .body + 1) bs))) (none bs) .rest)
+        → length bs ≤ suc m * (k .body + 1) + length (cond t (more (body k bs) (taken k m (drop (k .body + 1) bs))) (nothing bs) .rest)
     go true h = sum m (k .body + 1) (length bs) _ (rw length-drop at h)
     go false h = omega arith
 
@@ -133,24 +136,12 @@ module _ (r : List Float) (n T : ℕ) (slice : List Float) where
     unfolding bayesSteinMean
     bayes-stein-length l = settle-length _ _ n _ slice (λ e. h)
 
-asked-length : (q : ℕ) (o : Outline) (r g slice : List Float) → assets o * columns q (assets o) ≤ length slice → length (asked q o r g slice .slice) ≡ length slice
-unfolding columns
-asked-length q o r g slice h = zeroth (eqb q 0) refl
-  where
-    n : ℕ
-    n = assets o
-
-    second : (t : Bool) → eqb q 2 ≡ t → eqb q 0 ≡ false → eqb q 1 ≡ false → n ≤ length slice → length (asked q o r g slice .slice) ≡ length slice
-    second true e z w l = rw (← asked-2 q o r g slice n (periods o) refl refl _ refl (eqb-false q 0 z) (eqb-false q 1 w) (eqb-true q 2 e)) (james-stein-length r n (periods o) slice l _)
-    second false e z w l = rw (← asked-3 q o r g slice n (periods o) refl refl _ refl (eqb-false q 0 z) (eqb-false q 1 w) (eqb-false q 2 e)) (bayes-stein-length r n (periods o) slice l _)
-
-    first : (t : Bool) → eqb q 1 ≡ t → eqb q 0 ≡ false → n ≤ length slice → length (asked q o r g slice .slice) ≡ length slice
-    first true e z l = rw (← asked-1 q o r g slice n (periods o) refl refl _ refl (eqb-false q 0 z) (eqb-true q 1 e)) (weighted-length r n (periods o) slice l _)
-    first false e z l = second (eqb q 2) refl z e l
-
-    zeroth : (t : Bool) → eqb q 0 ≡ t → length (asked q o r g slice .slice) ≡ length slice
-    zeroth true e = rw (← asked-0 q o r g slice n (periods o) refl refl _ refl (eqb-true q 0 e)) (covariance-length r n (periods o) slice _ g n (rw e at h))
-    zeroth false e = first (eqb q 1) refl e (omega (arith, rw e at h))
+asked-length : (a : Asked) (q : Question) (r g slice : List Float) → q .assets * columns a (q .assets) ≤ length slice → length (askedFor a q r g slice .slice) ≡ length slice
+unfolding askedFor
+asked-length AskedCovariance q r g slice h = covariance-length r (q .assets) (q .periods) slice (settingsOf q) g (q .assets) h
+asked-length WeightedMean q r g slice h = weighted-length r (q .assets) (q .periods) slice (omega arith) (decayOf (q .estimate))
+asked-length JamesStein q r g slice h = james-stein-length r (q .assets) (q .periods) slice (omega arith) (limitOf (q .limit))
+asked-length BayesStein q r g slice h = bayes-stein-length r (q .assets) (q .periods) slice (omega arith) (limitOf (q .limit))
 
 -- ---- what is printed
 
@@ -162,27 +153,23 @@ outcome-entries n c (Intensity δ) xs = omega arith
 outcome-entries n c Mean xs = omega arith
 outcome-entries n c (Shrunk α target sweeps rotations) xs = omega arith
 
-answer-entries : (o : Outline) (r g : List Float) → wellFormed o ≡ true → entries (answerOf o r g) ≤ fileAssets * fileAssets
-unfolding answerOf
-answer-entries o r g e =
-    let n = assets o in
-    let q = value o 11 in
-    let c = columns q n in
+answer-entries : (q : Question) (r g : List Float) → q .assets ≤ fileAssets → entries (answerTo q r g) ≤ fileAssets * fileAssets
+unfolding answerTo
+answer-entries q r g few =
+    let n = q .assets in
+    let c = columns (q .asked) n in
     let slice = replicate (n * c) zero⁺ in
-    let a = asked q o r g slice in
+    let a = asked q r g slice in
     let blank : length slice ≡ n * c = length-replicate (n * c) zero⁺ in
-    omega (arith, outcome-entries n c (a .answer) (a .slice), asked-length q o r g slice (omega arith), answer-fits o n q c refl (sizes o e .assets-few) refl)
+    omega (arith, outcome-entries n c (a .answer) (a .slice), asked-length (q .asked) q r g slice (omega arith), answer-fits q c few refl)
 
 pub text-length : (paper : List ℕ) → length (marking paper) ≤ maxText
-unfolding marking examined readPaper
-text-length paper = go (isQuestion s) refl
+unfolding marking examined
+text-length paper = go (readQuestion paper) refl
   where
-    s : Sheet
-    s = sheet kinds paper
-
-    go : (b : Bool) → isQuestion s ≡ b → length (outcomeText (examined (cond b (question (s .lists)) malformed))) ≤ maxText
-    go true e = outcome-length _ (answer-entries (outline (s .lists)) _ _ (well-formed s e))
-    go false e = outcome-length (refused malformedNumber) (omega arith)
+    go : (o : Option Contents) → readQuestion paper ≡ o → length (outcomeText (examined o)) ≤ maxText
+    go none e = outcome-length (refused malformedNumber) (omega arith)
+    go (some c) e = outcome-length _ (answer-entries (c .question) _ _ (read-beside paper c e .assets-few))
 
 -- what `mark` leaves at the front of a buffer with room is the whole text, and what stood behind is there still
 pub whole-text : (paper s v : List ℕ) (n : ℕ) → maxText ≤ length s → out v n ≡ write (out s 0) (marking paper) → (take n v ≡ marking paper) × (drop n v ≡ drop n s)

@@ -12,7 +12,9 @@ pub mod Little
 pub mod Taking
 pub mod Scanning
 pub mod Pieces
+pub mod Questions
 pub mod Readings
 pub mod Marks
+pub mod Found
 pub mod Cases
 pub mod Lengths

@@ -6,13 +6,14 @@ use Prim.Native.Nat.{ℕ, zero, suc, _+_, _-_, _≤_, _<_}
 use native.Mathlib.Nat.{zero-add, add-assoc, add-sub-cancel-left}
 use native.Mathlib.Numerals.{add-one}
 use native.Mathlib.Omega.{arith}
-use lib.ListN.{length, getD, take, drop, length-map, length-drop, length-append, take-append-drop, List·getD-map}
-use lib.Seq.{take-suc, drop-drop, length-take-le, take-append-seam, drop-append-seam, take-at, drop-at}
+use lib.ListN.{length, getD, take, drop, length-map, length-append, take-append-drop, List·getD-map}
+use lib.Seq.{take-suc, drop-drop, take-append-seam, drop-append-seam, take-at}
 use lib.Ieee.{Float}
 use Rattle.leaves.specs.Numbers.{float}
 use Rattle.leaves.specs.Loops.{tab, fill}
 use Rattle.leaves.proofs.Loops.{tab-is}
-use Rattle.paper.specs.Inner.{split, total, FilledWith}
+use Rattle.paper.specs.Question.{front}
+use Rattle.paper.specs.Inner.{split, total}
 
 -- ---- how many
 
@@ -54,20 +55,20 @@ split-flatten (vs ∷ q) r = rw (append-assoc vs (flatten q) r, take-append-seam
 tab-map : (f : ℕ → Float) (l : List ℕ) → tab (length l) (λ i. f (getD l i 0)) ≡ map f l
 tab-map f l = sym (tab-is (f 0) (map f l) (length l) (λ i. f (getD l i 0)) (length-map l f) (λ k h. List·getD-map f l k 0))
 
--- from the call that fills d with the numbers from place `from` up to from + n
-pub floats-filled : (cs ns : List ℕ) (p from n : ℕ) (d₀ d : List Float) → from ≡ total (take p cs) → n ≡ getD cs p 0 → from + n ≤ length ns
-    → (let l = take (from + n - from) (drop from ns) in d ≡ fill (length l) (λ i. float (getD l i 0)) d₀) → FilledWith (map float (getD (split cs ns) p [])) d₀ d n
+-- from the call that fills d with the floats of l
+pub floats-filled : (l : List ℕ) (d₀ d : List Float) → d ≡ fill (length l) (λ i. float (getD l i 0)) d₀ → take (length l) d ≡ map float l
 unfolding fill
-floats-filled cs ns p from n d₀ d e f h g =
-    let l = take n (drop from ns) in
-    let length-l : length l ≡ n = length-take-le n (drop from ns) (rw length-drop (omega arith)) in
-    let xs = map float l in
-    let length-xs : length xs ≡ n = length-map l float ∙ length-l in
-    let is : getD (split cs ns) p [] ≡ l = rw (piece cs ns p, ← e, ← f) in
-    let d-is : d ≡ xs ++ drop n d₀ = g ∙ rw (add-sub-cancel-left from n, tab-map float l, length-l) in
-    let within : n ≤ length d = rw d-is (omega (arith, length-append xs (drop n d₀))) in
-    record {
-      counts = (within, sym (length-take-le n d within));
-      front = rw (is, d-is) (take-at xs (drop n d₀) n length-xs);
-      behind = rw d-is (drop-at xs (drop n d₀) n length-xs);
-    }
+floats-filled l d₀ d g = rw (g, tab-map float l) (take-at (map float l) (drop (length l) d₀) (length l) (length-map l float))
+
+-- a copy, number by number
+pub fill-front : (l old : List ℕ) → fill (length l) (λ i. getD l i 0) old ≡ front l old
+unfolding fill
+fill-front l old = ap (λ (t : List ℕ). t ++ drop (length l) old) (tab-self l)
+  where
+    tab-self : (l : List ℕ) → tab (length l) (λ i. getD l i 0) ≡ l
+    tab-self l = sym (tab-is 0 l (length l) (λ i. getD l i 0) refl (λ k h. refl))
+
+-- from the call that copies the numbers from place `from` up to from + n
+pub kind-copied : (cs ns : List ℕ) (p from n : ℕ) (d₀ d : List ℕ) → from ≡ total (take p cs) → n ≡ getD cs p 0 → d ≡ front (take (from + n - from) (drop from ns)) d₀
+    → d ≡ front (getD (split cs ns) p []) d₀
+kind-copied cs ns p from n d₀ d e f g = rw (piece cs ns p, ← e, ← f) (g ∙ rw (add-sub-cancel-left from n))

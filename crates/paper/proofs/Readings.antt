@@ -1,23 +1,26 @@
--- Laws of `readPaper`: from a scanned file to its reading. Assumes nothing.
-use mathlib.Core.Path.{_≡_, refl, sym, ap, _∙_}
-use mathlib.Core.Bool.{Bool, true, false, cond}
+-- From a scanned file to its reading, and from that to the question record. Assumes nothing.
+use mathlib.Core.Path.{_≡_, sym, ap, _∙_}
+use mathlib.Core.Bool.{Bool, true, false}
 use mathlib.Core.List.{List, flatten}
-use Prim.Native.Nat.{ℕ, _+_, _-_, _≤_}
+use mathlib.Core.Option.{none, some}
+use Prim.Native.Nat.{ℕ, _+_, _-_, _≤_, _<_}
 use native.Mathlib.Omega.{arith}
 use lib.ListN.{length, drop, length-drop}
-use borrow.Author.Tests.{eq-eqb, ne-eqb}
-use Rattle.paper.specs.declared.format.Outline.{Outline}
+use borrow.Author.Tests.{eq-eqb, ne-eqb, le-leb, lt-leb}
 use Rattle.paper.specs.declared.reader.Scanned.{Scanned}
 use Rattle.paper.specs.declared.reader.Parsed.{Parsed}
 use Rattle.paper.specs.Grammar.{kinds, sheet}
-use Rattle.paper.specs.Rules.{outline, wellFormed, malformed, question, isQuestion, readPaper}
-use Rattle.paper.specs.Answer.{malformedNumber, refused, outcomeText}
-use Rattle.paper.specs.Marking.{answerOf, floats, examined, marking}
-use Rattle.paper.specs.Inner.{maxRecords, ScannedIs, ReadIs, split, total, reading}
+use Rattle.paper.specs.declared.format.Outline.{Outline}
+use Rattle.paper.specs.declared.question.Question.{Question}
+use Rattle.paper.specs.declared.reading.Read.the-variants.{Malformed, TooShort, Found}
+use Rattle.paper.specs.Rules.{outline, count, wellFormed, isQuestion}
+use Rattle.paper.specs.Question.{contents, questionIn, ofKind, contentsIn, readQuestion, front, into, readInto}
+use Rattle.paper.specs.Inner.{maxRecords, ScannedIs, ReadIs, split, total}
 use Rattle.paper.proofs.Writes.{write-room}
-use Rattle.paper.proofs.Outlines.{well-formed}
+use Rattle.paper.proofs.Outlines.{well-formed, Ruled, ruled}
 use Rattle.paper.proofs.Scanning.{numbers-fit}
 use Rattle.paper.proofs.Pieces.{total-flatten, split-flatten}
+use Rattle.paper.proofs.Questions.{count-is, is-read, not-read}
 
 module _ (s v v' : List ℕ) (r : Scanned) (x : ScannedIs (sheet kinds s) s v v' r) where
   abbrev lists : List (List ℕ)
@@ -42,40 +45,53 @@ module _ (s v v' : List ℕ) (r : Scanned) (x : ScannedIs (sheet kinds s) s v v'
       rw (x .outline-is, x .numbers, write-room (flatten lists) v 0 room) (split-flatten lists (drop (0 + length (flatten lists)) v))
 
   pub read-is : (ok : Bool) → length v ≡ maxRecords → maxRecords ≡ length v' → ok ≡ isQuestion (sheet kinds s) → ReadIs s v v' (record { ok = ok; outline = r .outline })
-  unfolding reading readPaper
-  read-is ok h h' e = record { room = h'; reading-is = rw (cut h, e); outline-is = x .outline-is; numbers = x .numbers }
+  read-is ok h h' e = record { room = h'; ok-is = e; outline-is = x .outline-is; parts-are = cut h; numbers = x .numbers }
 
--- ---- what a reading tells
-
-told : (b : Bool) (q l : List (List ℕ)) → question q ≡ cond b (question l) malformed → (b ≡ true) × (q ≡ l)
-told true q l e = (refl, cc)
-told false q l e = let no : _≡_ {A = ℕ} 0 1 = cc in absurd (omega arith)
+-- ---- what `read` tells
 
 module _ (s v v' : List ℕ) (r : Parsed) (x : ReadIs s v v' r) where
   abbrev parts : List (List ℕ)
   parts = split (r .outline .counts) v'
 
-  room-is : total (r .outline .counts) ≤ maxRecords
+  pub room-is : total (r .outline .counts) ≤ length v'
   unfolding outline
-  room-is = rw (x .outline-is, total-flatten (sheet kinds s .lists)) (numbers-fit s)
+  room-is = rw (← x .room, x .outline-is, total-flatten (sheet kinds s .lists)) (numbers-fit s)
+
+  pub unread : r .ok ≡ false → readQuestion s ≡ none
+  unread e = not-read s (sym (x .ok-is) ∙ e)
 
   module _ (ok : r .ok ≡ true) where
-    read-as : readPaper s ≡ question parts
-    unfolding reading
-    read-as = sym (x .reading-is) ∙ rw ok
+    pub rules-met : Ruled (r .outline)
+    rules-met = rw (x .outline-is) (ruled _ (well-formed (sheet kinds s) (sym (x .ok-is) ∙ ok)))
 
-    lists-are : (isQuestion (sheet kinds s) ≡ true) × (parts ≡ sheet kinds s .lists)
-    unfolding readPaper
-    lists-are = told _ parts (sheet kinds s .lists) (sym read-as)
+    pub was-read : readQuestion s ≡ some (contents (questionIn (r .outline)) (ofKind parts 2) (ofKind parts 9))
+    unfolding contentsIn
+    was-read = is-read s (sym (x .ok-is) ∙ ok) ∙ rw (x .parts-are, x .outline-is)
 
-    -- what `examine` asks
-    pub sound : (total (r .outline .counts) ≤ length v') × (wellFormed (r .outline) ≡ true)
-    sound = (omega (arith, room-is), rw (x .outline-is) (well-formed (sheet kinds s) (lists-are .0)))
+-- ---- what `read_question` answers
 
-    pub marked : outcomeText (answerOf (r .outline) (floats parts 2) (floats parts 9)) ≡ marking s
-    unfolding marking examined
-    marked = ap (λ (o : Outline). outcomeText (answerOf o (floats parts 2) (floats parts 9))) (x .outline-is ∙ ap outline (sym (lists-are .1))) ∙ rw read-as
+module _ (s v v' : List ℕ) (r : Parsed) (x : ReadIs s v v' r) (returns given : List ℕ) where
+  abbrev lists-read : List (List ℕ)
+  lists-read = split (r .outline .counts) v'
 
-  pub unmarked : r .ok ≡ false → outcomeText (refused malformedNumber) ≡ marking s
-  unfolding marking examined reading
-  unmarked e = rw (← x .reading-is, e)
+  pub answer-malformed : r .ok ≡ false → into Malformed returns given ≡ readInto (readQuestion s) returns given
+  unfolding readInto
+  answer-malformed e = rw (unread s v v' r x e)
+
+  module _ (ok : r .ok ≡ true) where
+    bodies-counted : (b : ℕ) → count (r .outline) b ≡ length (ofKind lists-read b)
+    bodies-counted b = ap (λ (o : Outline). count o b) (x .outline-is) ∙ count-is (sheet kinds s .lists) b ∙ ap (λ (l : List (List ℕ)). length (ofKind l b)) (sym (x .parts-are))
+
+    pub answer-short-returns : length returns < count (r .outline) 2 → into TooShort returns given ≡ readInto (readQuestion s) returns given
+    unfolding readInto
+    answer-short-returns h = rw (was-read s v v' r x ok, lt-leb _ _ (rw (bodies-counted 2) at h))
+
+    module _ (h : count (r .outline) 2 ≤ length returns) where
+      pub answer-short-given : length given < count (r .outline) 9 → into TooShort returns given ≡ readInto (readQuestion s) returns given
+      unfolding readInto
+      answer-short-given k = rw (was-read s v v' r x ok, le-leb _ _ (rw (bodies-counted 2) at h), lt-leb _ _ (rw (bodies-counted 9) at k))
+
+      pub answer-found : count (r .outline) 9 ≤ length given → (q : Question) (a b : List ℕ) → q ≡ questionIn (r .outline) → a ≡ front (ofKind lists-read 2) returns
+          → b ≡ front (ofKind lists-read 9) given → into (Found q) a b ≡ readInto (readQuestion s) returns given
+      unfolding readInto
+      answer-found k q a b eq ea eb = rw (was-read s v v' r x ok, le-leb _ _ (rw (bodies-counted 2) at h), le-leb _ _ (rw (bodies-counted 9) at k), eq, ea, eb)

@@ -1,18 +1,16 @@
 -- What only the contracts of inner functions cite: what stands past the table of kinds, how many records a file can have, and that a value of the code, with the
 -- numbers that were filled, stands for what the definitions take. Definitions only.
 use mathlib.Core.Path.{_≡_}
-use mathlib.Core.Bool.{cond}
 use mathlib.Core.List.{List, [], _∷_, flatten, sum}
 use Prim.Native.Nat.{ℕ, _+_, _*_, _≤_}
 use lib.ListN.{length, take, drop}
-use lib.Ieee.{Float}
 use Rattle.paper.specs.declared.kinds.Kind.{Kind}
 use Rattle.paper.specs.declared.reader.Took.{Took}
 use Rattle.paper.specs.declared.reader.Scanned.{Scanned}
 use Rattle.paper.specs.declared.reader.Parsed.{Parsed}
-use Rattle.paper.specs.Text.{Out, out, write, Counts}
+use Rattle.paper.specs.Text.{Out, out, write}
 use Rattle.paper.specs.Grammar.{fileAssets, filePeriods, kind, kinds, Taken, Sheet, sheet}
-use Rattle.paper.specs.Rules.{outline, Reading, malformed, question, readPaper}
+use Rattle.paper.specs.Rules.{outline, isQuestion}
 
 -- past the end of the table of kinds
 abbrev pub missing : Kind
@@ -45,23 +43,14 @@ unfoldable pub split : List ℕ → List ℕ → List (List ℕ)
 split [] ns = []
 split (c ∷ cs) ns = take c ns ∷ split cs (drop c ns)
 
--- what r and the numbers stand for
-unfoldable pub reading : Parsed → List ℕ → Reading
-reading r ns = cond (r .ok) (question (split (r .outline .counts) ns)) malformed
-
--- the file s was read; the numbers v became v'. Nothing asks for `numbers`, nor for `behind` below, but they leave no part of a lent slice unsaid
+-- the file s was read: whether it is a question, and its bodies; the numbers v became v'. Nothing asks for `numbers`, but it leaves no part of a lent slice unsaid
 pub record ReadIs (s v v' : List ℕ) (r : Parsed) : Type 0 where
   pub room : maxRecords ≡ length v'
-  pub reading-is : reading r v' ≡ readPaper s
+  pub ok-is : r .ok ≡ isQuestion (sheet kinds s)
   pub outline-is : r .outline ≡ outline (sheet kinds s .lists)
+  pub parts-are : split (r .outline .counts) v' ≡ sheet kinds s .lists
   pub numbers : v' ≡ buffer (write (out v 0) (flatten (sheet kinds s .lists)))
 
 -- how many numbers there are
 abbrev pub total : List ℕ → ℕ
 total cs = sum _+_ 0 cs
-
--- the floats xs stand at the front of d, n of them; behind them d is as d₀ was
-pub record FilledWith (xs d₀ d : List Float) (n : ℕ) : Type 0 where
-  pub counts : Counts n d
-  pub front : take n d ≡ xs
-  pub behind : drop n d ≡ drop n d₀

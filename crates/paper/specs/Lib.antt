@@ -4,5 +4,6 @@ pub mod Screen
 pub mod Answer
 pub mod Grammar
 pub mod Rules
+pub mod Question
 pub mod Inner
 pub mod Marking

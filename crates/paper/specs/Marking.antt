@@ -1,94 +1,110 @@
 -- Document 01, "The exam program", with document 02, "Paper 1", kind 12, as a whole: from the bytes of a question file to the bytes that are printed.
--- Definitions only.
+-- A prime marks what the engine takes. Definitions only.
 use Prim.Native.Nat.{ℕ, _*_}
-use mathlib.Core.Bool.{true, false, cond}
-use mathlib.Core.List.{List, [], map}
-use lib.ListN.{getD, replicate}
-use lib.Dec.{eqb}
+use mathlib.Core.List.{List, map}
+use mathlib.Core.Option.{Option, none, some}
+use lib.ListN.{replicate}
 use lib.Ieee.{Float}
 use Rattle.leaves.specs.Numbers.{zero⁺, float}
 use Rattle.matrix.specs.Limits.{maxSweeps}
-use Rattle.rules.specs.Settings.{targetOf}
 use Rattle.rules.specs.Calls.{Answered, adjustedCovariance, exponentiallyWeightedMean, jamesSteinMean, bayesSteinMean}
 use Rattle.rules.specs.declared.Decay.{Decay}
-use Rattle.rules.specs.declared.Decay.the-variants.{HalfLife, Lambda}
+use Rattle.rules.specs.declared.Decay.the-variants.{HalfLife as HalfLife', Lambda as Lambda'}
 use Rattle.rules.specs.declared.Estimate.{Estimate}
-use Rattle.rules.specs.declared.Estimate.the-variants.{Sample, Given, Weighted, Semi, SemiBelow}
+use Rattle.rules.specs.declared.Estimate.the-variants.{Weighted, Sample as Sample', Given as Given', Semi as Semi', SemiBelow as SemiBelow'}
 use Rattle.rules.specs.declared.Shrinkage.{Shrinkage}
-use Rattle.rules.specs.declared.Shrinkage.the-variants.{Unshrunk, Fixed, LedoitWolf}
+use Rattle.rules.specs.declared.Shrinkage.the-variants.{Unshrunk as Unshrunk', Fixed as Fixed', LedoitWolf as LedoitWolf'}
 use Rattle.rules.specs.declared.Regularization.{Regularization}
-use Rattle.rules.specs.declared.Regularization.the-variants.{Unregularized, Ridge}
+use Rattle.rules.specs.declared.Regularization.the-variants.{Unregularized as Unregularized', Ridge as Ridge'}
 use Rattle.rules.specs.declared.Settings.{Settings}
-use Rattle.paper.specs.declared.format.Outline.{Outline}
-use Rattle.paper.specs.Grammar.{kinds, placeIn}
-use Rattle.paper.specs.Rules.{outline, has, value, assets, periods, hasDecay, Reading, malformed, question, readPaper}
+use Rattle.paper.specs.declared.question.EstimateBits.{EstimateBits}
+use Rattle.paper.specs.declared.question.EstimateBits.the-variants.{Sample, Given, HalfLife, Lambda, Semi, SemiBelow}
+use Rattle.paper.specs.declared.question.ShrinkageBits.{ShrinkageBits}
+use Rattle.paper.specs.declared.question.ShrinkageBits.the-variants.{Unshrunk, Fixed, LedoitWolf}
+use Rattle.paper.specs.declared.question.RegularizationBits.{RegularizationBits}
+use Rattle.paper.specs.declared.question.RegularizationBits.the-variants.{Unregularized, Ridge}
+use Rattle.paper.specs.declared.question.Limit.{Limit}
+use Rattle.paper.specs.declared.question.Limit.the-variants.{Missing, Sweeps}
+use Rattle.paper.specs.declared.question.Asked.{Asked}
+use Rattle.paper.specs.declared.question.Asked.the-variants.{Covariance, WeightedMean, JamesStein, BayesStein}
+use Rattle.paper.specs.declared.question.Question.{Question}
+use Rattle.paper.specs.Question.{Contents, readQuestion}
 use Rattle.paper.specs.Answer.{malformedNumber, Outcome, refused, outcome, outcomeText}
 
--- ---- the settings record
+-- ---- the settings record: floats of the bits
 
-unfoldable pub decayOf : Outline → Decay
-decayOf o = cond (has o 6) (HalfLife (float (value o 6))) (Lambda (float (value o 12)))
+-- a weighted mean has a half-life or a decay factor; what stands for another estimate is never asked for
+abbrev pub decayOf : EstimateBits → Decay
+decayOf (HalfLife bits) = HalfLife' (float bits)
+decayOf (Lambda bits) = Lambda' (float bits)
+decayOf Sample = Lambda' (float 0)
+decayOf Given = Lambda' (float 0)
+decayOf Semi = Lambda' (float 0)
+decayOf (SemiBelow bits) = Lambda' (float 0)
 
-unfoldable pub estimateOf : Outline → Estimate
-estimateOf o =
-    cond (hasDecay o) (Weighted (decayOf o))
-    (cond (has o 7) Semi
-    (cond (has o 8) (SemiBelow (float (value o 8)))
-    (cond (has o 9) Given Sample)))
+abbrev pub estimateOf : EstimateBits → Estimate
+estimateOf Sample = Sample'
+estimateOf Given = Given'
+estimateOf (HalfLife bits) = Weighted (HalfLife' (float bits))
+estimateOf (Lambda bits) = Weighted (Lambda' (float bits))
+estimateOf Semi = Semi'
+estimateOf (SemiBelow bits) = SemiBelow' (float bits)
 
-unfoldable pub shrinkageOf : Outline → Shrinkage
-shrinkageOf o = cond (has o 4) (Fixed (float (value o 4))) (cond (has o 5) (LedoitWolf (targetOf (value o 5))) Unshrunk)
+abbrev pub shrinkageOf : ShrinkageBits → Shrinkage
+shrinkageOf Unshrunk = Unshrunk'
+shrinkageOf (Fixed bits) = Fixed' (float bits)
+shrinkageOf (LedoitWolf target) = LedoitWolf' target
 
-unfoldable pub regularizationOf : Outline → Regularization
-regularizationOf o = cond (has o 3) (Ridge (float (value o 3))) Unregularized
+abbrev pub regularizationOf : RegularizationBits → Regularization
+regularizationOf Unregularized = Unregularized'
+regularizationOf (Ridge bits) = Ridge' (float bits)
 
 -- "Without 10 the limit is 100", the largest
-unfoldable pub limitOf : Outline → ℕ
-limitOf o = cond (has o 10) (value o 10) maxSweeps
+abbrev pub limitOf : Limit → ℕ
+limitOf Missing = maxSweeps
+limitOf (Sweeps limit) = limit
 
-unfoldable pub settingsOf : Outline → Settings
-settingsOf o = record { estimate = estimateOf o; shrinkage = shrinkageOf o; regularization = regularizationOf o; limit = limitOf o }
+unfoldable pub settingsOf : Question → Settings
+settingsOf q = record { estimate = estimateOf (q .estimate); shrinkage = shrinkageOf (q .shrinkage); regularization = regularizationOf (q .regularization); limit = limitOf (q .limit) }
 
 -- ---- the engine's answer
 
--- question q: 0 covariance, 1 weighted mean, 2 James-Stein, 3 Bayes-Stein. A given matrix has side n. With `elim`, only the call that is asked is computed
-unfoldable pub asked : ℕ → Outline → List Float → List Float → List Float → Answered
-asked q o returns given slice =
-    let n = assets o in
-    let T = periods o in
-    elim (eqb q 0) [
-      | true ↦ adjustedCovariance returns n T (settingsOf o) given n slice
-      | false ↦ elim (eqb q 1) [
-        | true ↦ exponentiallyWeightedMean returns n T (decayOf o) slice
-        | false ↦ elim (eqb q 2) [ true ↦ jamesSteinMean returns n T (limitOf o) slice | false ↦ bayesSteinMean returns n T (limitOf o) slice ]
-      ]
-    ]
+-- a given matrix has side n
+unfoldable pub askedFor : Asked → Question → List Float → List Float → List Float → Answered
+askedFor Covariance q returns given slice = adjustedCovariance returns (q .assets) (q .periods) (settingsOf q) given (q .assets) slice
+askedFor WeightedMean q returns given slice = exponentiallyWeightedMean returns (q .assets) (q .periods) (decayOf (q .estimate)) slice
+askedFor JamesStein q returns given slice = jamesSteinMean returns (q .assets) (q .periods) (limitOf (q .limit)) slice
+askedFor BayesStein q returns given slice = bayesSteinMean returns (q .assets) (q .periods) (limitOf (q .limit)) slice
+
+abbrev pub asked : Question → List Float → List Float → List Float → Answered
+asked q returns given slice = askedFor (q .asked) q returns given slice
 
 -- means have one column
-unfoldable pub columns : ℕ → ℕ → ℕ
-columns q n = cond (eqb q 0) n 1
+abbrev pub columns : Asked → ℕ → ℕ
+columns Covariance n = n
+columns WeightedMean n = 1
+columns JamesStein n = 1
+columns BayesStein n = 1
 
 -- what is printed of an answer of n rows and c columns
 abbrev pub printed : ℕ → ℕ → Answered → Outcome
 printed n c a = outcome n c (a .answer) (a .slice)
 
 -- the answer slice is as long as the answer, and holds zeros before the call
-unfoldable pub answerOf : Outline → List Float → List Float → Outcome
-answerOf o returns given =
-    let n = assets o in
-    let q = value o 11 in
-    let c = columns q n in
-    printed n c (asked q o returns given (replicate (n * c) zero⁺))
+unfoldable pub answerTo : Question → List Float → List Float → Outcome
+answerTo q returns given =
+    let n = q .assets in
+    let c = columns (q .asked) n in
+    printed n c (asked q returns given (replicate (n * c) zero⁺))
+
+abbrev pub answerOf : Contents → Outcome
+answerOf c = answerTo (c .question) (map float (c .returns)) (map float (c .given))
 
 -- ---- the whole
 
--- the numbers of kind b
-abbrev pub floats : List (List ℕ) → ℕ → List Float
-floats q b = map float (getD q (placeIn kinds b) [])
-
-unfoldable pub examined : Reading → Outcome
-examined malformed = refused malformedNumber
-examined (question q) = answerOf (outline q) (floats q 2) (floats q 9)
+unfoldable pub examined : Option Contents → Outcome
+examined none = refused malformedNumber
+examined (some c) = answerOf c
 
 unfoldable pub marking : List ℕ → List ℕ
-marking paper = outcomeText (examined (readPaper paper))
+marking paper = outcomeText (examined (readQuestion paper))

@@ -9,7 +9,7 @@ use crate::kinds::KINDS;
 use crate::kinds::place;
 
 // Of each kind, in the order of the file, how many records there are and the first body, 0 where there is none.
-pub(crate) struct Outline {
+pub struct Outline {
     pub counts: [u64; KINDS],
     pub firsts: [u64; KINDS],
 }
@@ -22,7 +22,7 @@ fn entry(list: [u64; KINDS], kind: u8) -> u64
     if p < KINDS { list[p] } else { 0 }
 }
 
-fn count(o: Outline, kind: u8) -> u64
+pub(crate) fn count(o: Outline, kind: u8) -> u64
     ensures { λ r. ⌜ r ≡ Rules.count o kind ⌝ }
 {
     let counts = o.counts;
@@ -141,7 +141,7 @@ fn takes(q: u64, o: Outline) -> bool
     present(o, &SETTINGS) == present(o, &LIMIT)
 }
 
-pub(crate) fn well_formed(o: Outline) -> bool
+pub fn well_formed(o: Outline) -> bool
     ensures { λ r. ⌜ r ≡ Rules.wellFormed o ⌝ }
 {
     if !shape_fits(o) {

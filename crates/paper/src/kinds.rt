@@ -6,9 +6,9 @@ ghost use Rattle.paper.specs.Grammar as Grammar;
 ghost use Rattle.paper.specs.Inner.{missing};
 
 // The most assets and periods of a file.
-pub(crate) const FILE_ASSETS: usize = 8;
+pub const FILE_ASSETS: usize = 8;
 
-pub(crate) const FILE_PERIODS: usize = 128;
+pub const FILE_PERIODS: usize = 128;
 
 // The most returns and the most given entries of a file.
 pub(crate) const RETURNS: usize = FILE_PERIODS * FILE_ASSETS;
@@ -16,12 +16,12 @@ pub(crate) const RETURNS: usize = FILE_PERIODS * FILE_ASSETS;
 pub(crate) const ENTRIES: usize = FILE_ASSETS * FILE_ASSETS;
 
 // How many kinds there are, and the most records of a file: all kinds but two come once at most.
-pub(crate) const KINDS: usize = 12;
+pub const KINDS: usize = 12;
 
 pub(crate) const RECORDS: usize = RETURNS + ENTRIES + KINDS - 2;
 
 // A kind's byte, the length of its body, and how many records of it a file may have.
-pub(crate) struct Kind {
+pub struct Kind {
     pub byte: u8,
     pub body: usize,
     pub most: usize,
@@ -33,7 +33,7 @@ const BODIES: [usize; KINDS] = [4, 8, 8, 8, 1, 8, 0, 8, 8, 1, 8, 1];
 
 const MOSTS: [usize; KINDS] = [1, RETURNS, 1, 1, 1, 1, 1, 1, ENTRIES, 1, 1, 1];
 
-pub(crate) fn kind_at(i: usize) -> Kind
+pub fn kind_at(i: usize) -> Kind
     requires { ⌜ i < length Grammar.kinds ⌝ }
     ensures { λ r. ⌜ r ≡ getD Grammar.kinds i missing ⌝ }
 {

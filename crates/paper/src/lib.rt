@@ -1,22 +1,27 @@
 // Question files and printed answers: bytes in, bytes out.
 mod answer;
 mod floats;
-mod format;
-mod kinds;
+pub mod format;
+pub mod kinds;
 mod marking;
+pub mod question;
 mod reader;
+pub mod reading;
 mod screen;
 mod settings;
-mod text;
+pub mod text;
 
 ghost use mathlib.Core.Path.{_≡_};
 ghost use lib.ListN.{take, drop};
 ghost use Rattle.paper.specs.Text.{out as into, write, Counts};
 ghost use Rattle.paper.specs.Marking.{marking};
 use crate::answer::put_refused;
-use crate::kinds::RECORDS;
+use crate::kinds::ENTRIES;
+use crate::kinds::RETURNS;
 use crate::marking::examine;
-use crate::reader::read;
+use crate::question::given_count;
+use crate::reading::Read;
+use crate::reading::read_question;
 
 // Bytes that are always enough for what is printed, as `mark_whole` has it.
 pub const TEXT: usize = 8192;
@@ -30,14 +35,16 @@ pub fn mark(paper: &[u8], out: &mut [u8]) -> usize
     ensures { λ r. ⌜ into (now (out .exit)) r ≡ write (into (now (out .entry)) 0) (marking (now (paper .entry))) ⌝ }
     ensures { λ r. ⌜ Counts r (now (out .exit)) ⌝ }
 {
-    let mut numbers = [0u64; RECORDS];
-    let p = read(paper, &mut numbers);
-    let ok = p.ok;
-    let outline = p.outline;
-    if ok {
-        examine(outline, &numbers, out)
-    } else {
-        put_refused(MALFORMED, out, 0)
+    let mut returns = [0u64; RETURNS];
+    let mut given = [0u64; ENTRIES];
+    match read_question(paper, &mut returns, &mut given) {
+        Read::Found(q) => {
+            let t = q.periods * q.assets;
+            let g = given_count(q);
+            examine(q, &returns[..t], &given[..g], out)
+        }
+        Read::Malformed => put_refused(MALFORMED, out, 0),
+        Read::TooShort => put_refused(MALFORMED, out, 0),
     }
 }
 

@@ -1,95 +1,84 @@
-// The engine's settings, from what was read.
+// The engine's settings, from a question record.
 ghost use mathlib.Core.Path.{_≡_};
-ghost use Rattle.leaves.specs.Numbers as Numbers;
-ghost use Rattle.paper.specs.Rules as Rules;
 ghost use Rattle.paper.specs.Marking as Marking;
-use crate::format::Outline;
-use crate::format::has;
-use crate::format::has_decay;
-use crate::format::value;
+use crate::question::EstimateBits;
+use crate::question::Limit;
+use crate::question::Question;
+use crate::question::RegularizationBits;
+use crate::question::ShrinkageBits;
 use leaves::numbers::float;
 use rules::Decay;
 use rules::Estimate;
 use rules::Regularization;
 use rules::Settings;
 use rules::Shrinkage;
-use rules::targets::target;
 
-// The number of a kind.
-fn number_of(o: Outline, kind: u8) -> f64
-    ensures { λ r. ⌜ r ≡ Numbers.float (Rules.value o kind) ⌝ }
+// That of a weighted mean, which has a half-life or a decay factor.
+pub(crate) fn decay(estimate: EstimateBits) -> Decay
+    ensures { λ r. ⌜ r ≡ Marking.decayOf estimate ⌝ }
 {
-    float(value(o, kind))
+    match estimate {
+        EstimateBits::HalfLife(bits) => Decay::HalfLife(float(bits)),
+        EstimateBits::Lambda(bits) => Decay::Lambda(float(bits)),
+        EstimateBits::Sample => Decay::Lambda(0.0),
+        EstimateBits::Given => Decay::Lambda(0.0),
+        EstimateBits::Semi => Decay::Lambda(0.0),
+        EstimateBits::SemiBelow(_) => Decay::Lambda(0.0),
+    }
 }
 
-pub(crate) fn decay(o: Outline) -> Decay
-    ensures { λ r. ⌜ r ≡ Marking.decayOf o ⌝ }
+fn estimate(estimate: EstimateBits) -> Estimate
+    ensures { λ r. ⌜ r ≡ Marking.estimateOf estimate ⌝ }
 {
-    if has(o, 6) {
-        return Decay::HalfLife(number_of(o, 6));
+    match estimate {
+        EstimateBits::Sample => Estimate::Sample,
+        EstimateBits::Given => Estimate::Given,
+        EstimateBits::HalfLife(bits) => Estimate::Weighted(Decay::HalfLife(float(bits))),
+        EstimateBits::Lambda(bits) => Estimate::Weighted(Decay::Lambda(float(bits))),
+        EstimateBits::Semi => Estimate::Semi,
+        EstimateBits::SemiBelow(bits) => Estimate::SemiBelow(float(bits)),
     }
-    Decay::Lambda(number_of(o, 12))
 }
 
-fn estimate(o: Outline) -> Estimate
-    ensures { λ r. ⌜ r ≡ Marking.estimateOf o ⌝ }
+fn shrinkage(shrinkage: ShrinkageBits) -> Shrinkage
+    ensures { λ r. ⌜ r ≡ Marking.shrinkageOf shrinkage ⌝ }
 {
-    if has_decay(o) {
-        return Estimate::Weighted(decay(o));
+    match shrinkage {
+        ShrinkageBits::Unshrunk => Shrinkage::Unshrunk,
+        ShrinkageBits::Fixed(bits) => Shrinkage::Fixed(float(bits)),
+        ShrinkageBits::LedoitWolf(target) => Shrinkage::LedoitWolf(target),
     }
-    if has(o, 7) {
-        return Estimate::Semi;
-    }
-    if has(o, 8) {
-        return Estimate::SemiBelow(number_of(o, 8));
-    }
-    if has(o, 9) {
-        return Estimate::Given;
-    }
-    Estimate::Sample
 }
 
-fn shrinkage(o: Outline) -> Shrinkage
-    ensures { λ r. ⌜ r ≡ Marking.shrinkageOf o ⌝ }
+fn regularization(regularization: RegularizationBits) -> Regularization
+    ensures { λ r. ⌜ r ≡ Marking.regularizationOf regularization ⌝ }
 {
-    if has(o, 4) {
-        return Shrinkage::Fixed(number_of(o, 4));
+    match regularization {
+        RegularizationBits::Unregularized => Regularization::Unregularized,
+        RegularizationBits::Ridge(bits) => Regularization::Ridge(float(bits)),
     }
-    if has(o, 5) {
-        return Shrinkage::LedoitWolf(target(value(o, 5)));
-    }
-    Shrinkage::Unshrunk
 }
 
-fn regularization(o: Outline) -> Regularization
-    ensures { λ r. ⌜ r ≡ Marking.regularizationOf o ⌝ }
+pub(crate) fn limit(limit: Limit) -> usize
+    ensures { λ r. ⌜ r ≡ Marking.limitOf limit ⌝ }
 {
-    if has(o, 3) {
-        return Regularization::Ridge(number_of(o, 3));
+    match limit {
+        Limit::Missing => matrix::MAX_SWEEPS,
+        Limit::Sweeps(limit) => limit,
     }
-    Regularization::Unregularized
 }
 
-pub(crate) fn limit(o: Outline) -> usize
-    ensures { λ r. ⌜ r ≡ Marking.limitOf o ⌝ }
+pub(crate) fn settings(q: Question) -> Settings
+    ensures { λ r. ⌜ r ≡ Marking.settingsOf q ⌝ }
 {
-    if has(o, 10) {
-        return value(o, 10) as usize;
-    }
-    matrix::MAX_SWEEPS
-}
-
-pub(crate) fn settings(o: Outline) -> Settings
-    ensures { λ r. ⌜ r ≡ Marking.settingsOf o ⌝ }
-{
-    let estimate = estimate(o);
-    let shrinkage = shrinkage(o);
-    let regularization = regularization(o);
-    let limit = limit(o);
+    let e = q.estimate;
+    let s = q.shrinkage;
+    let r = q.regularization;
+    let l = q.limit;
     Settings {
-        estimate,
-        shrinkage,
-        regularization,
-        limit,
+        estimate: estimate(e),
+        shrinkage: shrinkage(s),
+        regularization: regularization(r),
+        limit: limit(l),
     }
 }

@@ -9,7 +9,7 @@ ghost use Rattle.paper.specs.Text.{out as into, write};
 // No number of 64 bits has more decimal digits: the definitions' `maxDigits`.
 const DIGITS: usize = 20;
 
-pub(crate) fn put(out: &mut [u8], at: usize, b: u8) -> usize
+pub fn put(out: &mut [u8], at: usize, b: u8) -> usize
     ensures { λ r. ⌜ into (now (out .exit)) r ≡ write (into (now (out .entry)) at) (b ∷ []) ⌝ }
 {
     if at < out.len() {

@@ -14,19 +14,13 @@ use Rattle.paper.proofs.Marks.{answer-fits, answer-is}
 use Rattle.paper.proofs.marking.answer.Statement.{statement}
 use Rattle.paper.proofs.marking.answer.Tie as tie
 
-assets-requires : tie.Need-assets-requires
-assets-requires c κs = search needs
-
-value-requires : tie.Need-value-requires
-value-requires c κs = search needs
-
 columns-requires : tie.Need-columns-requires
 columns-requires c κs = search needs
 
-fits : (c : tie.After-columns) → c .before .before .assets .result * c .columns .result ≤ fileAssets * fileAssets
+fits : (c : tie.After-columns) → c .before .before .before .before .args .q .assets * c .columns .result ≤ fileAssets * fileAssets
 fits c =
-    let b = c .before .before .before .before .before .before in
-    answer-fits (b .args .o) _ _ _ (c .before .before .assets .ensures) (b .pre) (c .columns .ensures)
+    let b = c .before .before .before .before in
+    answer-fits (b .args .q) _ (b .pre) (c .columns .ensures)
 
 mul-size : tie.Need-mul-size
 mul-size c = let h = fits c in omega arith
@@ -46,9 +40,8 @@ same-length c = search needs
 returns : tie.Need-returns
 returns c =
     let k = c .before .before .before .before .before .before in
-    let a = k .before .before in
-    let b = a .before .before .before .before in
-    c .before .before .before .put-asked .ensures ∙ ap (write _) (ap outcomeText (answer-is (b .args .o) _ _ _ (a .assets .ensures) (b .pre) (k .columns .ensures) (k .before .value .ensures) _ _))
+    let b = k .before .before .before .before in
+    c .before .before .before .put-asked .ensures ∙ ap (write _) (ap outcomeText (answer-is (b .args .q) _ (b .pre) (k .columns .ensures) _ _))
 
 pub answer-spec : {M : Type 1} → statement M
-answer-spec = tie.close (tie.spec assets-requires value-requires columns-requires mul-size array-borrow-prefix-entries slice-aggregate-put-asked put-asked-requires same-length returns)
+answer-spec = tie.close (tie.spec columns-requires mul-size array-borrow-prefix-entries slice-aggregate-put-asked put-asked-requires same-length returns)

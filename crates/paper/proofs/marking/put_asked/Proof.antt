@@ -8,14 +8,11 @@ use Rattle.paper.specs.Marking.{printed}
 use Rattle.paper.proofs.marking.put_asked.Statement.{statement}
 use Rattle.paper.proofs.marking.put_asked.Tie as tie
 
-assets-requires : tie.Need-assets-requires
-assets-requires c κs = search needs
-
 ask-requires : tie.Need-ask-requires
 ask-requires c κs = search needs
 
 put-answer-requires : tie.Need-put-answer-requires
-put-answer-requires c κs e = omega (arith, c .before .before .before .before .before .before .before .before .before .before .before .pre e)
+put-answer-requires c κs e = omega (arith, c .before .before .before .before .before .before .before .before .before .before .pre e)
 
 same-length : tie.Need-same-length
 same-length c = search needs
@@ -26,9 +23,8 @@ same-length-2 c = search needs
 returns : tie.Need-returns
 returns c =
     let a = c .before .before .before .before .before .before .before in
-    let n = a .before .before .assets in
-    let d = a .before .before .before .before .before .before .before .args .c in
-    c .before .before .put-answer .ensures ∙ ap (write _) (ap outcomeText (rw (← n .ensures) (ap (printed (n .result) d) (a .ask .ensures))))
+    let b = a .before .before .before .before .before .before .args in
+    c .before .before .put-answer .ensures ∙ ap (write _) (ap outcomeText (ap (printed (b .q .assets) (b .c)) (a .ask .ensures)))
 
 pub put-asked-spec : {M : Type 1} → statement M
-put-asked-spec = tie.close (tie.spec assets-requires ask-requires put-answer-requires same-length same-length-2 returns)
+put-asked-spec = tie.close (tie.spec ask-requires put-answer-requires same-length same-length-2 returns)

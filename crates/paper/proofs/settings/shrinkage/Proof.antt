@@ -1,41 +1,28 @@
--- `paper::settings::shrinkage` meets its contract, test by test.
-use mathlib.Core.Path.{sym, _∙_}
+-- `paper::settings::shrinkage` meets its contract, by the cases of the shrinkage.
 use borrow.Author.Needs.{needs}
-use Rattle.paper.specs.Marking.{shrinkageOf}
 use Rattle.paper.proofs.settings.shrinkage.Statement.{statement}
 use Rattle.paper.proofs.settings.shrinkage.Tie as tie
 
-has-requires : tie.Need-has-requires
-has-requires c κs = search needs
+enum-told : tie.Need-enum-told
+enum-told c = search needs
 
-number-of-requires : tie.Need-number-of-requires
-number-of-requires c κs = search needs
+enum-known-shrinkage : tie.Need-enum-known-shrinkage
+enum-known-shrinkage c = search needs
+
+float-requires : tie.Need-float-requires
+float-requires c κs = search needs
+
+enum-known-shrinkage-2 : tie.Need-enum-known-shrinkage-2
+enum-known-shrinkage-2 c = search needs
 
 returns : tie.Need-returns
-unfolding shrinkageOf
-returns c = rw (sym (c .before .before .has .ensures) ∙ c .before .if1 .taken, c .number-of .ensures)
-
-has-requires-2 : tie.Need-has-requires-2
-has-requires-2 c κs = search needs
-
-value-requires : tie.Need-value-requires
-value-requires c κs = search needs
-
-target-requires : tie.Need-target-requires
-target-requires c κs = search needs
+returns c = search needs
 
 returns-2 : tie.Need-returns-2
-unfolding shrinkageOf
-returns-2 c =
-    let g = c .before .before in
-    let f = g .before .before in
-    rw (sym (f .before .has .ensures) ∙ f .if1 .left, sym (g .before .has2 .ensures) ∙ g .if2 .taken, c .target .ensures, c .before .value .ensures)
+returns-2 c = rw (c .before .before .shrinkage .given .1, c .float .ensures)
 
 returns-3 : tie.Need-returns-3
-unfolding shrinkageOf
-returns-3 c =
-    let f = c .before .before in
-    rw (sym (f .before .has .ensures) ∙ f .if1 .left, sym (c .before .has2 .ensures) ∙ c .if2 .left)
+returns-3 c = rw (c .before .shrinkage2 .given .1)
 
 pub shrinkage-spec : {M : Type 1} → statement M
-shrinkage-spec = tie.close (tie.spec has-requires number-of-requires returns has-requires-2 value-requires target-requires returns-2 returns-3)
+shrinkage-spec = tie.close (tie.spec enum-told enum-known-shrinkage float-requires enum-known-shrinkage-2 returns returns-2 returns-3)
