@@ -1,4 +1,5 @@
 // The five calls of document 01.
+#![tactic(auto)]
 pub mod calls;
 mod covariance;
 mod expected_returns;

@@ -1,1 +1,3 @@
 // The definitions at numbers: theorems by computation, in proofs/. No code.
+
+#![tactic(auto)]

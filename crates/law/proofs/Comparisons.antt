@@ -6,7 +6,7 @@ use native.Mathlib.Omega.{arith}
 use mathlib.Core.Bool.{Bool, true, false, not, ◌&&◌, ◌||◌, and-true, or-not_self}
 use lib.Dec.{T, ltb, eqb}
 use lib.Ieee.{Float, nan, inf, fin, binary64, fits, lt, le, below, level, up, down, is_nan}
-use borrow.Author.Tests.{not_true, not-false, lt-ltb, le-ltb, ltb-true, ltb-false, eqb-true, eqb-false}
+use borrow.Author.Tests.{not-true, not-false, lt-ltb, le-ltb, ltb-true, ltb-false, eqb-true, eqb-false}
 use Rattle.leaves.specs.Numbers.{is_finite}
 use Rattle.leaves.proofs.Units.{Val, val_finite, sign, mag, mag_val, lt_val}
 use Rattle.leaves.proofs.Keys.{number, finite_number}
@@ -67,7 +67,7 @@ not_lt x y p q h = le_is x y p q ∙ ap not h
 
 -- x ≤ y excludes y < x, of any values
 pub le_not_lt : (x y : Float) → le x y ≡ true → lt y x ≡ false
-le_not_lt x y h = let q = numbers x y h in not_true (lt y x) (sym (le_is x y q.0 q.1) ∙ h)
+le_not_lt x y h = let q = numbers x y h in not-true (lt y x) (sym (le_is x y q.0 q.1) ∙ h)
 
 module _ (x y : Float) {a b : ℕ} (v : Val x false a) (w : Val y false b) where
   pub lt_no : lt x y ≡ false → b ≤ a

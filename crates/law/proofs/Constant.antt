@@ -1,7 +1,7 @@
 -- The test for a constant asset (document 01, cause 9). Its tolerance grows with the returns, so it finds the same asset in both runs; and a volatility that is above it is not zero. Assumes nothing.
 use mathlib.Core.Path.{◌≡◌, ap, ap₂, ◌∙◌, refl, sym}
 use Prim.Native.Nat.{ℕ, ◌+◌, ◌-◌, ◌≤◌, ◌<◌, zero-le}
-use native.Mathlib.Nat.{zero_add, lt_of_le_of_lt}
+use native.Mathlib.Nat.{zero-add, lt_of_le_of_lt}
 use native.Mathlib.Omega.{arith}
 use mathlib.Core.Bool.{false}
 use lib.Dec.{lit≤, lit<}
@@ -35,7 +35,7 @@ ten_billionth_above = lit< tt
 
 module _ {k n P : ℕ} {b : Bounds} {x y : Matrix} (r : Returns k n P b x y) (fine : one_bits ≤ ten_billionth_bounds.grain + b.grain) (room : b.most + k ≤ top_bits) where
   pub tolerance_moved : (i : ℕ) → i < n → Moved k (product_of ten_billionth_bounds b) (1e_10 ⊗ largest P x i) (1e_10 ⊗ largest P y i)
-  tolerance_moved i a = rw (zero_add k) at (moved_mul ten_billionth_moved (largest_moved r i a) fine (omega arith))
+  tolerance_moved i a = rw (zero-add k) at (moved_mul ten_billionth_moved (largest_moved r i a) fine (omega arith))
 
   -- the same asset for variances v and v', each 4 ^ k times v
   pub constant_same : (v v' : Matrix) → ((i : ℕ) → i < n → v' i i ≡ shift (pos (k + k)) (v i i)) → constant_asset n v' (largest P y) ≡ constant_asset n v (largest P x)

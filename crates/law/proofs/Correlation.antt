@@ -2,7 +2,7 @@
 -- Products are in the normal range all the way, so nothing rounds differently. Assumes nothing.
 use mathlib.Core.Path.{◌≡◌, refl, sym}
 use Prim.Native.Nat.{ℕ, ◌+◌, ◌-◌, ◌*◌, ◌^◌, ◌≤◌, ◌<◌}
-use native.Mathlib.Nat.{le_trans, sub-le, zero_add, mul-pos}
+use native.Mathlib.Nat.{le_trans, sub-le, zero-add, mul-pos}
 use native.Mathlib.Omega.{arith}
 use mathlib.Core.Bool.{Bool, true, false, cond}
 use lib.Dec.{eqb, lit≤}
@@ -35,7 +35,7 @@ module _ (k n : ℕ) (small : k ≤ max_power) (assets : 0 < n) (few : n ≤ max
   correlation_moved : (i j : ℕ) → i < n → j < n → Moved 0 correlation_bounds (correlation s i j) (correlation s' i j)
   correlation_moved i j a b =
       let once = moved_div {i = k} {j = k} (each i j a b) (volatility_moved i a) (above i a) (lit≤ tt) (omega arith) in
-      moved_div {i = 0} {j = k} (rw (sym (zero_add k)) at once) (volatility_moved j b) (above j b) (lit≤ tt) (lit≤ tt)
+      moved_div {i = 0} {j = k} (rw (sym (zero-add k)) at once) (volatility_moved j b) (above j b) (lit≤ tt) (lit≤ tt)
 
   average_moved : 2 ≤ n → Moved 0 average_correlation_bounds (average_correlation n s) (average_correlation n s')
   unfolding average_correlation
@@ -52,5 +52,5 @@ module _ (k n : ℕ) (small : k ≤ max_power) (assets : 0 < n) (few : n ≤ max
       go true e = moved_within target_bounds tt (each i i a a)
       go false e =
           let q = eqb-false i j e in
-          let once = rw (zero_add k) at (moved_mul_normal (average_moved (omega arith)) (volatility_moved i a) (lit≤ tt) (omega arith)) in
+          let once = rw (zero-add k) at (moved_mul_normal (average_moved (omega arith)) (volatility_moved i a) (lit≤ tt) (omega arith)) in
           moved_mul_normal once (volatility_moved j b) (lit≤ tt) (omega arith)

@@ -2,7 +2,7 @@
 -- quotient of numbers shifted alike is the same: so both runs decompose the same matrix, with the same sweeps, rotations and refusals. Assumes nothing.
 use mathlib.Core.Path.{◌≡◌, refl, sym, ap, ap₂, ◌∙◌}
 use Prim.Native.Nat.{ℕ, ◌+◌, ◌*◌, ◌≤◌, ◌<◌}
-use native.Mathlib.Nat.{le_of_eq, lt_of_lt_of_le, zero_add}
+use native.Mathlib.Nat.{le_of_eq, lt_of_lt_of_le, zero-add}
 use native.Mathlib.Omega.{arith}
 use mathlib.Core.Bool.{Bool, true, false}
 use mathlib.Core.List.{List, map}
@@ -63,7 +63,7 @@ module _ (k : ℕ) (small : k ≤ max_power + max_power) (side : ℕ) (g : List 
     asymmetry_same =
         let x = at g side in
         let y = at g' side in
-        let tolerance = rw (zero_add k) at (moved_mul trillionth_moved (amax_moved side side x y given_moved) (lit≤ tt) (omega arith)) in
+        let tolerance = rw (zero-add k) at (moved_mul trillionth_moved (amax_moved side side x y given_moved) (lit≤ tt) (omega arith)) in
         first_entry_alike side side (λ i j. lt (1e_12 ⊗ amax side side y) (abs (y i j ⊖ y j i))) (λ i j. lt (1e_12 ⊗ amax side side x) (abs (x i j ⊖ x j i)))
         (λ i j a b. ap₂ lt tolerance.copy (moved_abs (moved_sub covariance_bounds tt tt (given_moved i j a b) (given_moved j i b a) (omega arith))).copy ∙ lt_shift (pos k) (1e_12 ⊗ amax side side x) (abs (x i j ⊖ x j i)))
 

@@ -4,7 +4,7 @@
 use mathlib.Core.Path.{◌≡◌, refl, ap, ◌∙◌}
 use mathlib.Core.Logic.{◌⊎◌, inl, inr}
 use Prim.Native.Nat.{ℕ, ◌+◌, ◌≤◌, ◌<◌}
-use native.Mathlib.Nat.{le_trans, zero_add}
+use native.Mathlib.Nat.{le_trans, zero-add}
 use native.Mathlib.Omega.{arith}
 use mathlib.Core.Bool.{Bool, true, false}
 use mathlib.Core.List.{List, map}
@@ -105,7 +105,7 @@ module _ {k n P : ℕ} {x y : Matrix} (small : k ≤ max_power) (r : Returns k n
   towards_moved α a i l =
       let few = common.few in
       let μ = μ-moved i l in
-      let p = rw (zero_add common.still) at (moved_mul (still mean_intensity_bounds a) (moved_sub grand_mean_bounds tt tt grand_mean_moved μ (omega arith)) (lit≤ tt) (omega arith)) in
+      let p = rw (zero-add common.still) at (moved_mul (still mean_intensity_bounds a) (moved_sub grand_mean_bounds tt tt grand_mean_moved μ (omega arith)) (lit≤ tt) (omega arith)) in
       moved_add step_bounds tt tt μ p (omega arith)
 
   -- a number found from the moments, scaled back

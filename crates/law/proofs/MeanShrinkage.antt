@@ -3,7 +3,7 @@
 use mathlib.Core.Path.{◌≡◌, refl, sym, ap, ap₂, ◌∙◌, subst}
 use mathlib.Core.Logic.{◌⊎◌, inl, inr}
 use Prim.Native.Nat.{ℕ, zero, suc, ◌+◌, ◌-◌, ◌*◌, ◌^◌, ◌≤◌, ◌<◌, zero-le}
-use native.Mathlib.Nat.{zero-mul, le_refl, le_trans, le_of_eq, lt_irrefl, zero_add, mul-le-mul, mul-le-mul_right, eq-zero-or-pos}
+use native.Mathlib.Nat.{zero-mul, le_refl, le_trans, le_of_eq, lt_irrefl, zero-add, mul-le-mul, mul-le-mul_right, eq-zero-or-pos}
 use native.Mathlib.Omega.{arith}
 use mathlib.Core.Bool.{Bool, true, false}
 use mathlib.Core.List.{List}
@@ -342,7 +342,7 @@ module _ {k n P : ℕ} {x y : Matrix} (small : k ≤ max_power) (r : Returns k n
         let c = sizes (one_bits - mean_range) target_most in
         let d = product_of mean_intensity_bounds c in
         let w : Moved k c t t' = record { range = target_range b F; copy = e } in
-        let q = rw (zero_add k) at (moved_mul (still mean_intensity_bounds a) w (lit≤ tt) (omega arith)) in
+        let q = rw (zero-add k) at (moved_mul (still mean_intensity_bounds a) w (lit≤ tt) (omega arith)) in
         (moved_add d (is_covered d (scaled_back_of left_mean_bounds) (lit≤ tt) (omega arith)) (is_covered d d (le_refl d.grain) (le_refl d.most)) part q (omega arith)).copy
 
     mean_not_finite : (T (is_finite t) → ⊥) → (t' : Float) → t' ≡ shift (pos k) t → pow2_scaled ((one ⊖ α) ⊗ nth m'.mean i) (f i) ⊕ α ⊗ t' ≡ shift (pos k) (pow2_scaled ((one ⊖ α) ⊗ nth m'.mean i) (e i) ⊕ α ⊗ t)

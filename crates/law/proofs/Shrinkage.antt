@@ -2,7 +2,7 @@
 -- it is exact. An intensity that is not a number makes every entry NaN, in both runs. Assumes nothing.
 use mathlib.Core.Path.{◌≡◌, refl, sym, ap, ap₂, ◌∙◌}
 use Prim.Native.Nat.{ℕ, ◌+◌, ◌≤◌, ◌<◌}
-use native.Mathlib.Nat.{le_trans, zero_add, add-zero}
+use native.Mathlib.Nat.{le_trans, zero-add, add-zero}
 use native.Mathlib.Omega.{arith}
 use mathlib.Core.Bool.{Bool, true, false, not, cond, ◌&&◌, ◌||◌}
 use lib.Dec.{T, eqb, lit≤}
@@ -65,18 +65,18 @@ module _ (k : ℕ) (small : k ≤ max_power + max_power) (δ : Float) (d : Inten
   unfolding mixed
   mixed_moved F s p u =
       let rest = moved_sub intensity_bounds tt tt one_moved (still intensity_bounds d) (lit≤ tt) in
-      let q = rw (zero_add k) at (moved_mul rest u (lit≤ tt) (omega arith)) in
+      let q = rw (zero-add k) at (moved_mul rest u (lit≤ tt) (omega arith)) in
       moved_add part_bounds s tt p q (omega arith)
 
   pub correlation_mixed : Targeted k (constant_correlation n b i j) (constant_correlation n b' i j) → Estimated k (b i j) (b' i j) → Shrunken k (mixed ConstantCorrelation δ n b i j) (mixed ConstantCorrelation δ n b' i j)
   unfolding weighted_target
-  correlation_mixed t u = mixed_moved ConstantCorrelation tt (rw (zero_add k) at (moved_mul_normal (still intensity_bounds d) t (lit≤ tt) (omega arith))) u
+  correlation_mixed t u = mixed_moved ConstantCorrelation tt (rw (zero-add k) at (moved_mul_normal (still intensity_bounds d) t (lit≤ tt) (omega arith))) u
 
   pub variance_mixed : 0 < n → n ≤ max_side → ((i j : ℕ) → i < n → j < n → Estimated k (b i j) (b' i j)) → i < n → j < n → Shrunken k (mixed ConstantVariance δ n b i j) (mixed ConstantVariance δ n b' i j)
   unfolding weighted_target average_variance
   variance_mixed assets few each a c =
       let m = moved_over (trace_moved n b b' few (omega arith) (λ i l. each i i l l)) (count_moved side_bits n (lit≤ tt) (side_bits_lem few)) (count_pos n assets (le_trans few (lit≤ tt))) (lit≤ tt) (omega arith) in
-      let p = rw (zero_add k) at (moved_mul_normal (still intensity_bounds d) m (lit≤ tt) (omega arith)) in
+      let p = rw (zero-add k) at (moved_mul_normal (still intensity_bounds d) m (lit≤ tt) (omega arith)) in
       mixed_moved ConstantVariance tt (rw (add-zero k) at (moved_mul p (identity_moved i j) (lit≤ tt) (omega arith))) (each i j a c)
 
 pub nan_mixed : (F : Target) (n : ℕ) (b : Matrix) (i j : ℕ) → mixed F nan n b i j ≡ nan

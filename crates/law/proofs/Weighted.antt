@@ -2,7 +2,7 @@
 -- by 2 ^ e and by 2 ^ (e + k). Everything is in a range in which nothing rounds differently, and the weighted covariance's products with it. Assumes nothing.
 use mathlib.Core.Path.{◌≡◌, refl, sym, ap, ◌∙◌, subst}
 use Prim.Native.Nat.{ℕ, ◌+◌, ◌-◌, ◌≤◌, ◌<◌}
-use native.Mathlib.Nat.{lt_of_lt_of_le, zero_add, add-zero}
+use native.Mathlib.Nat.{lt_of_lt_of_le, zero-add, add-zero}
 use native.Mathlib.Omega.{arith}
 use mathlib.Core.Bool.{false}
 use mathlib.Core.List.{List, map}
@@ -76,7 +76,7 @@ module _ {k n P : ℕ} {x y : Matrix} (small : k ≤ max_power) (r : Returns k n
     average_moved =
         let j = common.still in
         let terms : (t : ℕ) → t < P → Moved j (product_of weight_bounds unit_bounds) (nth w t ⊗ pow2_scaled (x t i) (neg_ℤ e)) (nth w t ⊗ pow2_scaled (x t i) (neg_ℤ e)) =
-        λ t l. rw (zero_add j) at (moved_mul (weight_moved t l) (common.moved (r.entries t i l a) (largest_above r t i l a)) (lit≤ tt) (omega (arith, common.few))) in
+        λ t l. rw (zero-add j) at (moved_mul (weight_moved t l) (common.moved (r.entries t i l a) (largest_above r t i l a)) (lit≤ tt) (omega (arith, common.few))) in
         moved_over (moved_sum j (product_of weight_bounds unit_bounds) P period_bits (period_bits_lem r.most) (lit≤ tt) (omega (arith, common.few)) (λ t. nth w t ⊗ pow2_scaled (x t i) (neg_ℤ e)) (λ t. nth w t ⊗ pow2_scaled (x t i) (neg_ℤ e)) terms)
         all_moved all_above (lit≤ tt) (omega (arith, common.few))
 

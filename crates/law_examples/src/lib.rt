@@ -1,1 +1,3 @@
 // The power-of-two law at numbers: pairs of inputs that it speaks of, in proofs/. No code.
+
+#![tactic(auto)]

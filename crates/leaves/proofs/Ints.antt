@@ -55,4 +55,4 @@ abbrev pub read_back : ℤ → ℤ
 read_back z = to_z w32 (of_z w32 z)
 
 pub back_i32 : (z : ℤ) → mag z < 2 ^ 31 → read_back z ≡ z
-back_i32 z h = to_z-of_z (record { sfits = h })
+back_i32 z h = to_z-of_z {w = w32} (record { sfits = h })

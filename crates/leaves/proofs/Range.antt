@@ -4,7 +4,7 @@
 use Rattle.std.proofs.Common.{◌≡◌, ℕ, ◌+◌, ◌-◌, ◌*◌, ◌^◌, ◌<◌, ◌≤◌, Bool, true, false, ◌&&◌, ◌||◌, T, eqb, leb, ◌⊎◌, pos, sym, refl, ap, ◌∙◌, subst, inl, inr, zero-le, le_trans, le_of_eq, lt_of_lt_of_le, lt_of_le_of_lt, le_of_lt, lt_irrefl, mul-le-mul_right, eq-zero-or-pos, mul-pos, zero-mul, mul-one, sub-add_cancel, arith, lit<, lit≤, eqb→eq, leb→le, pow_mono, pow-add}
 use lib.Ieee.{Float, nan, inf, fin, binary64, neg, of_int, fits}
 use lib.Ieee.Back.{round_whole}
-use lib.Ieee.Fits.{and_l, and_r, neg_fits, of_int-fits}
+use lib.Ieee.Fits.{and_l, and_r, neg-fits, of_int-fits}
 use mir.Facts.{or_yes}
 use Rattle.leaves.specs.Numbers.{zero⁺, two, count, is_finite, abs}
 use Rattle.leaves.proofs.Rounding.{near, Representable, Grained, near_most, near_least, near_grain, representable_small, representable_grain, in_place}
@@ -56,7 +56,7 @@ finite_neg (fin s m e) t = t
 
 pub range_neg : {g L B : ℕ} {x : Float} → Range g L B x → Range g L B (neg x)
 range_neg {g} {L} {B} {x} r = record {
-  fit = neg_fits binary64 x r.fit;
+  fit = neg-fits binary64 x r.fit;
   finite = finite_neg x r.finite;
   multiple = r.multiple;
   grain = mag_neg x ∙ r.grain;

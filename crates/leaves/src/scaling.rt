@@ -1,11 +1,11 @@
-// b(x), and the multiplication by a power of two with the recursion of the source (stats.rs).
+// b(x) and the multiplication by a power of two, with the recursions of the source (stats.rs).
 ghost use Rattle.std.specs.Prelude.{◌≡◌, T, pos, negsuc, int_le};
 ghost use Rattle.leaves.specs.Scaling as Scaling;
 
 // 2^k, for k in the normal range.
 fn pow2(k: i32) -> f64
-    requires fact_1 { T (int_le (negsuc 1021) k) }
-    requires fact_2 { T (int_le k (pos 1023)) }
+    requires low { T (int_le (negsuc 1021) k) }
+    requires high { T (int_le k (pos 1023)) }
     ensures { result ≡ Scaling.pow2 k }
 {
     f64::from_bits(((k + 1023) as u64) << 52)
@@ -47,11 +47,11 @@ pub fn binary_exponent(x: f64) -> i32
     if x == 0.0 {
         return 0;
     }
-    let bits: u64 = f64::to_bits(x);
-    let field = (bits >> 52) & 0x7ff;
-    // The leading bit that the fraction leaves out: 1, and 0 for a subnormal x, whose field is 0.
-    let hidden = (field + 0x7ff) >> 11;
-    let digits = (hidden << 52) + (bits & 0xf_ffff_ffff_ffff);
-    // The size of x is digits * 2 ^ (field - hidden - 1074), and an infinity's comes out as 2 ^ 1024.
-    (field - hidden) as i32 - u64::leading_zeros(digits) as i32 - 1011
+    let biased = ((f64::to_bits(x) >> 52) & 0x7ff) as i32;
+    if biased == 0 {
+        // Subnormal: scale it into the normal range first.
+        binary_exponent(x * pow2(64)) - 64
+    } else {
+        biased - 1023
+    }
 }

@@ -2,7 +2,7 @@
 use mathlib.Core.Path.{◌≡◌, sym, subst}
 use mathlib.Core.List.{List}
 use Prim.Native.Nat.{ℕ, suc, ◌+◌, ◌-◌, ◌*◌, ◌/◌, ◌≤◌, ◌<◌, suc-le-suc}
-use native.Mathlib.Nat.{le_refl, le_step, zero_add}
+use native.Mathlib.Nat.{le_refl, le_step, zero-add}
 use lib.Ieee.{Float}
 use Rattle.leaves.specs.Loops.{loop}
 use Rattle.matrix.specs.Matrix.{Matrix}
@@ -23,7 +23,7 @@ rotate_count n r p q st a b h = rotate_cases (AtMost (suc r)) n p q st (le_step 
 -- the rotations of a row of a sweep, of its first rows, of a sweep and of k sweeps, as the code has them, with nothing counted before
 module _ (n : ℕ) (a₀ v₀ : List Float) {a v : List Float} {r : ℕ} where
   by_end : {b : ℕ} {st : State} → state a v (0 + r) ≡ st → AtMost b st → r ≤ b
-  by_end {b} e h = subst (λ (k : ℕ). k ≤ b) (zero_add r) (subst (AtMost b) (sym e) h)
+  by_end {b} e h = subst (λ (k : ℕ). k ≤ b) (zero-add r) (subst (AtMost b) (sym e) h)
 
   pub row_count : (p j : ℕ) → state a v (0 + r) ≡ loop j (λ j. rotate n p (suc p + j)) (state a₀ v₀ 0) → j ≤ n - suc p → r ≤ 0 + j
   row_count p j e h = by_end e (row_keeps n AtMost (rotate_count n) p j 0 (state a₀ v₀ 0) h (le_refl 0))
@@ -40,4 +40,4 @@ module _ (n : ℕ) (a₀ v₀ : List Float) {a v : List Float} {r : ℕ} where
 -- ---- of a decomposition
 pub rotations_bound : (n : ℕ) (a : Matrix) (limit : ℕ) → (decompose limit n a).rotations ≤ (decompose limit n a).sweeps * (n * (n - 1) / 2)
 unfolding pairs begun
-rotations_bound n a limit = rw (decompose_reached n a limit).1 (rw zero_add at (sweeps_keep n AtMost (rotate_count n) (decompose limit n a).sweeps 0 (begun n a) (le_refl 0)))
+rotations_bound n a limit = rw (decompose_reached n a limit).1 (rw zero-add at (sweeps_keep n AtMost (rotate_count n) (decompose limit n a).sweeps 0 (begun n a) (le_refl 0)))

@@ -5,7 +5,7 @@ use mathlib.Core.Logic.{◌⊎◌, inl, inr, ◌≢◌}
 use mathlib.Core.Bool.{Bool, true, false, cond}
 use mathlib.Core.List.{List}
 use Prim.Native.Nat.{ℕ, suc, ◌+◌, ◌*◌, ◌^◌, ◌≤◌, ◌<◌}
-use native.Mathlib.Nat.{le_trans, le-suc, mul-le-mul, zero_add}
+use native.Mathlib.Nat.{le_trans, le-suc, mul-le-mul, zero-add}
 use native.Mathlib.Omega.{arith}
 use lib.Dec.{T, eqb}
 use lib.ListN.{length}
@@ -90,6 +90,6 @@ pub vectors_small : (limit n : ℕ) (a : Matrix) → n ≤ max_side → limit �
 unfolding Sound begun
 vectors_small limit n a hn hl i j hi hj =
     let k = (decompose limit n a).sweeps in
-    let turns : 0 + k * pairs n ≤ most_turns = rw zero_add (mul-le-mul (le_trans (sweeps_bound n a limit) hl) (pairs_most n hn)) in
+    let turns : 0 + k * pairs n ≤ most_turns = rw zero-add (mul-le-mul (le_trans (sweeps_bound n a limit) hl) (pairs_most n hn)) in
     let g = (sweeps_keep n (KeepsSound n) (rotate_sound n) k 0 (begun n a) (λ h. identity_sound n) turns).1 i hi in
     rw (decompose_reached n a limit).0 (small (at (after_sweeps k n (begun n a)).vectors n i j) (g.tame j hj) (good_small n (0 + k * pairs n) (at (after_sweeps k n (begun n a)).vectors n i) turns g j hj))

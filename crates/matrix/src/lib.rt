@@ -1,4 +1,5 @@
 // Matrices, row by row, and the decomposition of a symmetric one by Jacobi rotations.
+#![tactic(auto)]
 mod by_columns;
 pub mod entries;
 pub mod jacobi;

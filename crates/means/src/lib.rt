@@ -1,4 +1,5 @@
 // The James-Stein and the Bayes-Stein mean, from the moments of the returns.
+#![tactic(auto)]
 pub mod bayes_stein;
 mod forms;
 pub mod gather;

@@ -3,7 +3,7 @@ use mathlib.Core.Path.{◌≡◌, refl, sym, ap, ◌∙◌}
 use mathlib.Core.Bool.{Bool, true, false, cond}
 use mathlib.Core.List.{List, [], ◌∷◌, ◌++◌, append-nil}
 use Prim.Native.Nat.{ℕ, zero, suc, ◌+◌, ◌-◌, ◌/◌, ◌%◌, ◌^◌, ◌≤◌, ◌<◌}
-use native.Mathlib.Nat.{not-suc-le-zero, le_of_suc-le-suc, le_trans, le_of_eq, lt_of_lt_of_le, zero_add, suc-add, sub-zero, suc-sub-suc}
+use native.Mathlib.Nat.{not-suc-le-zero, le_of_suc-le-suc, le_trans, le_of_eq, lt_of_lt_of_le, zero-add, suc-add, sub-zero, suc-sub-suc}
 use native.Mathlib.Nat.{zero-mod, pow-zero, pow-suc, pow-le-pow_right, div-lt_iff_lt-mul}
 use native.Mathlib.Numerals.{add-one, sub-one}
 use native.Mathlib.Omega.{arith}
@@ -66,7 +66,7 @@ leading_zero b (suc m) n B h = rw (leading_zero b m (n / b) B ((div-lt_iff_lt-mu
 -- a number below b ^ (k + 1) has k + 1 digits at most, with those in front left out
 pub few_digits : (b j k n : ℕ) → 0 < b → n < b ^ suc k → length (unpadded (digits b (j + suc k) n)) ≤ suc k
 unfolding unpadded
-few_digits b zero k n B h = rw zero_add (le_trans (unpadded_length (digits b (suc k) n)) (le_of_eq (digits_length b (suc k) n)))
+few_digits b zero k n B h = rw zero-add (le_trans (unpadded_length (digits b (suc k) n)) (le_of_eq (digits_length b (suc k) n)))
 few_digits b (suc j) k n B h =
     let i = j + suc k in
     let more : n < b ^ i = lt_of_lt_of_le h (pow-le-pow_right B (omega arith)) in

@@ -3,7 +3,7 @@
 use mathlib.Core.Path.{◌≡◌, refl, sym, ap, ◌∙◌}
 use mathlib.Core.List.{List, [], ◌∷◌, ◌++◌, map, flatten, sum, sum-append, append_assoc}
 use Prim.Native.Nat.{ℕ, zero, suc, ◌+◌, ◌-◌, ◌≤◌, ◌<◌}
-use native.Mathlib.Nat.{zero_add, add_assoc, add-sub_cancel_left}
+use native.Mathlib.Nat.{zero-add, add_assoc, add-sub_cancel_left}
 use native.Mathlib.Numerals.{add-one}
 use native.Mathlib.Omega.{arith}
 use lib.ListN.{length, get_or, take, drop, length-map, length-append, take-append-drop, get_or-map}
@@ -18,7 +18,7 @@ use Rattle.paper.specs.Inner.{split, total}
 -- ---- how many
 
 total_append : (cs ds : List ℕ) → total (cs ++ ds) ≡ total cs + total ds
-total_append cs ds = sum-append ◌+◌ 0 zero_add add_assoc cs ds
+total_append cs ds = sum-append ◌+◌ 0 zero-add add_assoc cs ds
 
 pub total_more : (cs : List ℕ) (i : ℕ) → i < length cs → total (take (i + 1) cs) ≡ total (take i cs) + get_or cs i 0
 unfolding sum

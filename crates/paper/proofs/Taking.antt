@@ -3,7 +3,7 @@ use mathlib.Core.Path.{◌≡◌, refl, sym, ap, ◌∙◌}
 use mathlib.Core.Bool.{true, false, and-eq-true_iff}
 use mathlib.Core.List.{List, [], ◌∷◌}
 use Prim.Native.Nat.{ℕ, zero, suc, ◌+◌, ◌-◌, ◌≤◌, ◌<◌}
-use native.Mathlib.Nat.{add-zero, sub-zero, zero_add, sub-add-eq, not-suc-le-zero}
+use native.Mathlib.Nat.{add-zero, sub-zero, zero-add, sub-add-eq, not-suc-le-zero}
 use native.Mathlib.Numerals.{sub-one}
 use native.Mathlib.Omega.{arith}
 use lib.ListN.{length, get_or, take, drop, length-drop}
@@ -67,7 +67,7 @@ pub record Left (s : List ℕ) (w : Taken) (o₀ : Out) (k : Kind) (m at count :
   pub counted : count + length (taken k m (drop at s)).bodies ≡ length w.bodies
 
 pub left_all : (s : List ℕ) (o : Out) (k : Kind) (m at : ℕ) → Left s (taken k m (drop at s)) o k (m - 0) at 0 o
-left_all s o k m at = rw sub-zero (record { numbers = refl; rest = refl; counted = zero_add _ })
+left_all s o k m at = rw sub-zero (record { numbers = refl; rest = refl; counted = zero-add _ })
 
 pub left_more : (s : List ℕ) (w : Taken) (o₀ : Out) (k : Kind) (m at count : ℕ) (o p : Out) → Left s w o₀ k (m - count) at count o → count < m → starts k (drop at s) ≡ true
     → (v : ℕ) → v ≡ little (take k.body (drop (at + 1) s)) → p ≡ write o (v ∷ []) → Left s w o₀ k (m - (count + 1)) (at + (k.body + 1)) (count + 1) p

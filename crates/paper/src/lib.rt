@@ -1,4 +1,5 @@
 // Question files and printed answers: bytes in, bytes out.
+#![tactic(auto)]
 mod answer;
 mod floats;
 pub mod format;

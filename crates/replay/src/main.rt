@@ -1,6 +1,7 @@
 // Replays stored answers of the comparison copy through the five calls and that for prices, from standard input
 // (compare/sample.rs writes it), and prints how often each number was answered and how many answers
 // differ from the stored ones.
+#![tactic(auto)]
 mod input;
 mod replay;
 mod report;

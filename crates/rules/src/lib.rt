@@ -1,4 +1,5 @@
 // The records of documents 01 and 02 that cross a call, and the limits of periods.
+#![tactic(auto)]
 pub mod refusals;
 pub mod targets;
 

@@ -2,6 +2,7 @@
 // with the ends. For number i: the whole number nearest to its root (2^13 at i = 64, the root itself), that number's square,
 // and half its reciprocal, as the patterns of the nearest floats; past the last number, as for the last. A `match` becomes a
 // table in the program; an array would be written anew at each call.
+#![tactic(auto)]
 ghost use Rattle.std.specs.Prelude.{◌≡◌};
 ghost use Rattle.squares.specs.Squares as Squares;
 

@@ -5,7 +5,7 @@ use mathlib.Core.Bool.{Bool, true, false, not, ◌&&◌, cond}
 use mathlib.Core.List.{List, [], ◌∷◌}
 use mathlib.Core.Logic.{inl, inr}
 use Prim.Native.Nat.{ℕ, zero, suc, ◌*◌, ◌/◌, ◌%◌, ◌≤◌, ◌<◌}
-use native.Mathlib.Nat.{zero_add, suc-ne-zero, suc_inj, not-suc-le-zero, le_of_suc-le-suc, mul-pos, mod-eq_of_lt, div-eq_of_lt, add-mul-div_left, add-mul-mod_self_left, mod-add-div}
+use native.Mathlib.Nat.{zero-add, suc-ne-zero, suc_inj, not-suc-le-zero, le_of_suc-le-suc, mul-pos, mod-eq_of_lt, div-eq_of_lt, add-mul-div_left, add-mul-mod_self_left, mod-add-div}
 use native.Mathlib.Omega.{arith}
 use lib.ListN.{length}
 use lib.Dec.{leb, eqb, T, leb→le, le→leb, eqb→eq}
@@ -41,7 +41,7 @@ assets_back n t h = add-mul-mod_self_left n 65536 t ∙ mod-eq_of_lt (omega (ari
 periods_back : (n t : ℕ) → n ≤ file_assets → shape n t / 65536 ≡ t
 periods_back n t h =
     let none : n / 65536 ≡ 0 = div-eq_of_lt (omega (arith, h)) in
-    add-mul-div_left n t (omega arith) ∙ rw none (zero_add t)
+    add-mul-div_left n t (omega arith) ∙ rw none (zero-add t)
 
 -- whether a kind comes
 abbrev comes : List ℕ → Bool

@@ -3,7 +3,7 @@ use mathlib.Core.Path.{◌≡◌, sym, ap, ◌∙◌}
 use mathlib.Core.Bool.{true, false}
 use mathlib.Core.List.{List, []}
 use Prim.Native.Nat.{ℕ, ◌*◌, ◌^◌, ◌≤◌, ◌<◌}
-use native.Mathlib.Nat.{zero_add}
+use native.Mathlib.Nat.{zero-add}
 use native.Mathlib.Omega.{arith}
 use lib.ListN.{length}
 use borrow.Author.Tests.{le-leb, lt-leb}
@@ -80,5 +80,5 @@ module _ (q : Question) (returns given s : List ℕ) where
         all_written h v r e =
             let t = file c in
             let long : length t ≡ n = file_long ∙ sym length_is ∙ sym en in
-            let stands : v ≡ front t s = ap buffer (e ∙ ap (write (out s 0)) is_file ∙ write_room t s 0 (omega arith)) ∙ rw (zero_add (length t)) in
+            let stands : v ≡ front t s = ap buffer (e ∙ ap (write (out s 0)) is_file ∙ write_room t s 0 (omega arith)) ∙ rw (zero-add (length t)) in
             rw (keeps, ← length_is, ← en, le-leb _ _ h) (ap (left (Bytes n)) stands)

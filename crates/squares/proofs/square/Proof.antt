@@ -9,10 +9,10 @@ use Rattle.squares.proofs.square.Tie as tie
 use Rattle.squares.proofs.square.Reads as reads
 use Rattle.squares.proofs.square.Lts as lts
 
-pub square-spec : {M : Type 1} → statement M
+pub square_spec : {M : Type 1} → statement M
 unfolding number largest near pattern round to_bits
-square-spec =
-    tie.close (λ 𝓛 𝓣. t_fn_plain 𝓛 𝓣 0 lts.ps lts.r lts.xs lts.m lts.hs lts.body
+square_spec =
+    tie.close (λ 𝓤 𝓛 𝓣. t_fn_plain 𝓛 𝓣 0 lts.ps lts.r lts.xs lts.m lts.hs lts.body
     (λ κs qs bs. lts.Φ reads.Pre reads.Post)
     (λ κs qs bs bd. lts.typed reads.Pre reads.Post κs qs 𝓛 𝓣 bs bd)
     reads.Pre reads.Post (λ κs qs a good pre bs. all (λ n. pattern (n ^ 2) 1) a.0))

@@ -3,7 +3,7 @@ use mathlib.Core.Path.{◌≡◌, sym, ap, ◌∙◌}
 use mathlib.Core.List.{List}
 use Prim.Native.Nat.{ℕ}
 use borrow.Author.Rules.{rules}
-use borrow.Author.Tests.{not_true, not-false}
+use borrow.Author.Tests.{not-true, not-false}
 use lib.Ieee.{Float, of_bits}
 use Rattle.rules.specs.Calls.{Answered, adjusted_covariance}
 use Rattle.rules.specs.declared.Settings.{Settings}
@@ -28,7 +28,7 @@ returns : tie.Need-returns
 unfolding engine_adjusted_covariance of_bits
 returns c =
     let b = c.before.before.before in
-    tells_unknown c.hand-out.ensures _ (sym b.before.before.known.ensures ∙ not_true _ b.before.if1.true) b.reported.ensures
+    tells_unknown c.hand-out.ensures _ (sym b.before.before.known.ensures ∙ not-true _ b.before.if1.true) b.reported.ensures
 
 settings-of-requires : tie.Need-settings-of-requires
 settings-of-requires c κs = search rules

@@ -2,7 +2,7 @@
 use mathlib.Core.Path.{sym, ◌∙◌}
 use lib.Ieee.{of_bits}
 use borrow.Author.Rules.{rules}
-use borrow.Author.Tests.{not_true, not-false}
+use borrow.Author.Tests.{not-true, not-false}
 use Rattle.capi.proofs.Told.{unknown_question, question_written}
 use Rattle.capi.proofs.questions.engine_write_question.Statement.{statement}
 use Rattle.capi.proofs.questions.engine_write_question.Tie as tie
@@ -20,7 +20,7 @@ returns : tie.Need-returns
 unfolding of_bits
 returns c =
     let b = c.before.before.before in
-    unknown_question _ _ _ _ _ c.hand-out.ensures (sym b.before.before.known-question.ensures ∙ not_true _ b.before.if1.true) b.reported.ensures
+    unknown_question _ _ _ _ _ c.hand-out.ensures (sym b.before.before.known-question.ensures ∙ not-true _ b.before.if1.true) b.reported.ensures
 
 estimate-from-requires : tie.Need-estimate-from-requires
 estimate-from-requires c κs = search rules

@@ -1,7 +1,7 @@
 -- `capi::record::known_question` meets its contract, test by test.
 use mathlib.Core.Path.{sym, ◌∙◌}
 use borrow.Author.Rules.{rules}
-use borrow.Author.Tests.{lt-ltb, le-ltb, not_true, not-false}
+use borrow.Author.Tests.{lt-ltb, le-ltb, not-true, not-false}
 use Rattle.capi.specs.Record.{known_question}
 use Rattle.capi.proofs.record.known_question.Statement.{statement}
 use Rattle.capi.proofs.record.known_question.Tie as tie
@@ -11,7 +11,7 @@ known-requires c κs = search rules
 
 returns : tie.Need-returns
 unfolding known_question
-returns c = rw (sym c.before.known.ensures ∙ not_true _ c.if1.true)
+returns c = rw (sym c.before.known.ensures ∙ not-true _ c.if1.true)
 
 returns-2 : tie.Need-returns-2
 unfolding known_question

@@ -3,7 +3,7 @@ use mathlib.Core.Path.{◌≡◌, sym, ap, ◌∙◌}
 use mathlib.Core.Bool.{true≢false}
 use Prim.Native.Nat.{◌*◌, ◌≤◌, ◌<◌}
 use native.Mathlib.Omega.{arith}
-use borrow.Author.Tests.{not_true, not-false}
+use borrow.Author.Tests.{not-true, not-false}
 use lib.ListN.{length}
 use lib.Seq.{length-take-le, take_at}
 use borrow.Author.Rules.{rules}
@@ -24,7 +24,7 @@ is-given-requires c κs = search rules
 returns : tie.Need-returns
 returns c =
     let a = c.before.before.before.before.args in
-    let e = sym c.before.is-given.ensures ∙ not_true _ c.if1.true in
+    let e = sym c.before.is-given.ensures ∙ not-true _ c.if1.true in
     (none_given a.settings a.given.now a.side e, λ given pass. absurd (true≢false (sym given ∙ e)))
 
 bad-sweep-limit-requires : tie.Need-bad-sweep-limit-requires

@@ -1,6 +1,6 @@
 -- `paper::format::well_formed` meets its contract, test by test.
 use mathlib.Core.Path.{sym, ◌∙◌}
-use borrow.Author.Tests.{eq-eqb, ne_eqb, not_true, not-false}
+use borrow.Author.Tests.{eq-eqb, ne_eqb, not-true, not-false}
 use borrow.Author.Rules.{rules}
 use Rattle.paper.specs.Rules.{well_formed}
 use Rattle.paper.proofs.format.well_formed.Statement.{statement}
@@ -11,14 +11,14 @@ shape-fits-requires c κs = search rules
 
 returns : tie.Need-returns
 unfolding well_formed
-returns c = rw (sym c.before.shape_fits.ensures ∙ not_true _ c.if1.true)
+returns c = rw (sym c.before.shape_fits.ensures ∙ not-true _ c.if1.true)
 
 settings-fit-requires : tie.Need-settings-fit-requires
 settings-fit-requires c κs = search rules
 
 returns-2 : tie.Need-returns-2
 unfolding well_formed
-returns-2 c = rw (sym c.before.before.before.shape_fits.ensures ∙ not-false _ c.before.before.if1.false, sym c.before.settings-fit.ensures ∙ not_true _ c.if2.true)
+returns-2 c = rw (sym c.before.before.before.shape_fits.ensures ∙ not-false _ c.before.before.if1.false, sym c.before.settings-fit.ensures ∙ not-true _ c.if2.true)
 
 count-requires : tie.Need-count-requires
 count-requires c κs = search rules

@@ -1,7 +1,7 @@
 -- `paper::kinds::place` meets its contract. The invariant: the kinds passed have other bytes.
 use mathlib.Core.Path.{◌≡◌, sym, ap, ◌∙◌}
 use Prim.Native.Nat.{◌+◌, ◌≤◌, ◌-◌}
-use native.Mathlib.Nat.{zero_add}
+use native.Mathlib.Nat.{zero-add}
 use native.Mathlib.Omega.{arith}
 use lib.ListN.{length, drop}
 use Rattle.paper.specs.declared.kinds.Kind.{Kind}
@@ -17,7 +17,7 @@ abbrev decreases-loop : tie.decreases-loop
 decreases-loop byte i₀ i = length kinds - i
 
 loop-holds : tie.Need-loop-init invariant-loop decreases-loop
-loop-holds c = (omega arith, sym (zero_add _))
+loop-holds c = (omega arith, sym (zero-add _))
 
 kind-at-requires : tie.Need-kind-at-requires invariant-loop decreases-loop
 kind-at-requires c κs = omega (arith, how_many)

@@ -4,7 +4,7 @@ use native.Mathlib.Omega.{arith}
 use lib.ListN.{length}
 use lib.Dec.{lit<}
 use borrow.Author.Rules.{rules}
-use borrow.Author.Tests.{not_true, not-false}
+use borrow.Author.Tests.{not-true, not-false}
 use Rattle.paper.specs.Grammar.{kinds, place_in}
 use Rattle.paper.proofs.Readings.{room_is, answer_malformed, answer_short_returns, answer_short_given, answer_found}
 use Rattle.paper.proofs.reading.read_question.Statement.{statement}
@@ -14,7 +14,7 @@ read-requires : tie.Need-read-requires
 read-requires c κs = search rules
 
 returns : tie.Need-returns
-returns c = answer_malformed _ _ _ _ c.before.before.read.ensures _ _ (not_true _ c.if1.true)
+returns c = answer_malformed _ _ _ _ c.before.before.read.ensures _ _ (not-true _ c.if1.true)
 
 count-requires : tie.Need-count-requires
 count-requires c κs = search rules

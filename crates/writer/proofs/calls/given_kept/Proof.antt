@@ -4,7 +4,7 @@ use Prim.Native.Nat.{◌*◌, ◌≤◌}
 use native.Mathlib.Nat.{mul-le-mul}
 use native.Mathlib.Omega.{arith}
 use borrow.Author.Rules.{rules}
-use borrow.Author.Tests.{eq-eqb, ne_eqb, not_true, not-false}
+use borrow.Author.Tests.{eq-eqb, ne_eqb, not-true, not-false}
 use Rattle.paper.specs.Grammar.{file_assets}
 use Rattle.paper.specs.Question.{given_count}
 use Rattle.writer.specs.Writer.{given_kept}
@@ -16,7 +16,7 @@ is-given-requires c κs = search rules
 
 returns : tie.Need-returns
 unfolding given_kept given_count
-returns c = rw (sym c.before.is-given.ensures ∙ not_true _ c.if1.true)
+returns c = rw (sym c.before.is-given.ensures ∙ not-true _ c.if1.true)
 
 returns-2 : tie.Need-returns-2
 unfolding given_kept given_count

@@ -1,7 +1,7 @@
 -- `writer::calls::record_kept` meets its contract, test by test.
 use mathlib.Core.Path.{sym, ◌∙◌}
 use borrow.Author.Rules.{rules}
-use borrow.Author.Tests.{not_true, not-false}
+use borrow.Author.Tests.{not-true, not-false}
 use Rattle.writer.proofs.Kept.{assets_kept}
 use Rattle.writer.proofs.calls.record_kept.Statement.{statement}
 use Rattle.writer.proofs.calls.record_kept.Tie as tie
@@ -10,7 +10,7 @@ shape-kept-requires : tie.Need-shape-kept-requires
 shape-kept-requires c κs = search rules
 
 returns : tie.Need-returns
-returns c = rw (sym c.before.shape-kept.ensures ∙ not_true _ c.if1.true)
+returns c = rw (sym c.before.shape-kept.ensures ∙ not-true _ c.if1.true)
 
 limit-kept-requires : tie.Need-limit-kept-requires
 limit-kept-requires c κs = search rules
@@ -18,7 +18,7 @@ limit-kept-requires c κs = search rules
 returns-2 : tie.Need-returns-2
 returns-2 c =
     let f = c.before.before in
-    rw (sym f.before.shape-kept.ensures ∙ not-false _ f.if1.false, sym c.before.limit-kept.ensures ∙ not_true _ c.if2.true)
+    rw (sym f.before.shape-kept.ensures ∙ not-false _ f.if1.false, sym c.before.limit-kept.ensures ∙ not-true _ c.if2.true)
 
 given-kept-requires : tie.Need-given-kept-requires
 given-kept-requires c κs =

@@ -2,7 +2,7 @@
 use mathlib.Core.Path.{sym, ◌∙◌}
 use native.Mathlib.Omega.{arith}
 use borrow.Author.Rules.{rules}
-use borrow.Author.Tests.{not_true, not-false}
+use borrow.Author.Tests.{not-true, not-false}
 use Rattle.writer.proofs.Kept.{record_sizes}
 use Rattle.writer.proofs.Writing.{broken_record, broken_rules, length_small, too_short, all_written}
 use Rattle.writer.proofs.calls.write_question.Statement.{statement}
@@ -12,7 +12,7 @@ record-kept-requires : tie.Need-record-kept-requires
 record-kept-requires c κs = search rules
 
 returns : tie.Need-returns
-returns c = broken_record _ _ _ _ (sym c.before.record-kept.ensures ∙ not_true _ c.if1.true)
+returns c = broken_record _ _ _ _ (sym c.before.record-kept.ensures ∙ not-true _ c.if1.true)
 
 outline-of-requires : tie.Need-outline-of-requires
 outline-of-requires c κs = record_sizes _ _ (sym c.before.record-kept.ensures ∙ not-false _ c.if1.false)
@@ -23,7 +23,7 @@ well-formed-requires c κs = search rules
 returns-2 : tie.Need-returns-2
 returns-2 c =
     let f = c.before.before.before in
-    broken_rules _ _ _ _ (sym f.before.record-kept.ensures ∙ not-false _ f.if1.false) _ c.before.before.outline-of.ensures (sym c.before.well-formed-2.ensures ∙ not_true _ c.if2.true)
+    broken_rules _ _ _ _ (sym f.before.record-kept.ensures ∙ not-false _ f.if1.false) _ c.before.before.outline-of.ensures (sym c.before.well-formed-2.ensures ∙ not-true _ c.if2.true)
 
 file-length-requires : tie.Need-file-length-requires
 file-length-requires c κs =

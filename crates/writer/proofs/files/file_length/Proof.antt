@@ -1,7 +1,7 @@
 -- `writer::files::file_length` meets its contract. The invariant: the bytes of the kinds passed, with those of the kinds that are left, are all of them.
 use mathlib.Core.Path.{◌≡◌}
 use Prim.Native.Nat.{◌+◌, ◌*◌, ◌≤◌, ◌-◌}
-use native.Mathlib.Nat.{zero_add}
+use native.Mathlib.Nat.{zero-add}
 use native.Mathlib.Omega.{arith}
 use lib.ListN.{length, drop, get_or}
 use Rattle.paper.specs.Grammar.{kinds}
@@ -18,7 +18,7 @@ abbrev decreases-loop : tie.decreases-loop
 decreases-loop counts s₀ i₀ s i = length kinds - i
 
 loop-holds : tie.Need-loop-init invariant-loop decreases-loop
-loop-holds c = (omega arith, zero_add _)
+loop-holds c = (omega arith, zero-add _)
 
 kind-at-requires : tie.Need-kind-at-requires invariant-loop decreases-loop
 kind-at-requires c κs = omega (arith, how_many)
