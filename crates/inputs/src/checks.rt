@@ -5,7 +5,7 @@ ghost use Rattle.inputs.specs.Checks.{checked};
 
 use rules::Refusal;
 
-#[derive(Drop)]
+#[derive(Clone, Copy)]
 pub enum Check {
     Passes,
     Refuses(Refusal),

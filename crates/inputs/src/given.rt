@@ -98,7 +98,7 @@ pub fn not_semidefinite(values: &[f64], a: &[f64], n: usize) -> Check
     Check::Passes
 }
 
-#[derive(Drop)]
+#[derive(Clone, Copy)]
 pub enum Examined {
     Refused(Refusal),
     // sweeps, rotations

@@ -10,7 +10,7 @@ use crate::checks::{Check, when};
 use rules::Refusal;
 
 // What a call's answer fills: an n × n table, n numbers, or nothing.
-#[derive(Drop)]
+#[derive(Clone, Copy)]
 pub enum AnswerShape {
     Table,
     Vector,

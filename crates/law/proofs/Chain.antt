@@ -64,7 +64,7 @@ pub chain_map : {P Q : Type 0} {cs cs' : List Check} → (P → Q) → Chain P c
 chain_map f (ends p) = ends (f p)
 chain_map f (next b h) = next b (λ e. chain_map f (h e))
 
-pub chain_append : {P : Type 0} {cs cs' ds ds' : List Check} → Chain (Chain P ds ds') cs cs' → Chain P (cs ++ ds) (cs' ++ ds')
+pub chain_append : {P : Type 0} {ds ds' cs cs' : List Check} → Chain (Chain P ds ds') cs cs' → Chain P (cs ++ ds) (cs' ++ ds')
 chain_append (ends p) = p
 chain_append (next b h) = next b (λ e. chain_append (h e))
 

@@ -54,7 +54,7 @@ fn sweep(a: &mut [f64], v: &mut [f64], n: usize) -> usize
     rotations
 }
 
-#[derive(Drop)]
+#[derive(Clone, Copy)]
 pub struct Outcome {
     pub found: bool,
     pub sweeps: usize,

@@ -6,7 +6,7 @@ ghost use Rattle.matrix.specs.Places.{placed};
 
 use crate::entries::get;
 
-#[derive(Drop)]
+#[derive(Clone, Copy)]
 pub enum Place {
     // row, column
     At(usize, usize),

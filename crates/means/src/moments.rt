@@ -13,7 +13,7 @@ use covariances::sample::{covariance_in_units, means_in_units};
 use tables::powers::put_units;
 
 // Of n assets, the first n numbers of the mean vector and the first n * n of the covariance, row by row.
-#[derive(Drop)]
+#[derive(Clone, Copy)]
 pub struct Moments {
     pub mean: [f64; matrix::MAX_SIDE],
     pub covariance: [f64; matrix::MAX_SIDE * matrix::MAX_SIDE],

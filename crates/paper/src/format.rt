@@ -6,7 +6,7 @@ ghost use Rattle.paper.specs.Rules as Rules;
 use crate::kinds::{FILE_ASSETS, FILE_PERIODS, KINDS, place};
 
 // Of each kind, in the order of the file, how many records there are and the first body, 0 where there is none.
-#[derive(Drop)]
+#[derive(Clone, Copy)]
 pub struct Outline {
     pub counts: [u64; KINDS],
     pub firsts: [u64; KINDS],

@@ -19,7 +19,7 @@ pub const KINDS: usize = 12;
 pub(crate) const RECORDS: usize = RETURNS + ENTRIES + KINDS - 2;
 
 // A kind's byte, the length of its body, and how many records of it a file may have.
-#[derive(Drop)]
+#[derive(Clone, Copy)]
 pub struct Kind {
     pub byte: u8,
     pub body: usize,

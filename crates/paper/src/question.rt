@@ -8,7 +8,7 @@ use rules::Target;
 use rules::targets::target;
 
 // An estimate: sample, given, weighted by half-life or by decay factor, semi, semi below a threshold.
-#[derive(Drop)]
+#[derive(Clone, Copy)]
 pub enum EstimateBits {
     Sample,
     Given,
@@ -18,28 +18,28 @@ pub enum EstimateBits {
     SemiBelow(u64),
 }
 
-#[derive(Drop)]
+#[derive(Clone, Copy)]
 pub enum ShrinkageBits {
     Unshrunk,
     Fixed(u64),
     LedoitWolf(Target),
 }
 
-#[derive(Drop)]
+#[derive(Clone, Copy)]
 pub enum RegularizationBits {
     Unregularized,
     Ridge(u64),
 }
 
 // A missing limit is marked as the largest one, and is written as missing.
-#[derive(Drop)]
+#[derive(Clone, Copy)]
 pub enum Limit {
     Missing,
     Sweeps(usize),
 }
 
 // What is asked for.
-#[derive(Drop)]
+#[derive(Clone, Copy)]
 pub enum Asked {
     Covariance,
     WeightedMean,
@@ -48,7 +48,7 @@ pub enum Asked {
 }
 
 // The returns and the given entries stand in slices beside it.
-#[derive(Drop)]
+#[derive(Clone, Copy)]
 pub struct Question {
     pub assets: usize,
     pub periods: usize,

@@ -46,7 +46,7 @@ fn copy_kind(counts: [u64; KINDS], numbers: &[u64], kind: u8, to: &mut [u64])
     copy(&numbers[from..end], to);
 }
 
-#[derive(Drop)]
+#[derive(Clone, Copy)]
 pub enum Read {
     Malformed,
     TooShort,

@@ -9,14 +9,14 @@ pub const MIN_PERIODS: usize = 2;
 pub const MAX_PERIODS: usize = 4096;
 
 // How weights fall with age: the periods in which one halves, or the factor of each period.
-#[derive(Drop)]
+#[derive(Clone, Copy)]
 pub enum Decay {
     HalfLife(f64),
     Lambda(f64),
 }
 
 // The weighted case carries its decay, and the case below a threshold the threshold.
-#[derive(Drop)]
+#[derive(Clone, Copy)]
 pub enum Estimate {
     Sample,
     Given,
@@ -26,14 +26,14 @@ pub enum Estimate {
 }
 
 // What a covariance is shrunk to: its average variance on the diagonal, or its variances with their average correlation.
-#[derive(Drop)]
+#[derive(Clone, Copy)]
 pub enum Target {
     ConstantVariance,
     ConstantCorrelation,
 }
 
 // None, a fixed intensity towards constant variance, or the intensity of Ledoit and Wolf.
-#[derive(Drop)]
+#[derive(Clone, Copy)]
 pub enum Shrinkage {
     Unshrunk,
     Fixed(f64),
@@ -41,14 +41,14 @@ pub enum Shrinkage {
 }
 
 // A ridge is added to each variance.
-#[derive(Drop)]
+#[derive(Clone, Copy)]
 pub enum Regularization {
     Unregularized,
     Ridge(f64),
 }
 
 // The sweep limit is that of a given matrix's decomposition.
-#[derive(Drop)]
+#[derive(Clone, Copy)]
 pub struct Settings {
     pub estimate: Estimate,
     pub shrinkage: Shrinkage,
@@ -57,7 +57,7 @@ pub struct Settings {
 }
 
 // The setting that refusal 7 names.
-#[derive(Drop)]
+#[derive(Clone, Copy)]
 pub enum Field {
     RegularizationField,
     ShrinkageField,
@@ -68,7 +68,7 @@ pub enum Field {
 }
 
 // Each with what is returned with it: a count of periods, a row and a column, a setting, a column, a side, an eigenvalue.
-#[derive(Drop)]
+#[derive(Clone, Copy)]
 pub enum Refusal {
     NoAssets,
     TooLarge,
@@ -88,7 +88,7 @@ pub enum Refusal {
 }
 
 // What is returned with a refusal.
-#[derive(Drop)]
+#[derive(Clone, Copy)]
 pub enum Detail {
     Nothing,
     Only(usize),
@@ -97,7 +97,7 @@ pub enum Detail {
     Value(f64),
 }
 
-#[derive(Drop)]
+#[derive(Clone, Copy)]
 pub enum Answer {
     Refused(Refusal),
     // intensity, sweeps, rotations

@@ -5,7 +5,7 @@ ghost use Rattle.tables.specs.Powers.{Factored, Units};
 
 use leaves::scaling::{cut, pow2_scaled};
 
-#[derive(Drop)]
+#[derive(Clone, Copy)]
 pub struct Power {
     pub near: f64,
     pub far: f64,

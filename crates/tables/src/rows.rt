@@ -8,7 +8,7 @@ ghost use Rattle.tables.specs.Rows.{in_unit, formed, rows_of};
 
 // The return itself, or its period's weight times it; or the return less its column's center: as it is, its part below 0, times its period's
 // weight, or times a power of two as two factors.
-#[derive(Drop)]
+#[derive(Clone, Copy)]
 pub enum Row {
     Plain,
     Weighted,

@@ -12,7 +12,7 @@ use crate::rows::{Row, form};
 use crate::vectors;
 
 // What a period adds to an entry: a product of two numbers of its row, the square of that product's distance from s, or a summand of θ.
-#[derive(Drop)]
+#[derive(Clone, Copy)]
 pub(crate) enum Term {
     Product,
     Variation,

@@ -53,7 +53,7 @@ fn record_kept(q: Question, given: &[u64]) -> bool
 }
 
 // What comes of a record: it breaks a rule of the format or has a given matrix of 0 assets, the output is too short for its file, or so many bytes are written.
-#[derive(Drop)]
+#[derive(Clone, Copy)]
 pub enum Written {
     BreaksFormat,
     TooShort,

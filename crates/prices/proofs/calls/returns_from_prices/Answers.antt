@@ -1,0 +1,72 @@
+-- `prices::calls::returns_from_prices` meets its contract: what is refused leaves the slice alone, and what passes fills as much of it as there are returns.
+use mathlib.Core.Path.{◌≡◌, sym, ap, ◌∙◌}
+use mathlib.Core.List.{List, ◌++◌}
+use Prim.Native.Nat.{ℕ, ◌-◌, ◌*◌}
+use native.Mathlib.Nat.{le_trans, sub-le, mul-le-mul}
+use native.Mathlib.Omega.{arith}
+use mir.Facts.{Fits-below}
+use lib.Dec.{lit≤}
+use lib.ListN.{length, drop}
+use lib.Seq.{length-take-le}
+use lib.Ieee.{Float}
+use Rattle.leaves.specs.Loops.{tab}
+use Rattle.matrix.specs.Matrix.{at, rows}
+use Rattle.rules.specs.Refusals.{Check, passes, refuses, first}
+use Rattle.rules.specs.Prices.{simple_returns, by_price_shape, by_prices, prices_order, converted, convert, returns_from_prices}
+use Rattle.rules.specs.declared.Refusal.{Refusal}
+use Rattle.inputs.specs.Checks.{checked}
+use Rattle.prices.specs.Stored.{return_at}
+use Rattle.prices.proofs.Stored.{but_one_row, returns_filled}
+use Rattle.prices.proofs.Shapes.{Priced, all_pass}
+use Rattle.prices.proofs.calls.returns_from_prices.Goals as goal
+
+module _ (p : List Float) (n R : ℕ) (slice : List Float) {k : Check} (is-k : k ≡ first (by_price_shape (length p) n R (length slice) ++ by_prices R n (at p n))) where
+  abbrev returned : List Float
+  returned = rows (R - 1) n (simple_returns (at p n))
+
+  refused : {c : Refusal} → refuses c ≡ k → converted (refuses c) slice ≡ returns_from_prices p n R slice
+  unfolding returns_from_prices convert prices_order
+  refused e = ap (λ (k : Check). convert k ((R - 1) * n) returned slice) (e ∙ is-k)
+
+  accepted : {written : List Float} → passes ≡ k → written ≡ tab ((R - 1) * n) (return_at p n) → converted passes (written ++ drop ((R - 1) * n) slice) ≡ returns_from_prices p n R slice
+  unfolding returns_from_prices convert prices_order
+  accepted e w =
+      ap (λ (l : List Float). converted passes (l ++ drop ((R - 1) * n) slice)) w ∙ ap (converted passes) (returns_filled p n (R - 1) slice)
+      ∙ ap (λ (k : Check). convert k ((R - 1) * n) returned slice) (e ∙ is-k)
+
+pub returns-in-Refuses : goal.returns-in-Refuses
+returns-in-Refuses c =
+    let l = c in
+    let a = l.args in
+    refused a.prices.now a.n a.rows a.returns.now l.check-bad.ensures (ap checked (sym c.in-Refuses.is))
+
+-- what the checks let pass
+shape : (c : After-enum-told) → let a = c.args in Priced (length a.prices.now) a.n a.rows (length a.returns.now)
+shape c = all_pass _ _ _ _ _ (ap checked c.in_default.is) c.check-bad.ensures
+
+pub overflow_sub-size : goal.overflow_sub-size
+overflow_sub-size c = let s = shape (goal.at.overflow_sub-size c).After-enum-told in omega (arith, s.three)
+
+pub overflow_mul-size : goal.overflow_mul-size
+overflow_mul-size c = let s = shape (goal.at.overflow_mul-size c).After-enum-told in Fits-below tt (mul-le-mul (le_trans (sub-le _ 1) s.few) s.small)
+
+pub slice_bounds-write_returns-end : goal.slice_bounds-write_returns-end
+slice_bounds-write_returns-end c = (shape (goal.at.slice_bounds-write_returns-end c).After-enum-told).ranges
+
+pub slice_bounds-write_returns-end-2 : goal.slice_bounds-write_returns-end-2
+slice_bounds-write_returns-end-2 c = sym (length-take-le _ _ (shape (goal.at.slice_bounds-write_returns-end-2 c).After-enum-told).fits)
+
+pub write_returns-requires : goal.write_returns-requires
+write_returns-requires c =
+    let a = c.args in
+    let s = shape (goal.at.write_returns-requires c).After-enum-told in
+    omega (arith, s.long, but_one_row a.rows a.n (le_trans (lit≤ tt) s.three), length-take-le ((a.rows - 1) * a.n) a.returns.now s.fits)
+
+pub returns : goal.returns
+returns c =
+    let l = c in
+    let k = l in
+    let a = k.args in
+    let e = length-take-le ((a.rows - 1) * a.n) a.returns.now (shape (goal.at.returns l).After-enum-told).ranges in
+    accepted a.prices.now a.n a.rows a.returns.now k.check-bad.ensures (ap checked (sym l.in_default.is))
+    (c.write_returns.ensures ∙ ap (λ (m : ℕ). tab m (return_at a.prices.now a.n)) e)

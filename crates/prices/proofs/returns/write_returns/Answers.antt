@@ -1,0 +1,22 @@
+-- `prices::returns::write_returns` meets its contract. The invariant: every return passed is written.
+use native.Mathlib.Omega.{arith}
+use native.Mathlib.Nat.{le_refl}
+use mathlib.Core.Path.{refl}
+use Rattle.leaves.proofs.Invariants.{filled_more, filled_none, filled_whole}
+use Rattle.prices.specs.Stored.{return_at}
+use Rattle.prices.proofs.returns.write_returns.Goals as goal
+
+pub loop-k-init : goal.loop-k-init
+loop-k-init c = filled_none _ _ _
+
+pub return_at-requires : goal.return_at-requires
+return_at-requires c = omega (arith, c.loop-k-test.true, c.requires)
+
+pub loop-k-preserved : goal.loop-k-preserved
+loop-k-preserved c = filled_more c.loop-k.invariant (omega (arith, c.loop-k-test.true)) (le_refl _) c.return_at.ensures
+
+pub shape_of-out : goal.shape_of-out
+shape_of-out c = c.loop-k.invariant.len
+
+pub returns : goal.returns
+returns c = filled_whole c.loop-k.invariant (omega (arith, c.loop-k-test.false)) refl
