@@ -1,7 +1,7 @@
 -- Returns of prices that stand row by row: return k is the entry in row k / n and column k % n of the matrix of returns. Assumes nothing.
 use mathlib.Core.Path.{◌≡◌, sym, ap, ◌∙◌}
 use mathlib.Core.List.{List, ◌++◌}
-use Prim.Native.Nat.{ℕ, suc, ◌+◌, ◌-◌, ◌*◌, ◌/◌, ◌%◌, ◌≤◌, ◌<◌}
+use Prim.Native.Nat.{ℕ, zero, suc, ◌+◌, ◌-◌, ◌*◌, ◌/◌, ◌%◌, ◌≤◌, ◌<◌}
 use native.Mathlib.Nat.{suc-mul, div-add-mod'}
 use native.Mathlib.Omega.{arith}
 use lib.ListN.{drop}
@@ -31,6 +31,7 @@ returns_filled p n m slice =
 
 -- the last row has no return of its own
 pub but_one_row : (R n : ℕ) → 0 < R → (R - 1) * n + n ≡ R * n
+but_one_row zero n h = absurd (omega (arith, h))
 but_one_row (suc R) n h = let e : suc R - 1 ≡ R = omega arith in ap (λ (r : ℕ). r * n + n) e ∙ omega (arith, suc-mul R n)
 
 pub but_one_fits : (l R n : ℕ) → 0 < R → l ≡ R * n → (n ≤ l) × (l - n ≡ (R - 1) * n)

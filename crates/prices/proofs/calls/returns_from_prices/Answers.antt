@@ -40,33 +40,39 @@ returns-in-Refuses c =
     let a = l.args in
     refused a.prices.now a.n a.rows a.returns.now l.check-bad.ensures (ap checked (sym c.in-Refuses.is))
 
--- what the checks let pass
-shape : (c : After-enum-told) → let a = c.args in Priced (length a.prices.now) a.n a.rows (length a.returns.now)
-shape c = all_pass _ _ _ _ _ (ap checked c.in_default.is) c.check-bad.ensures
-
 pub overflow_sub-size : goal.overflow_sub-size
-overflow_sub-size c = let s = shape (goal.at.overflow_sub-size c).After-enum-told in omega (arith, s.three)
+overflow_sub-size c =
+    let shape : let a = c.args in Priced (length a.prices.now) a.n a.rows (length a.returns.now) = all_pass _ _ _ _ _ (ap checked c.in_default.is) c.check-bad.ensures in
+    let s = shape in omega (arith, s.three)
 
 pub overflow_mul-size : goal.overflow_mul-size
-overflow_mul-size c = let s = shape (goal.at.overflow_mul-size c).After-enum-told in Fits-below tt (mul-le-mul (le_trans (sub-le _ 1) s.few) s.small)
+overflow_mul-size c =
+    let shape : let a = c.args in Priced (length a.prices.now) a.n a.rows (length a.returns.now) = all_pass _ _ _ _ _ (ap checked c.in_default.is) c.check-bad.ensures in
+    let s = shape in Fits-below tt (mul-le-mul (le_trans (sub-le _ 1) s.few) s.small)
 
 pub slice_bounds-write_returns-end : goal.slice_bounds-write_returns-end
-slice_bounds-write_returns-end c = (shape (goal.at.slice_bounds-write_returns-end c).After-enum-told).ranges
+slice_bounds-write_returns-end c =
+    let shape : let a = c.args in Priced (length a.prices.now) a.n a.rows (length a.returns.now) = all_pass _ _ _ _ _ (ap checked c.in_default.is) c.check-bad.ensures in
+    shape.fits
 
 pub slice_bounds-write_returns-end-2 : goal.slice_bounds-write_returns-end-2
-slice_bounds-write_returns-end-2 c = sym (length-take-le _ _ (shape (goal.at.slice_bounds-write_returns-end-2 c).After-enum-told).fits)
+slice_bounds-write_returns-end-2 c =
+    let shape : let a = c.args in Priced (length a.prices.now) a.n a.rows (length a.returns.now) = all_pass _ _ _ _ _ (ap checked c.in_default.is) c.check-bad.ensures in
+    sym (length-take-le _ _ shape.fits)
 
 pub write_returns-requires : goal.write_returns-requires
 write_returns-requires c =
+    let shape : let a = c.args in Priced (length a.prices.now) a.n a.rows (length a.returns.now) = all_pass _ _ _ _ _ (ap checked c.in_default.is) c.check-bad.ensures in
     let a = c.args in
-    let s = shape (goal.at.write_returns-requires c).After-enum-told in
+    let s = shape in
     omega (arith, s.long, but_one_row a.rows a.n (le_trans (lit≤ tt) s.three), length-take-le ((a.rows - 1) * a.n) a.returns.now s.fits)
 
 pub returns : goal.returns
 returns c =
+    let shape : let a = c.args in Priced (length a.prices.now) a.n a.rows (length a.returns.now) = all_pass _ _ _ _ _ (ap checked c.in_default.is) c.check-bad.ensures in
     let l = c in
     let k = l in
     let a = k.args in
-    let e = length-take-le ((a.rows - 1) * a.n) a.returns.now (shape (goal.at.returns l).After-enum-told).ranges in
+    let e = length-take-le ((a.rows - 1) * a.n) a.returns.now shape.fits in
     accepted a.prices.now a.n a.rows a.returns.now k.check-bad.ensures (ap checked (sym l.in_default.is))
     (c.write_returns.ensures ∙ ap (λ (m : ℕ). tab m (return_at a.prices.now a.n)) e)

@@ -35,7 +35,7 @@ returns-then-not-is_finite c =
     let l = c in
     let a = l.args in
     refused_at (bad a.prices.now a.n) (a.rows - 1) a.n l.loop-k.k NotFinite l.loop-k.invariant.2
-    (bad-at a.prices.now a.n l.loop-k.k c.return_at.ensures c.is_finite.ensures c.if-not-is_finite.true)
+    (bad-at a.prices.now a.n l.loop-k.k c.return_at.ensures c.is_finite.ensures (ap not c.if-not-is_finite.true))
     (omega (arith, c.loop-k-test.true, l.loop-k.invariant.1))
 
 pub loop-k-preserved : goal.loop-k-preserved
@@ -44,7 +44,7 @@ loop-k-preserved c =
     let a = l.args in (
       omega (arith, c.loop-k-test.true),
       l.loop-k.invariant.1,
-      first_more _ _ l.loop-k.invariant.2 (bad-at a.prices.now a.n l.loop-k.k c.return_at.ensures c.is_finite.ensures c.if-not-is_finite.false),
+      first_more _ _ l.loop-k.invariant.2 (bad-at a.prices.now a.n l.loop-k.k c.return_at.ensures c.is_finite.ensures (ap not c.if-not-is_finite.false)),
     )
 
 pub returns : goal.returns

@@ -29,12 +29,12 @@ pub returns-then-not-is_ordinary : goal.returns-then-not-is_ordinary
 returns-then-not-is_ordinary c =
     let before = c in
     found before.args.prices.now before.loop-k.k before.loop-k.invariant.1
-    (ap not (sym c.is_ordinary.ensures) ∙ c.if-not-is_ordinary.true) c.loop-k-test.true
+    (ap not (sym c.is_ordinary.ensures) ∙ (ap not c.if-not-is_ordinary.true)) c.loop-k-test.true
 
 pub loop-k-preserved : goal.loop-k-preserved
 loop-k-preserved c =
     let before = c in
-    (omega arith, first_more _ _ before.loop-k.invariant.1 (ap not (sym c.is_ordinary.ensures) ∙ c.if-not-is_ordinary.false))
+    (omega arith, first_more _ _ before.loop-k.invariant.1 (ap not (sym c.is_ordinary.ensures) ∙ (ap not c.if-not-is_ordinary.false)))
 
 pub returns : goal.returns
 returns c = nowhere c.args.prices.now c.loop-k.k c.loop-k.invariant.1 c.loop-k.invariant.0 c.loop-k-test.false

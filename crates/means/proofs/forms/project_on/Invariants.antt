@@ -1,0 +1,11 @@
+use Rattle.std.proofs.Common.{◌≡◌, ◌-◌, ◌≤◌}
+use Rattle.leaves.specs.Numbers.{◌⊗◌}
+use Rattle.leaves.specs.Loops.{sum_to, nth}
+use Rattle.matrix.specs.Matrix.{at}
+use Rattle.means.proofs.forms.project_on.Given as goal
+
+abbrev pub invariant-loop-i : goal.invariant-loop-i
+invariant-loop-i l = (l.i ≤ l.n) × (l.s ≡ sum_to l.i (λ i. at l.vectors l.n i l.e ⊗ nth l.x i))
+
+abbrev pub decreases-loop-i : goal.decreases-loop-i
+decreases-loop-i l = l.n - l.i

@@ -1,0 +1,40 @@
+-- `means::gather::common_exponent` meets its contract. The invariant: the largest exponent of the numbers passed, and its size.
+use Rattle.std.proofs.Common.{◌≡◌, ℕ, ◌<◌, ◌≤◌, List, length, ℤ, nat_abs, ap, ◌∙◌, arith}
+use mathlib.Core.Option.{none}
+use Rattle.leaves.proofs.Ints.{read_back}
+use Rattle.leaves.proofs.Invariants.{loop_turn, loop_end, loop_start}
+use Rattle.rules.specs.BayesStein.{or_zero, common_exponent, exponent_at}
+use Rattle.tables.specs.Exponents.{Exponents, two_exponents}
+use Rattle.tables.proofs.Exponents.{read}
+use Rattle.means.specs.Gather.{largest_of}
+use Rattle.means.proofs.gather.common_exponent.Goals as goal
+use Rattle.means.proofs.gather.common_exponent.Invariants.{step}
+
+-- an exponent, as the machine reads it
+reads : (exponents : List ℤ) → Exponents exponents → (i : ℕ) → i < length exponents → read_back (exponent_at exponents i) ≡ exponent_at exponents i
+reads exponents h i l = read (exponent_at exponents i) (omega (arith, h i l))
+
+pub loop-i-init : goal.loop-i-init
+loop-i-init c = (omega arith, loop_start _ _, omega arith)
+
+pub with_exponent-largest-requires : goal.with_exponent-largest-requires
+with_exponent-largest-requires c =
+    let s = c in
+    let i = c.loop-i.i in
+    let h : i < length s.args.exponents.now = omega arith in
+    (rw (reads s.args.exponents.now s.requires.1 i h) (s.requires.1 i h), c.loop-i.invariant.2)
+
+pub loop-i-preserved : goal.loop-i-preserved
+loop-i-preserved c =
+    let s = c in
+    let l = c.loop-i in
+    (omega arith, loop_turn _ _ _ _ _ l.invariant.1 (rw (reads s.args.exponents.now s.requires.1 l.i (omega arith)) at c.with_exponent-largest.ensures.0), c.with_exponent-largest.ensures.1)
+
+pub returns : goal.returns
+unfolding common_exponent
+returns c =
+    let o = c.or_zero in
+    let l = c.loop-i in
+    let a = c.args in
+    let h : nat_abs o.result ≤ two_exponents = rw o.ensures l.invariant.2 in
+    rw (read o.result (omega arith)) (o.ensures ∙ ap or_zero (loop_end (step a.xs.now a.exponents.now) l.i (length a.xs.now) none (largest_of l.largest) l.invariant.1 (omega arith)), h)

@@ -1,0 +1,20 @@
+-- `means::gather::larger` meets its contract: each return is the case of `larger_z` that the test picks.
+use Rattle.std.proofs.Common.{◌≡◌, to_z-of_z, rules}
+use Rattle.leaves.proofs.Ints.{read_back}
+use Rattle.means.proofs.gather.larger.Goals as goal
+
+pub returns-in-Nothing : goal.returns-in-Nothing
+returns-in-Nothing c = rw (c.in-Nothing.is, to_z-of_z c.ranges.k)
+
+pub returns-then-j-k : goal.returns-then-j-k
+returns-then-j-k c =
+    let j = c.largest.given in
+    let rj : read_back j.0.0 ≡ j.0.0 = search rules in
+    let rk = to_z-of_z c.ranges.k in
+    rw (j.1, rw (rj, rk) at c.if-j-k.true, rk)
+
+pub returns-else-j-k : goal.returns-else-j-k
+returns-else-j-k c =
+    let j = c.largest.given in
+    let rj : read_back j.0.0 ≡ j.0.0 = search rules in
+    rw (j.1, rw (rj, to_z-of_z c.ranges.k) at c.if-j-k.false, rj)

@@ -1,0 +1,13 @@
+-- `means::gather::or_zero` meets its contract, case by case.
+use Rattle.std.proofs.Common.{◌≡◌, rules}
+use Rattle.leaves.proofs.Ints.{read_back}
+use Rattle.means.proofs.gather.or_zero.Goals as goal
+
+pub returns-in-Nothing : goal.returns-in-Nothing
+returns-in-Nothing c = rw c.in-Nothing.is
+
+pub returns-in-Exponent : goal.returns-in-Exponent
+returns-in-Exponent c =
+    let k = c.largest.given in
+    let rk : read_back k.0.0 ≡ k.0.0 = search rules in
+    rw (k.1, rk)
