@@ -8,13 +8,11 @@ returns-in-Nothing c = rw (c.in-Nothing.is, to_z-of_z c.ranges.k)
 
 pub returns-then-j-k : goal.returns-then-j-k
 returns-then-j-k c =
-    let j = c.largest.given in
-    let rj : read_back j.0.0 ≡ j.0.0 = search rules in
+    let rj : read_back c.in-Exponent.j ≡ c.in-Exponent.j = search rules in
     let rk = to_z-of_z c.ranges.k in
-    rw (j.1, rw (rj, rk) at c.if-j-k.true, rk)
+    rw (c.in-Exponent.is, rw (rj, rk) at c.if-j-k.true, rk)
 
 pub returns-else-j-k : goal.returns-else-j-k
 returns-else-j-k c =
-    let j = c.largest.given in
-    let rj : read_back j.0.0 ≡ j.0.0 = search rules in
-    rw (j.1, rw (rj, to_z-of_z c.ranges.k) at c.if-j-k.false, rj)
+    let rj : read_back c.in-Exponent.j ≡ c.in-Exponent.j = search rules in
+    rw (c.in-Exponent.is, rw (rj, to_z-of_z c.ranges.k) at c.if-j-k.false, rj)

@@ -8,6 +8,5 @@ returns-in-Nothing c = rw c.in-Nothing.is
 
 pub returns-in-Exponent : goal.returns-in-Exponent
 returns-in-Exponent c =
-    let k = c.largest.given in
-    let rk : read_back k.0.0 ≡ k.0.0 = search rules in
-    rw (k.1, rk)
+    let rk : read_back c.in-Exponent.k ≡ c.in-Exponent.k = search rules in
+    rw (c.in-Exponent.is, rk)
