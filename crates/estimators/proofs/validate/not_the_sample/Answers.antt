@@ -1,0 +1,15 @@
+-- `estimators::validate::not_the_sample` meets its contract, by the cases of the shrinkage.
+use Rattle.rules.specs.Order.{not_the_sample}
+use Rattle.estimators.proofs.validate.not_the_sample.Goals as goal
+
+pub returns-in-Unshrunk : goal.returns-in-Unshrunk
+unfolding not_the_sample
+returns-in-Unshrunk c = rw c.in-Unshrunk.is
+
+pub returns-in-Fixed : goal.returns-in-Fixed
+unfolding not_the_sample
+returns-in-Fixed c = rw c.in-Fixed.is
+
+pub returns-in-LedoitWolf : goal.returns-in-LedoitWolf
+unfolding not_the_sample
+returns-in-LedoitWolf c = rw (c.in-LedoitWolf.is, ← c.is_sample.ensures) c.when.ensures
