@@ -1,0 +1,39 @@
+-- `paper::answer::put_lines` meets its contract. The invariant: what is written, with the lines that are left, is all of them.
+use mathlib.Core.Path.{refl, ◌∙◌}
+use native.Mathlib.Omega.{arith}
+use lib.ListN.{drop}
+use Rattle.paper.specs.Text.{out as into}
+use Rattle.paper.specs.Answer.{lines_text}
+use Rattle.paper.proofs.Writes.{onward, ended}
+use Rattle.paper.proofs.Lines.{lines_more, lines_none}
+use Rattle.paper.proofs.answer.put_lines.Goals as goal
+
+pub loop-k-init : goal.loop-k-init
+loop-k-init c = (omega arith, refl, refl)
+
+pub bounds-xs-k : goal.bounds-xs-k
+bounds-xs-k c = omega arith
+
+pub overflow_add-k : goal.overflow_add-k
+overflow_add-k c = omega arith
+
+pub loop-k-smaller : goal.loop-k-smaller
+loop-k-smaller c = omega arith
+
+pub loop-k-preserved : goal.loop-k-preserved
+loop-k-preserved c =
+    let l = c.loop-k in
+    let a = c.args in (
+      omega arith,
+      omega arith,
+      onward (into l.out l.at) _ _ (lines_text a.columns l.k (drop l.k a.xs.now)) c.put_line-at.ensures (lines_more _ l.k a.xs.now _ (omega arith)) ∙ l.invariant.2,
+    )
+
+pub shape_of-out : goal.shape_of-out
+shape_of-out c = omega arith
+
+pub returns : goal.returns
+returns c =
+    let l = c.loop-k in
+    let a = c.args in
+    ended _ _ (lines_text a.columns l.k (drop l.k a.xs.now)) (lines_none _ _ _ (omega arith)) l.invariant.2
