@@ -278,16 +278,16 @@ abbrev pub all_bytes : List Kind → Bool
 all_bytes [] = true
 all_bytes (k ∷ ks) = ltb k.byte 256 && all_bytes ks
 
-are_bytes : (l v : ℕ) → T (are_bytes (bytes_of l v))
+are_bytes_lem : (l v : ℕ) → T (are_bytes (bytes_of l v))
 unfolding bytes_of
-are_bytes zero v = tt
-are_bytes (suc l) v = and_i (ltb (v % 256) 256) (are_bytes (bytes_of l (v / 256))) (lt→ltb (v % 256) 256 (omega arith)) (are_bytes l (v / 256))
+are_bytes_lem zero v = tt
+are_bytes_lem (suc l) v = and_i (ltb (v % 256) 256) (are_bytes (bytes_of l (v / 256))) (lt→ltb (v % 256) 256 (omega arith)) (are_bytes_lem l (v / 256))
 
 records_bytes : (k : Kind) (vs : List ℕ) → T (ltb k.byte 256) → T (are_bytes (records k vs))
 unfolding records
 records_bytes k [] t = tt
 records_bytes k (v ∷ vs) t =
-    and_i (ltb k.byte 256) (are_bytes (bytes_of k.body v ++ records k vs)) t (both_bytes (bytes_of k.body v) (records k vs) (are_bytes k.body v) (records_bytes k vs t))
+    and_i (ltb k.byte 256) (are_bytes (bytes_of k.body v ++ records k vs)) t (both_bytes (bytes_of k.body v) (records k vs) (are_bytes_lem k.body v) (records_bytes k vs t))
 
 pub file_bytes : (ks : List Kind) (lists : List (List ℕ)) → T (all_bytes ks) → T (are_bytes (file_of ks lists))
 unfolding file_of
