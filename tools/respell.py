@@ -20,7 +20,7 @@ COMMENT = re.compile(r"(?<![^\s(){}.;,@\"«»])--[^\n]*")
 WORD = re.compile(r"(?<![^\s(){}.;,@\"«»\x60\[\]|])" + r"[^\s(){}.;,@\"«»\x60\[\]|]+")
 # What the toolchain makes or the library declares, and this repository's texts cite or define for it.
 STAY = re.compile(r"(invariant|decreases|copy|ghost)-|.*[◌μ+*]|Rattle$")
-OWN_WORDS = {"getD-tab": "get_or_tab", "getD-stored": "get_or_stored"}
+OWN_WORDS = {"getD-tab": "get_or_tab", "getD-stored": "get_or_stored", "are-bytes": "are_bytes_lem"}
 
 
 def snake(name):
@@ -54,7 +54,7 @@ def table(root):
                 text = COMMENT.sub("", f.read())
             for m in DECLARED.finditer(text):
                 old = m[1]
-                if not old[0].islower() and not old[0] in "0123456789":
+                if not old[0].islower():
                     continue
                 if STAY.match(old) or in_function(path) and "-" in old:
                     continue
@@ -86,6 +86,20 @@ def turn_antt(text, names, steps=False):
         parts += [turn(text[at : m.start()], names, steps), turn_md(m[0], names)]
         at = m.end()
     return "".join(parts + [turn(text[at:], names, steps)])
+
+
+IMPORTED = re.compile(r"(?m)^use (\S+?)\.\{([^}]*)\}")
+
+
+def lent(text, root):
+    """The names that a file has from another's library."""
+    own = set(os.listdir(os.path.join(root, "crates")))
+    found = set()
+    for m in IMPORTED.finditer(text):
+        steps = m[1].split(".")
+        if steps[0] != "Rattle" or steps[1] not in own:
+            found |= {n.split(" as ")[0].strip() for n in m[2].split(",")}
+    return found
 
 
 def turn_rt(text, names):
@@ -142,7 +156,13 @@ def main(words):
                 how = turn if re.search(r"(?m)^file: .*\.antt$", f.read()) else turn_edit
         else:
             continue
-        write(path, how, names)
+        kept = names
+        if path.endswith(".antt"):
+            with open(path, encoding="utf-8") as f:
+                others = lent(f.read(), root)
+            kept = Names((old, new) for old, new in names.items() if old not in others)
+            kept.together = names.together
+        write(path, how, kept)
     for folder, dirs, found in os.walk(root):
         dirs[:] = [d for d in dirs if d not in (".git", "out", "target")]
         for n in found:

@@ -10,7 +10,7 @@ use lib.IntN.{ℤ, pos, neg_ℤ, ◌+ℤ◌}
 use lib.Pow.{pow_pos}
 use lib.Ieee.{Float, eq, of_bits}
 use borrow.Author.Tests.{ne_eqb}
-use Rattle.leaves.specs.Numbers.{◌⊗◌, ◌⊘◌, zero⁺, one, 1e_10}
+use Rattle.leaves.specs.Numbers.{◌⊗◌, ◌⊘◌, zero⁺, one, 1e-10}
 use Rattle.leaves.specs.Loops.{nth}
 use Rattle.leaves.specs.Scaling.{binary_exponent, pow2_scaled}
 use Rattle.leaves.proofs.Loops.{get_or_tab}
@@ -127,7 +127,7 @@ module _ {k n P : ℕ} {x y : Matrix} (small : k ≤ max_power) (r : Returns k n
     size_plus : sign (size_of P n x i) ≡ false
     size_plus = sign_scaled A (neg_ℤ (exponents_of P n x i)) (sign_largest P x i)
 
-    tolerance_range : Bounded tolerance_bounds (1e_10 ⊗ size_of P n x i)
+    tolerance_range : Bounded tolerance_bounds (1e-10 ⊗ size_of P n x i)
     tolerance_range = (moved_mul ten_billionth_moved (still unit_bounds size_range) (lit≤ tt) (lit≤ tt)).range
 
     v_above : 0 < mag (volatility (Σ n m) i)
@@ -161,11 +161,11 @@ module _ {k n P : ℕ} {x y : Matrix} (small : k ≤ max_power) (r : Returns k n
     -- at least the tolerance of a column whose largest is at least 1
     v_least : 2 ^ ten_billionth_bounds.least ≤ mag (volatility (Σ n m) i)
     v_least =
-        let t = 1e_10 ⊗ size_of P n x i in
+        let t = 1e-10 ⊗ size_of P n x i in
         let one : 2 ^ one_bits ≤ mag (size_of P n x i) = rw (exponent_at_lem P n x i a) (scaled_least return_bounds A A-range not_zero returns_scalable) in
-        let least : 2 ^ ten_billionth_bounds.least ≤ mag t = rw (product_is 1e_10 (size_of P n x i) ten_billionth_moved.range.fit size_range.fit tolerance_range.finite)
-        (near_least (mag 1e_10 * mag (size_of P n x i)) U (2 ^ ten_billionth_bounds.least) U_pos (representable_pow ten_billionth_bounds.least) (le_trans (le_of_eq (ap (λ (z : ℕ). 2 ^ ten_billionth_bounds.least * z) U-is)) (mul-le-mul (ten_billionth_moved.range.least ten_billionth_above) one))) in
-        le_of_lt (lt_of_le_of_lt least (le_no (volatility (Σ n m) i) t (plus_val (volatility (Σ n m) i) (v_range i a).fit (v_range i a).finite (sign_sqrt (Σ n m i i) (variance_plus i a))) (plus_val t tolerance_range.fit tolerance_range.finite (sign_mul 1e_10 (size_of P n x i) (unfold sign of_bits in sym size_plus))) h))
+        let least : 2 ^ ten_billionth_bounds.least ≤ mag t = rw (product_is 1e-10 (size_of P n x i) ten_billionth_moved.range.fit size_range.fit tolerance_range.finite)
+        (near_least (mag 1e-10 * mag (size_of P n x i)) U (2 ^ ten_billionth_bounds.least) U_pos (representable_pow ten_billionth_bounds.least) (le_trans (le_of_eq (ap (λ (z : ℕ). 2 ^ ten_billionth_bounds.least * z) U-is)) (mul-le-mul (ten_billionth_moved.range.least ten_billionth_above) one))) in
+        le_of_lt (lt_of_le_of_lt least (le_no (volatility (Σ n m) i) t (plus_val (volatility (Σ n m) i) (v_range i a).fit (v_range i a).finite (sign_sqrt (Σ n m i i) (variance_plus i a))) (plus_val t tolerance_range.fit tolerance_range.finite (sign_mul 1e-10 (size_of P n x i) (unfold sign of_bits in sym size_plus))) h))
 
     v_moved : Moved 0 steady_volatility_bounds (volatility (Σ n m) i) (volatility (Σ n m) i)
     v_moved = still steady_volatility_bounds (range_size steady_volatility_bounds.least (2 ^ steady_volatility_bounds.most) (volatility (Σ n m) i) (lit≤ tt) (v_range i a).fit (v_range i a).finite (inr v_least) (v_range i a).most)

@@ -7,7 +7,7 @@ use mathlib.Core.Bool.{false}
 use lib.Dec.{lit≤, lit<}
 use lib.IntN.{pos}
 use lib.Ieee.{Float, fits, le, of_bits}
-use Rattle.leaves.specs.Numbers.{◌⊗◌, count, 1e_10, is_finite}
+use Rattle.leaves.specs.Numbers.{◌⊗◌, count, 1e-10, is_finite}
 use Rattle.leaves.specs.Root.{sqrt}
 use Rattle.leaves.specs.Shift.{shift}
 use Rattle.leaves.proofs.First.{first_ext}
@@ -25,23 +25,23 @@ use Rattle.law.proofs.Ranges.{ten_billionth_bounds}
 use Rattle.law.proofs.Comparisons.{plus_val, le_no}
 use Rattle.law.proofs.Sample.{Returns, largest_moved}
 
-pub ten_billionth_moved : Moved 0 ten_billionth_bounds 1e_10 1e_10
+pub ten_billionth_moved : Moved 0 ten_billionth_bounds 1e-10 1e-10
 unfolding of_bits sized fits is_finite mag U
-ten_billionth_moved = still ten_billionth_bounds (range_sized ten_billionth_bounds.least ten_billionth_bounds.most 1e_10 (lit≤ tt) tt)
+ten_billionth_moved = still ten_billionth_bounds (range_sized ten_billionth_bounds.least ten_billionth_bounds.most 1e-10 (lit≤ tt) tt)
 
-pub ten_billionth_above : 0 < mag 1e_10
+pub ten_billionth_above : 0 < mag 1e-10
 unfolding of_bits mag U
 ten_billionth_above = lit< tt
 
 module _ {k n P : ℕ} {b : Bounds} {x y : Matrix} (r : Returns k n P b x y) (fine : one_bits ≤ ten_billionth_bounds.grain + b.grain) (room : b.most + k ≤ top_bits) where
-  pub tolerance_moved : (i : ℕ) → i < n → Moved k (product_of ten_billionth_bounds b) (1e_10 ⊗ largest P x i) (1e_10 ⊗ largest P y i)
+  pub tolerance_moved : (i : ℕ) → i < n → Moved k (product_of ten_billionth_bounds b) (1e-10 ⊗ largest P x i) (1e-10 ⊗ largest P y i)
   tolerance_moved i a = rw (zero-add k) at (moved_mul ten_billionth_moved (largest_moved r i a) fine (omega arith))
 
   -- the same asset for variances v and v', each 4 ^ k times v
   pub constant_same : (v v' : Matrix) → ((i : ℕ) → i < n → v' i i ≡ shift (pos (k + k)) (v i i)) → constant_asset n v' (largest P y) ≡ constant_asset n v (largest P x)
   unfolding constant_asset
   constant_same v v' e = first_ext n (λ i. is_constant (volatility v' i) (largest P y i)) (λ i. is_constant (volatility v i) (largest P x i))
-      (λ i l. ap₂ le (ap sqrt (e i l) ∙ sqrt_shift (v i i) (pos k)) (tolerance_moved i l).copy ∙ le_shift (pos k) (volatility v i) (1e_10 ⊗ largest P x i))
+      (λ i l. ap₂ le (ap sqrt (e i l) ∙ sqrt_shift (v i i) (pos k)) (tolerance_moved i l).copy ∙ le_shift (pos k) (volatility v i) (1e-10 ⊗ largest P x i))
 
 -- ---- signs
 pub sign_variance : (P : ℕ) (x : Matrix) (i : ℕ) → sign (covariance P x i i) ≡ false
@@ -55,5 +55,5 @@ unfolding largest sign
 sign_largest P x i = amax_one (λ z. sign z ≡ false) P (λ t. x t i) refl (λ t l. sign_abs (x t i))
 
 -- a volatility above the tolerance is not zero
-pub above_zero : {g L B g' L' B' : ℕ} (v a : Float) → Range g L B (sqrt v) → Range g' L' B' (1e_10 ⊗ a) → sign v ≡ false → sign a ≡ false → is_constant (sqrt v) a ≡ false → 0 < mag (sqrt v)
-above_zero v a p q sv sa h = lt_of_le_of_lt zero-le (le_no (sqrt v) (1e_10 ⊗ a) (plus_val (sqrt v) p.fit p.finite (sign_sqrt v sv)) (plus_val (1e_10 ⊗ a) q.fit q.finite (sign_mul 1e_10 a (unfold sign of_bits in sym sa))) h)
+pub above_zero : {g L B g' L' B' : ℕ} (v a : Float) → Range g L B (sqrt v) → Range g' L' B' (1e-10 ⊗ a) → sign v ≡ false → sign a ≡ false → is_constant (sqrt v) a ≡ false → 0 < mag (sqrt v)
+above_zero v a p q sv sa h = lt_of_le_of_lt zero-le (le_no (sqrt v) (1e-10 ⊗ a) (plus_val (sqrt v) p.fit p.finite (sign_sqrt v sv)) (plus_val (1e-10 ⊗ a) q.fit q.finite (sign_mul 1e-10 a (unfold sign of_bits in sym sa))) h)

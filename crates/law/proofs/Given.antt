@@ -12,7 +12,7 @@ use lib.IntN.{pos}
 use lib.ListN.{length, length-map}
 use lib.Ieee.{Float, fits, lt, of_bits}
 use borrow.Author.Tests.{eqb-true}
-use Rattle.leaves.specs.Numbers.{◌⊖◌, ◌⊗◌, ◌⊘◌, zero⁺, 1e_12, is_finite, abs}
+use Rattle.leaves.specs.Numbers.{◌⊖◌, ◌⊗◌, ◌⊘◌, zero⁺, 1e-12, is_finite, abs}
 use Rattle.leaves.specs.Shift.{shift}
 use Rattle.leaves.proofs.Shift.{lt_shift, shift_zero⁺}
 use Rattle.leaves.proofs.Units.{U, mag}
@@ -39,9 +39,9 @@ use Rattle.law.proofs.Sample.{count_moved}
 use Rattle.law.proofs.Matrices.{amax_moved, rows_moved}
 use Rattle.law.proofs.Opening.{at_copy, sized_moved, entries_same}
 
-trillionth_moved : Moved 0 trillionth_bounds 1e_12 1e_12
+trillionth_moved : Moved 0 trillionth_bounds 1e-12 1e-12
 unfolding of_bits sized fits is_finite mag U
-trillionth_moved = still trillionth_bounds (range_sized trillionth_bounds.least trillionth_bounds.most 1e_12 (lit≤ tt) tt)
+trillionth_moved = still trillionth_bounds (range_sized trillionth_bounds.least trillionth_bounds.most 1e-12 (lit≤ tt) tt)
 
 module _ (k : ℕ) (small : k ≤ max_power + max_power) (side : ℕ) (g : List Float) (sizes : All (Sized covariance_range) g) where
   abbrev g' : List Float
@@ -64,8 +64,8 @@ module _ (k : ℕ) (small : k ≤ max_power + max_power) (side : ℕ) (g : List 
         let x = at g side in
         let y = at g' side in
         let tolerance = rw (zero-add k) at (moved_mul trillionth_moved (amax_moved side side x y given_moved) (lit≤ tt) (omega arith)) in
-        first_entry_alike side side (λ i j. lt (1e_12 ⊗ amax side side y) (abs (y i j ⊖ y j i))) (λ i j. lt (1e_12 ⊗ amax side side x) (abs (x i j ⊖ x j i)))
-        (λ i j a b. ap₂ lt tolerance.copy (moved_abs (moved_sub covariance_bounds tt tt (given_moved i j a b) (given_moved j i b a) (omega arith))).copy ∙ lt_shift (pos k) (1e_12 ⊗ amax side side x) (abs (x i j ⊖ x j i)))
+        first_entry_alike side side (λ i j. lt (1e-12 ⊗ amax side side y) (abs (y i j ⊖ y j i))) (λ i j. lt (1e-12 ⊗ amax side side x) (abs (x i j ⊖ x j i)))
+        (λ i j a b. ap₂ lt tolerance.copy (moved_abs (moved_sub covariance_bounds tt tt (given_moved i j a b) (given_moved j i b a) (omega arith))).copy ∙ lt_shift (pos k) (1e-12 ⊗ amax side side x) (abs (x i j ⊖ x j i)))
 
     -- 13, 12 and the counts
     pub decomposition_same : (limit : ℕ) → decompose_given limit side (average g' side) ≡ decompose_given limit side (average g side)

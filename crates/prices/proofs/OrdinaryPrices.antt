@@ -24,13 +24,13 @@ use Rattle.rules.specs.Prices.{simple_returns, non_positive, by_prices}
 use Rattle.rules.specs.declared.Refusal.{Refusal}
 use Rattle.rules.specs.declared.Refusal.TheVariants.{NotFinite, NonPositivePrice}
 use Rattle.prices.specs.Stored.{return_at}
-use Rattle.prices.specs.Ordinary.{1e_150, ordinary, all_ordinary}
+use Rattle.prices.specs.Ordinary.{1e-150, ordinary, all_ordinary}
 use Rattle.prices.proofs.Searches.{refused_nowhere}
 use Rattle.prices.proofs.Quotients.{quotient_mono, positive_plus, minus_one_finite}
 use Rattle.prices.proofs.Stored.{return_entry, but_one_row}
 
 -- ---- the ends of the range, and their quotients, by computation
-low_positive : T (positive 1e_150)
+low_positive : T (positive 1e-150)
 unfolding of_bits
 low_positive = tt
 
@@ -38,29 +38,29 @@ high_positive : T (positive 1e150)
 unfolding of_bits
 high_positive = tt
 
-least_positive : T (positive (1e_150 ⊘ 1e150))
+least_positive : T (positive (1e-150 ⊘ 1e150))
 unfolding of_bits div round size
 least_positive = tt
 
-most_positive : T (positive (1e150 ⊘ 1e_150))
+most_positive : T (positive (1e150 ⊘ 1e-150))
 unfolding of_bits div round size
 most_positive = tt
 
 -- ---- one price, and two
 Ordinary : Float → Type 0
-Ordinary x = T (le 1e_150 x) × T (le x 1e150)
+Ordinary x = T (le 1e-150 x) × T (le x 1e150)
 
 ordinary_positive : (x : Float) → Ordinary x → T (positive x)
 unfolding Ordinary
-ordinary_positive x o = between 1e_150 x 1e150 low_positive high_positive o.0 o.1
+ordinary_positive x o = between 1e-150 x 1e150 low_positive high_positive o.0 o.1
 
 quotient_positive : (x y : Float) → Ordinary x → Ordinary y → T (positive (x ⊘ y))
 unfolding Ordinary
 quotient_positive x y o u =
     let p = ordinary_positive x o in
     let q = ordinary_positive y u in
-    between (1e_150 ⊘ 1e150) (x ⊘ y) (1e150 ⊘ 1e_150) least_positive most_positive
-    (quotient_mono 1e_150 x 1e150 y low_positive p high_positive q o.0 u.1) (quotient_mono x 1e150 y 1e_150 p high_positive q low_positive o.1 u.0)
+    between (1e-150 ⊘ 1e150) (x ⊘ y) (1e150 ⊘ 1e-150) least_positive most_positive
+    (quotient_mono 1e-150 x 1e150 y low_positive p high_positive q o.0 u.1) (quotient_mono x 1e150 y 1e-150 p high_positive q low_positive o.1 u.0)
 
 -- what the checks look at
 finite_yes : (x : Float) → T (is_finite x) → not (is_finite x) ≡ false
@@ -87,7 +87,7 @@ module _ (p : List Float) (R n : ℕ) (any : 0 < R) (long : length p ≡ R * n) 
   unfolding all_ordinary ordinary Ordinary
   each k h =
       let t = split (ordinary (nth p k)) (first_all (λ k. not (ordinary (nth p k))) (length p) (go (first_to (length p) (λ k. not (ordinary (nth p k)))) all) k h) in
-      (and_l (le 1e_150 (nth p k)) (le (nth p k) 1e150) t, and_r (le 1e_150 (nth p k)) (le (nth p k) 1e150) t)
+      (and_l (le 1e-150 (nth p k)) (le (nth p k) 1e150) t, and_r (le 1e-150 (nth p k)) (le (nth p k) 1e150) t)
     where
       go : (found : Option ℕ) → elim found [ none ↦ true | some k ↦ false ] ≡ true → found ≡ none
       go none e = refl

@@ -6,11 +6,11 @@ use Rattle.leaves.specs.Numbers.{float, 1e150}
 use Rattle.leaves.specs.Loops.{first_to, nth}
 
 -- 1e-150, as the nearest float
-abbrev pub 1e_150 : Float
-1e_150 = float 0x20CA_2FE7_6A3F_9475
+abbrev pub 1e-150 : Float
+1e-150 = float 0x20CA_2FE7_6A3F_9475
 
 unfoldable pub ordinary : Float → Bool
-ordinary x = le 1e_150 x && le x 1e150
+ordinary x = le 1e-150 x && le x 1e150
 
 -- none is not
 unfoldable pub all_ordinary : List Float → Bool

@@ -4,7 +4,7 @@
 use Rattle.std.specs.Prelude.{ℕ, ◌-◌, Bool, ℤ, neg_ℤ, Float}
 use Rattle.std.proofs.Math.Option.{Option}
 use Rattle.std.specs.Float.Ieee.{le}
-use Rattle.leaves.specs.Numbers.{◌⊖◌, ◌⊗◌, ◌⊘◌, count, 1e_10}
+use Rattle.leaves.specs.Numbers.{◌⊖◌, ◌⊗◌, ◌⊘◌, count, 1e-10}
 use Rattle.leaves.specs.Loops.{mean_to, amax_to, first_to}
 use Rattle.leaves.specs.Scaling.{pow2_scaled}
 use Rattle.leaves.specs.Root.{sqrt}
@@ -44,7 +44,7 @@ largest T x i = amax_to T (λ t. x t i)
 
 -- a volatility of at most 1e-10 of the largest return, and the first asset that has one
 abbrev pub is_constant : Float → Float → Bool
-is_constant v largest = le v (1e_10 ⊗ largest)
+is_constant v largest = le v (1e-10 ⊗ largest)
 
 unfoldable pub constant_asset : ℕ → Matrix → (ℕ → Float) → Option ℕ
 constant_asset n s largest = first_to n (λ i. is_constant (volatility s i) (largest i))
