@@ -14,8 +14,7 @@ use rules::Decay;
 pub(crate) const UNKNOWN_KIND: u32 = 100;
 
 // A value is read where its kind has one.
-#[unsafe(no_mangle)]
-pub extern "C" fn engine_adjusted_covariance(
+pub fn engine_adjusted_covariance(
     returns: &[f64],
     assets: usize,
     periods: usize,
@@ -50,8 +49,7 @@ pub extern "C" fn engine_adjusted_covariance(
     hand_out(report_of(told), numbers, wholes)
 }
 
-#[unsafe(no_mangle)]
-pub extern "C" fn engine_ledoit_wolf(
+pub fn engine_ledoit_wolf(
     returns: &[f64],
     assets: usize,
     periods: usize,
@@ -89,8 +87,7 @@ fn weighted_mean(
     hand_out(report_of(told), numbers, wholes)
 }
 
-#[unsafe(no_mangle)]
-pub extern "C" fn engine_weighted_mean(
+pub fn engine_weighted_mean(
     returns: &[f64],
     assets: usize,
     periods: usize,
@@ -105,8 +102,7 @@ pub extern "C" fn engine_weighted_mean(
     weighted_mean(returns, assets, periods, decay, answer, numbers, wholes)
 }
 
-#[unsafe(no_mangle)]
-pub extern "C" fn engine_weighted_mean_by_factor(
+pub fn engine_weighted_mean_by_factor(
     returns: &[f64],
     assets: usize,
     periods: usize,
@@ -121,8 +117,7 @@ pub extern "C" fn engine_weighted_mean_by_factor(
     weighted_mean(returns, assets, periods, decay, answer, numbers, wholes)
 }
 
-#[unsafe(no_mangle)]
-pub extern "C" fn engine_james_stein_mean(
+pub fn engine_james_stein_mean(
     returns: &[f64],
     assets: usize,
     periods: usize,
@@ -137,8 +132,7 @@ pub extern "C" fn engine_james_stein_mean(
     hand_out(report_of(told), numbers, wholes)
 }
 
-#[unsafe(no_mangle)]
-pub extern "C" fn engine_bayes_stein_mean(
+pub fn engine_bayes_stein_mean(
     returns: &[f64],
     assets: usize,
     periods: usize,

@@ -4,8 +4,7 @@ ghost use Rattle.paper.specs.Text.{out as into, write};
 ghost use Rattle.paper.specs.Marking.{marking};
 
 // Writes what is printed of the file to the front of `out`, and answers how many bytes that is; `paper::TEXT` bytes are always enough.
-#[unsafe(no_mangle)]
-pub extern "C" fn exam_mark(paper: &[u8], out: &mut [u8]) -> usize
+pub fn exam_mark(paper: &[u8], out: &mut [u8]) -> usize
     ensures { into out.new result ≡ write (into out.old 0) (marking paper.now) }
 {
     paper::mark(paper, out)

@@ -1,5 +1,6 @@
 // The engine with C linkage, over flat numbers and slices.
 #![tactic(auto)]
+
 pub mod calls;
 pub mod exam;
 pub mod questions;

@@ -35,8 +35,7 @@ fn report_of_written(answer: Written) -> Report
 }
 
 // Bits and a limit are read where their kind has them.
-#[unsafe(no_mangle)]
-pub extern "C" fn engine_write_question(
+pub fn engine_write_question(
     assets: usize,
     periods: usize,
     returns: &[u64],
@@ -72,8 +71,7 @@ pub extern "C" fn engine_write_question(
     hand_out(report_of_written(told), numbers, wholes)
 }
 
-#[unsafe(no_mangle)]
-pub extern "C" fn engine_read_question(
+pub fn engine_read_question(
     file: &[u8],
     returns: &mut [u64],
     given: &mut [u64],

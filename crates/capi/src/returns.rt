@@ -17,8 +17,7 @@ fn report_of_check(check: Check) -> Report
     }
 }
 
-#[unsafe(no_mangle)]
-pub extern "C" fn engine_returns_from_prices(
+pub fn engine_returns_from_prices(
     prices: &[f64],
     assets: usize,
     rows: usize,

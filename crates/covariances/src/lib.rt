@@ -1,5 +1,6 @@
 // The estimates of a covariance, the intensity of Ledoit and Wolf, and the adjustments.
 #![tactic(auto)]
+
 pub mod adjusted;
 pub mod base;
 pub mod decay;

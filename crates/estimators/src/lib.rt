@@ -1,5 +1,6 @@
 // The five calls of document 01.
 #![tactic(auto)]
+
 pub mod calls;
 mod covariance;
 mod expected_returns;

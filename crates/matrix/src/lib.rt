@@ -1,5 +1,6 @@
 // Matrices, row by row, and the decomposition of a symmetric one by Jacobi rotations.
 #![tactic(auto)]
+
 mod by_columns;
 pub mod entries;
 pub mod jacobi;

@@ -1,5 +1,6 @@
 // Question files and printed answers: bytes in, bytes out.
 #![tactic(auto)]
+
 mod answer;
 mod floats;
 pub mod format;

@@ -1,5 +1,6 @@
 // Returns from prices (document 02, "Paper 4. Questions in prices"): all prices are looked at, and then the returns are written.
 #![tactic(auto)]
+
 pub mod calls;
 mod checks;
 mod ordinary;

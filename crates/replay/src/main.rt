@@ -2,6 +2,7 @@
 // (compare/sample.rs writes it), and prints how often each number was answered and how many answers
 // differ from the stored ones.
 #![tactic(auto)]
+
 mod input;
 mod replay;
 mod report;

@@ -1,6 +1,7 @@
 // Marks stored papers: reads each from standard input after its length in two bytes, low byte first, and prints the answers one after
 // another. What must be printed is what the comparison copy answers.
 #![tactic(auto)]
+
 ghost use Rattle.std.specs.Prelude.{◌<◌};
 
 fn wide(b: u8) -> usize

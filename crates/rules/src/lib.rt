@@ -1,5 +1,6 @@
 // The records of documents 01 and 02 that cross a call, and the limits of periods.
 #![tactic(auto)]
+
 pub mod refusals;
 pub mod targets;
 

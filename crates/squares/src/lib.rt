@@ -3,6 +3,7 @@
 // and half its reciprocal, as the patterns of the nearest floats; past the last number, as for the last. A `match` becomes a
 // table in the program; an array would be written anew at each call.
 #![tactic(auto)]
+
 ghost use Rattle.std.specs.Prelude.{◌≡◌};
 ghost use Rattle.squares.specs.Squares as Squares;
 

@@ -35,31 +35,31 @@ returns-in-Refuses c =
 pub overflow_mul-size : goal.overflow_mul-size
 overflow_mul-size c =
     let sizes : let a = c.args in (a.settings.limit ≤ max_sweeps) × (0 < a.side) × (a.side ≤ max_side) × (length a.given.now ≡ a.side * a.side) = let f = c in
-        let joined = first_join _ f.bad_sweep_limit.ensures f.check_sizes.ensures f.first-bad.ensures in
-        sizes_pass _ _ _ (ap checked c.in_default.is) joined in
+    let joined = first_join _ f.bad_sweep_limit.ensures f.check_sizes.ensures f.first-bad.ensures in
+    sizes_pass _ _ _ (ap checked c.in_default.is) joined in
     square_fits _ sizes.2
 
 pub slice_bounds-examine-end : goal.slice_bounds-examine-end
 slice_bounds-examine-end c =
     let sizes : let a = c.args in (a.settings.limit ≤ max_sweeps) × (0 < a.side) × (a.side ≤ max_side) × (length a.given.now ≡ a.side * a.side) = let f = c in
-        let joined = first_join _ f.bad_sweep_limit.ensures f.check_sizes.ensures f.first-bad.ensures in
-        sizes_pass _ _ _ (ap checked c.in_default.is) joined in
+    let joined = first_join _ f.bad_sweep_limit.ensures f.check_sizes.ensures f.first-bad.ensures in
+    sizes_pass _ _ _ (ap checked c.in_default.is) joined in
     let room : let a = c.args in a.side * a.side ≤ length a.out.now = let small = square_most sizes.2 in omega arith in
     room
 
 pub slice_bounds-examine-end-2 : goal.slice_bounds-examine-end-2
 slice_bounds-examine-end-2 c =
     let sizes : let a = c.args in (a.settings.limit ≤ max_sweeps) × (0 < a.side) × (a.side ≤ max_side) × (length a.given.now ≡ a.side * a.side) = let f = c in
-        let joined = first_join _ f.bad_sweep_limit.ensures f.check_sizes.ensures f.first-bad.ensures in
-        sizes_pass _ _ _ (ap checked c.in_default.is) joined in
+    let joined = first_join _ f.bad_sweep_limit.ensures f.check_sizes.ensures f.first-bad.ensures in
+    sizes_pass _ _ _ (ap checked c.in_default.is) joined in
     let room : let a = c.args in a.side * a.side ≤ length a.out.now = let small = square_most sizes.2 in omega arith in
     sym (length-take-le _ _ room)
 
 pub examine-requires : goal.examine-requires
 examine-requires c =
     let sizes : let a = c.args in (a.settings.limit ≤ max_sweeps) × (0 < a.side) × (a.side ≤ max_side) × (length a.given.now ≡ a.side * a.side) = let f = c in
-        let joined = first_join _ f.bad_sweep_limit.ensures f.check_sizes.ensures f.first-bad.ensures in
-        sizes_pass _ _ _ (ap checked c.in_default.is) joined in
+    let joined = first_join _ f.bad_sweep_limit.ensures f.check_sizes.ensures f.first-bad.ensures in
+    sizes_pass _ _ _ (ap checked c.in_default.is) joined in
     let room : let a = c.args in a.side * a.side ≤ length a.out.now = let small = square_most sizes.2 in omega arith in
     let s = sizes in (s.1, s.2, s.0, s.3, length-take-le _ _ room)
 

@@ -13,6 +13,6 @@ unfolding bad_regularization of_bits
 returns-after-is_finite c =
     let x = c.in-Ridge.is in
     elim c.if-is_finite.branch [
-        then-is_finite w ↦ rw (x, ← c.is_finite.ensures, w.if-is_finite.true) (rw w.good-is at c.when.ensures)
+      | then-is_finite w ↦ rw (x, ← c.is_finite.ensures, w.if-is_finite.true) (rw w.good-is at c.when.ensures)
       | else-is_finite w ↦ rw (x, ← c.is_finite.ensures, w.if-is_finite.false) (rw (w.good-is, w.if-is_finite.false) at c.when.ensures)
     ]

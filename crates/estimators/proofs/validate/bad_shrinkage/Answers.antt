@@ -13,7 +13,7 @@ unfolding bad_shrinkage of_bits
 returns-after-intensity c =
     let x = c.in-Fixed.is in
     elim c.if-intensity.branch [
-        then-intensity w ↦ rw (x, w.if-intensity.true) (rw w.good-is at c.when.ensures)
+      | then-intensity w ↦ rw (x, w.if-intensity.true) (rw w.good-is at c.when.ensures)
       | else-intensity w ↦ rw (x, w.if-intensity.false) (rw (w.good-is, w.if-intensity.false) at c.when.ensures)
     ]
 

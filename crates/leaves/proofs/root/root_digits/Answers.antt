@@ -38,10 +38,10 @@ pub loop-i-smaller : goal.loop-i-smaller
 loop-i-smaller c = omega arith
 
 pub loop-i-preserved : goal.loop-i-preserved
-loop-i-preserved c = 
+loop-i-preserved c =
     let l = c.loop-i in
     elim c.if-next-trial.branch [
-        then-next-trial w ↦ rw (w.root-is, w.rem-is) (turn_0 c.args.n l.rest l.root l.rem l.i l.invariant c.loop-i-test.true w.if-next-trial.true)
+      | then-next-trial w ↦ rw (w.root-is, w.rem-is) (turn_0 c.args.n l.rest l.root l.rem l.i l.invariant c.loop-i-test.true w.if-next-trial.true)
       | else-next-trial w ↦ rw (w.root-is, w.rem-is) (turn_1 c.args.n l.rest l.root l.rem l.i l.invariant c.loop-i-test.true w.if-next-trial.false)
     ]
 

@@ -26,7 +26,7 @@ loop-i-preserved c =
     let l = c.loop-i in
     let bs = c.args.kinds.now in
     elim c.if-has.branch [
-        then-has w ↦ (omega arith, omega arith, rw w.n-is (present_yes _ bs l.i l.n l.invariant.2 (omega arith) (sym c.has.ensures ∙ w.if-has.true)))
+      | then-has w ↦ (omega arith, omega arith, rw w.n-is (present_yes _ bs l.i l.n l.invariant.2 (omega arith) (sym c.has.ensures ∙ w.if-has.true)))
       | else-has w ↦ (omega arith, omega arith, rw w.n-is (present_no _ bs l.i l.n l.invariant.2 (omega arith) (sym c.has.ensures ∙ w.if-has.false)))
     ]
 

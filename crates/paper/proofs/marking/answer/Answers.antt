@@ -15,19 +15,19 @@ use Rattle.paper.proofs.marking.answer.Goals as goal
 pub overflow_mul-size : goal.overflow_mul-size
 overflow_mul-size c =
     let fits : c.args.q.assets * c.columns-c.result ≤ file_assets * file_assets = let b = c in
-        answer_fits b.args.q _ b.requires c.columns-c.ensures in
+    answer_fits b.args.q _ b.requires c.columns-c.ensures in
     let h = fits in omega arith
 
 pub slice_bounds-entries-end : goal.slice_bounds-entries-end
 slice_bounds-entries-end c =
     let fits : c.args.q.assets * c.columns-c.result ≤ file_assets * file_assets = let b = c in
-        answer_fits b.args.q _ b.requires c.columns-c.ensures in
+    answer_fits b.args.q _ b.requires c.columns-c.ensures in
     fits
 
 pub slice_bounds-put_asked-end : goal.slice_bounds-put_asked-end
 slice_bounds-put_asked-end c =
     let fits : c.args.q.assets * c.columns-c.result ≤ file_assets * file_assets = let b = c in
-        answer_fits b.args.q _ b.requires c.columns-c.ensures in
+    answer_fits b.args.q _ b.requires c.columns-c.ensures in
     sym (length-take-le _ (replicate (file_assets * file_assets) (float 0)) fits)
 
 pub put_asked-requires : goal.put_asked-requires

@@ -14,8 +14,8 @@ overflow_sub-i c = omega arith
 pub overflow_mul-v : goal.overflow_mul-v
 overflow_mul-v c =
     let next : let a = c.args in let l = c.loop-i in Formed a.file.now a.at a.len (l.i - 1) (l.v * 256 + get_or a.file.now (a.at + (l.i - 1)) 0) = let a = c.args in
-        let l = c.loop-i in
-        formed_more a.file.now a.at a.len l.i l.v c.loop-i-test.true c.requires.1 (omega (arith, c.type_inv.file (a.at + (l.i - 1)))) l.invariant in
+    let l = c.loop-i in
+    formed_more a.file.now a.at a.len l.i l.v c.loop-i-test.true c.requires.1 (omega (arith, c.type_inv.file (a.at + (l.i - 1)))) l.invariant in
     let n = formed_fits _ _ _ _ _ c.requires.0 next in omega arith
 
 pub overflow_add-at : goal.overflow_add-at
@@ -27,8 +27,8 @@ bounds-file-at c = omega arith
 pub overflow_add-v : goal.overflow_add-v
 overflow_add-v c =
     let next : let a = c.args in let l = c.loop-i in Formed a.file.now a.at a.len (l.i - 1) (l.v * 256 + get_or a.file.now (a.at + (l.i - 1)) 0) = let a = c.args in
-        let l = c.loop-i in
-        formed_more a.file.now a.at a.len l.i l.v c.loop-i-test.true c.requires.1 (omega (arith, c.type_inv.file (a.at + (l.i - 1)))) l.invariant in
+    let l = c.loop-i in
+    formed_more a.file.now a.at a.len l.i l.v c.loop-i-test.true c.requires.1 (omega (arith, c.type_inv.file (a.at + (l.i - 1)))) l.invariant in
     let n = formed_fits _ _ _ _ _ c.requires.0 next in omega arith
 
 pub loop-i-smaller : goal.loop-i-smaller
@@ -37,8 +37,8 @@ loop-i-smaller c = omega arith
 pub loop-i-preserved : goal.loop-i-preserved
 loop-i-preserved c =
     let next : let a = c.args in let l = c.loop-i in Formed a.file.now a.at a.len (l.i - 1) (l.v * 256 + get_or a.file.now (a.at + (l.i - 1)) 0) = let a = c.args in
-        let l = c.loop-i in
-        formed_more a.file.now a.at a.len l.i l.v c.loop-i-test.true c.requires.1 (omega (arith, c.type_inv.file (a.at + (l.i - 1)))) l.invariant in
+    let l = c.loop-i in
+    formed_more a.file.now a.at a.len l.i l.v c.loop-i-test.true c.requires.1 (omega (arith, c.type_inv.file (a.at + (l.i - 1)))) l.invariant in
     rw c.wide.ensures next
 
 pub returns : goal.returns

@@ -18,8 +18,8 @@ overflow_add-at c = omega arith
 pub number-requires : goal.number-requires
 number-requires c =
     let here : let l = c.loop-count in let a = c.args in l.at + 1 + a.k.body ≤ length a.file.now = let l = c.loop-count in
-        let a = c.args in
-        fits_in a.k l.at a.file.now (sym c.starts.ensures ∙ c.if-starts.true) in
+    let a = c.args in
+    fits_in a.k l.at a.file.now (sym c.starts.ensures ∙ c.if-starts.true) in
     (c.requires.0, here)
 
 pub overflow_add-count : goal.overflow_add-count
@@ -37,8 +37,8 @@ loop-count-smaller c = omega arith
 pub loop-count-preserved : goal.loop-count-preserved
 loop-count-preserved c =
     let here : let l = c.loop-count in let a = c.args in l.at + 1 + a.k.body ≤ length a.file.now = let l = c.loop-count in
-        let a = c.args in
-        fits_in a.k l.at a.file.now (sym c.starts.ensures ∙ c.if-starts.true) in
+    let a = c.args in
+    fits_in a.k l.at a.file.now (sym c.starts.ensures ∙ c.if-starts.true) in
     let n = c in
     let f = n in
     let l = f.loop-count in

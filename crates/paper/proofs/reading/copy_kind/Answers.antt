@@ -23,28 +23,28 @@ bounds-counts-p c = omega (arith, how_many)
 pub overflow_add-end : goal.overflow_add-end
 overflow_add-end c =
     let inside : let a = c.args in c.start-from.result + get_or a.counts c.place-p.result 0 ≤ length a.numbers.now = let b = c in
-        let cs = b.args.counts in
-        let p = c.place-p.result in
-        let h : p < length cs = omega (arith, how_many) in
-        omega (arith, piece_in cs p h) in
+    let cs = b.args.counts in
+    let p = c.place-p.result in
+    let h : p < length cs = omega (arith, how_many) in
+    omega (arith, piece_in cs p h) in
     let h = inside in omega arith
 
 pub offset_bounds-numbers-from : goal.offset_bounds-numbers-from
 offset_bounds-numbers-from c =
     let inside : let a = c.args in c.start-from.result + get_or a.counts c.place-p.result 0 ≤ length a.numbers.now = let b = c in
-        let cs = b.args.counts in
-        let p = c.place-p.result in
-        let h : p < length cs = omega (arith, how_many) in
-        omega (arith, piece_in cs p h) in
+    let cs = b.args.counts in
+    let p = c.place-p.result in
+    let h : p < length cs = omega (arith, how_many) in
+    omega (arith, piece_in cs p h) in
     let h = inside in omega arith
 
 pub slice_bounds-copy-end : goal.slice_bounds-copy-end
 slice_bounds-copy-end c =
     let inside : let a = c.args in c.start-from.result + get_or a.counts c.place-p.result 0 ≤ length a.numbers.now = let b = c in
-        let cs = b.args.counts in
-        let p = c.place-p.result in
-        let h : p < length cs = omega (arith, how_many) in
-        omega (arith, piece_in cs p h) in
+    let cs = b.args.counts in
+    let p = c.place-p.result in
+    let h : p < length cs = omega (arith, how_many) in
+    omega (arith, piece_in cs p h) in
     inside
 
 pub copy-requires : goal.copy-requires

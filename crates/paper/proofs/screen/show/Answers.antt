@@ -23,13 +23,13 @@ returns-then-exponent-gt1053 c = shown_big c.args.x c.well_formed.0.1 c.if-expon
 pub returns-then-units-eq0 : goal.returns-then-units-eq0
 returns-then-units-eq0 c =
     let met : let x = c.args.x in shown x ≡ Number (not (eqb c.if-exponent-eq0.units 0) && leb (2 ^ 63) (to_bits binary64 x)) c.if-exponent-eq0.units = shown_units c.args.x c.well_formed.0.1 c.if-exponent-eq0.units c.if-exponent-gt1053.false
-        (λ e. elim c.if-exponent-eq0.branch [ then-exponent-eq0 w ↦ w.units-is ∙ w.units-units.ensures | else-exponent-eq0 w ↦ absurd (w.if-exponent-eq0.false e) ])
-        (λ n. elim c.if-exponent-eq0.branch [ then-exponent-eq0 w ↦ absurd (n w.if-exponent-eq0.true) | else-exponent-eq0 w ↦ w.units-is ∙ w.units-units-else-exponent-eq0.ensures ]) in
+    (λ e. elim c.if-exponent-eq0.branch [ then-exponent-eq0 w ↦ w.units-is ∙ w.units-units.ensures | else-exponent-eq0 w ↦ absurd (w.if-exponent-eq0.false e) ])
+    (λ n. elim c.if-exponent-eq0.branch [ then-exponent-eq0 w ↦ absurd (n w.if-exponent-eq0.true) | else-exponent-eq0 w ↦ w.units-is ∙ w.units-units-else-exponent-eq0.ensures ]) in
     sym (met ∙ no_minus c.if-exponent-eq0.units _ c.if-units-eq0.true)
 
 pub returns-else-units-eq0 : goal.returns-else-units-eq0
 returns-else-units-eq0 c =
     let met : let x = c.args.x in shown x ≡ Number (not (eqb c.if-exponent-eq0.units 0) && leb (2 ^ 63) (to_bits binary64 x)) c.if-exponent-eq0.units = shown_units c.args.x c.well_formed.0.1 c.if-exponent-eq0.units c.if-exponent-gt1053.false
-        (λ e. elim c.if-exponent-eq0.branch [ then-exponent-eq0 w ↦ w.units-is ∙ w.units-units.ensures | else-exponent-eq0 w ↦ absurd (w.if-exponent-eq0.false e) ])
-        (λ n. elim c.if-exponent-eq0.branch [ then-exponent-eq0 w ↦ absurd (n w.if-exponent-eq0.true) | else-exponent-eq0 w ↦ w.units-is ∙ w.units-units-else-exponent-eq0.ensures ]) in
+    (λ e. elim c.if-exponent-eq0.branch [ then-exponent-eq0 w ↦ w.units-is ∙ w.units-units.ensures | else-exponent-eq0 w ↦ absurd (w.if-exponent-eq0.false e) ])
+    (λ n. elim c.if-exponent-eq0.branch [ then-exponent-eq0 w ↦ absurd (n w.if-exponent-eq0.true) | else-exponent-eq0 w ↦ w.units-is ∙ w.units-units-else-exponent-eq0.ensures ]) in
     sym (met ∙ own_minus c.if-exponent-eq0.units _ c.if-units-eq0.false)

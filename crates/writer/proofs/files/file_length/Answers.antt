@@ -29,16 +29,16 @@ overflow_add-s c =
 
 pub overflow_mul-s : goal.overflow_mul-s
 overflow_mul-s c =
-    let kind-bytes : let l = c.loop-i in let a = c.args in     l.s + get_or a.counts l.i 0 * (c.kind_at-k.result.body + 1) + length_of (drop (l.i + 1) kinds) (drop (l.i + 1) a.counts) ≡ length_of kinds a.counts = let l = c.loop-i in
-        let a = c.args in
-        rw c.kind_at-k.ensures (length_more kinds a.counts l.i l.s l.invariant.1 (omega (arith, how_many)) (omega (arith, how_many))) in
+    let kind-bytes : let l = c.loop-i in let a = c.args in l.s + get_or a.counts l.i 0 * (c.kind_at-k.result.body + 1) + length_of (drop (l.i + 1) kinds) (drop (l.i + 1) a.counts) ≡ length_of kinds a.counts = let l = c.loop-i in
+    let a = c.args in
+    rw c.kind_at-k.ensures (length_more kinds a.counts l.i l.s l.invariant.1 (omega (arith, how_many)) (omega (arith, how_many))) in
     let h = kind-bytes in omega arith
 
 pub overflow_add-s-in-loop-i : goal.overflow_add-s-in-loop-i
 overflow_add-s-in-loop-i c =
-    let kind-bytes : let l = c.loop-i in let a = c.args in     l.s + get_or a.counts l.i 0 * (c.kind_at-k.result.body + 1) + length_of (drop (l.i + 1) kinds) (drop (l.i + 1) a.counts) ≡ length_of kinds a.counts = let l = c.loop-i in
-        let a = c.args in
-        rw c.kind_at-k.ensures (length_more kinds a.counts l.i l.s l.invariant.1 (omega (arith, how_many)) (omega (arith, how_many))) in
+    let kind-bytes : let l = c.loop-i in let a = c.args in l.s + get_or a.counts l.i 0 * (c.kind_at-k.result.body + 1) + length_of (drop (l.i + 1) kinds) (drop (l.i + 1) a.counts) ≡ length_of kinds a.counts = let l = c.loop-i in
+    let a = c.args in
+    rw c.kind_at-k.ensures (length_more kinds a.counts l.i l.s l.invariant.1 (omega (arith, how_many)) (omega (arith, how_many))) in
     let h = kind-bytes in omega arith
 
 pub overflow_add-i : goal.overflow_add-i
@@ -49,9 +49,9 @@ loop-i-smaller c = omega (arith, how_many)
 
 pub loop-i-preserved : goal.loop-i-preserved
 loop-i-preserved c =
-    let kind-bytes : let l = c.loop-i in let a = c.args in     l.s + get_or a.counts l.i 0 * (c.kind_at-k.result.body + 1) + length_of (drop (l.i + 1) kinds) (drop (l.i + 1) a.counts) ≡ length_of kinds a.counts = let l = c.loop-i in
-        let a = c.args in
-        rw c.kind_at-k.ensures (length_more kinds a.counts l.i l.s l.invariant.1 (omega (arith, how_many)) (omega (arith, how_many))) in
+    let kind-bytes : let l = c.loop-i in let a = c.args in l.s + get_or a.counts l.i 0 * (c.kind_at-k.result.body + 1) + length_of (drop (l.i + 1) kinds) (drop (l.i + 1) a.counts) ≡ length_of kinds a.counts = let l = c.loop-i in
+    let a = c.args in
+    rw c.kind_at-k.ensures (length_more kinds a.counts l.i l.s l.invariant.1 (omega (arith, how_many)) (omega (arith, how_many))) in
     (omega (arith, how_many), kind-bytes)
 
 pub returns : goal.returns

@@ -1,0 +1,12 @@
+// The marking of a question file, with C linkage (include/engine.h).
+ghost use Rattle.std.specs.Prelude.{◌≡◌};
+ghost use Rattle.paper.specs.Text.{out as into, write};
+ghost use Rattle.paper.specs.Marking.{marking};
+
+// Writes what is printed of the file to the front of `out`, and answers how many bytes that is; `paper::TEXT` bytes are always enough.
+#[unsafe(no_mangle)]
+pub extern "C" fn exam_mark(paper: &[u8], out: &mut [u8]) -> usize
+    ensures { into out.new result ≡ write (into out.old 0) (marking paper.now) }
+{
+    capi::exam::exam_mark(paper, out)
+}
