@@ -1,4 +1,4 @@
-/* The engine with C linkage. Link target/staticlib/libcapi.a, which `rt staticlib capi` writes.
+/* The engine with C linkage. Link target/staticlib/libcapi.a, which `tools/build capi` writes.
 
    A slice is a pointer to its first number and a count of numbers. The pointer is never null, also
    where the count is 0, and what is written to overlaps no other argument. A matrix stands row by

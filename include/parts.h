@@ -1,5 +1,5 @@
 /* The engine's parts with C linkage, for whoever compares them: the decomposition and the float leaves. Link
-   target/staticlib/libparts.a, which `rt staticlib parts` writes. Slices and matrices are as in engine.h. */
+   target/staticlib/libparts.a, which `tools/build parts` writes. Slices and matrices are as in engine.h. */
 
 #ifndef PARTS_H
 #define PARTS_H

@@ -10,7 +10,7 @@ use crate::settings::{known, settings_of};
 use estimators::calls;
 use rules::Decay;
 
-// A number that stands for no kind, before all other causes: the definitions' `unknownKind`.
+// A number that stands for no kind, before all other causes: the definitions' `unknown_kind`.
 pub(crate) const UNKNOWN_KIND: u32 = 100;
 
 // A value is read where its kind has one.

@@ -14,12 +14,12 @@ use paper::question::{Question, asked_of};
 use paper::reading::{Read, read_question};
 use writer::calls::{Written, write_question};
 
-// The numbers of the writer's refusals: the definitions' `brokenNumber` and `shortNumber`.
+// The numbers of the writer's refusals: the definitions' `broken_number` and `short_number`.
 const BROKEN: u32 = 17;
 
 const SHORT_OUTPUT: u32 = 18;
 
-// Those of the reader's: `malformedNumber` and `shortSlice`.
+// Those of the reader's: `malformed_number` and `short_slice`.
 const MALFORMED: u32 = 15;
 
 const SHORT_SLICE: u32 = 4;

@@ -6,7 +6,7 @@ use crate::settings::known;
 use paper::question::{Asked, EstimateBits, Limit, Question, RegularizationBits, ShrinkageBits};
 use rules::Target;
 
-// How many numbers stand for a question: the definitions' `questionKinds`.
+// How many numbers stand for a question: the definitions' `question_kinds`.
 const QUESTION_KINDS: u32 = 4;
 
 pub(crate) fn known_question(

@@ -4,7 +4,7 @@ ghost use Rattle.capi.specs.Settings as Kinds;
 
 use rules::{Decay, Estimate, Regularization, Settings, Shrinkage};
 
-// How many kinds there are: the definitions' `estimateKinds`, `shrinkageKinds` and `regularizationKinds`.
+// How many kinds there are: the definitions' `estimate_kinds`, `shrinkage_kinds` and `regularization_kinds`.
 const ESTIMATE_KINDS: u32 = 6;
 
 const SHRINKAGE_KINDS: u32 = 4;

@@ -26,7 +26,7 @@ use crate::reading::{Read, read_question};
 // Bytes that are always enough for what is printed, as `mark_whole` has it.
 pub const TEXT: usize = 8192;
 
-// The refusal of a file that is no question: the definitions' `malformedNumber`.
+// The refusal of a file that is no question: the definitions' `malformed_number`.
 const MALFORMED: u64 = 15;
 
 // Marks a question file: writes what is printed of it to the front of `out`, and answers how many bytes that is.

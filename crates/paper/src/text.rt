@@ -3,7 +3,7 @@ ghost use Rattle.std.specs.Prelude.{◌≡◌, [], ◌∷◌, ◌++◌, ◌<◌,
 ghost use Rattle.paper.specs.Text as Text;
 ghost use Rattle.paper.specs.Text.{out as into, write};
 
-// No number of 64 bits has more decimal digits: the definitions' `maxDigits`.
+// No number of 64 bits has more decimal digits: the definitions' `max_digits`.
 const DIGITS: usize = 20;
 
 pub fn put(out: &mut [u8], at: usize, b: u8) -> usize

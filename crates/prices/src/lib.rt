@@ -7,7 +7,7 @@ mod ordinary;
 mod returns;
 mod shape;
 
-// The fewest and the most rows of prices: the definitions' `minPriceRows` and `maxPriceRows`.
+// The fewest and the most rows of prices: the definitions' `min_price_rows` and `max_price_rows`.
 const MIN_PRICE_ROWS: usize = 3;
 
 const MAX_PRICE_ROWS: usize = 4097;

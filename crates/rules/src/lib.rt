@@ -4,7 +4,7 @@
 pub mod refusals;
 pub mod targets;
 
-// The fewest and the most periods of a return matrix: the definitions' `minPeriods` and `maxPeriods`.
+// The fewest and the most periods of a return matrix: the definitions' `min_periods` and `max_periods`.
 pub const MIN_PERIODS: usize = 2;
 
 pub const MAX_PERIODS: usize = 4096;

@@ -5,7 +5,7 @@ ghost use Rattle.leaves.specs.Scaling.{binary_exponent, pow2_scaled};
 ghost use Rattle.rules.specs.BayesStein.{exponent_at};
 ghost use Rattle.tables.specs.Exponents.{max_exponent, Exponents};
 
-// b(x), which is at most `maxExponent` in size.
+// b(x), which is at most `max_exponent` in size.
 pub fn exponent(x: f64) -> i32
     ensures { (result ≡ binary_exponent x) × (unsigned_abs result ≤ max_exponent) }
 {
