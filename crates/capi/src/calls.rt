@@ -1,4 +1,4 @@
-// The five calls with C linkage (include/engine.h), the weighted mean by half-life and by decay factor: settings in numbers, the answer as a report and the slice.
+// The five calls of include/engine.h, the weighted mean by half-life and by decay factor: settings in numbers, the answer as a report and the slice.
 ghost use Rattle.std.specs.Prelude.{◌≡◌};
 ghost use Rattle.rules.specs.Calls as Estimators;
 ghost use Rattle.rules.specs.declared.Decay.TheVariants.{HalfLife, Lambda};

@@ -1,4 +1,4 @@
-// The marking of a question file, with C linkage.
+// The marking of a question file.
 ghost use Rattle.std.specs.Prelude.{◌≡◌};
 ghost use Rattle.paper.specs.Text.{out as into, write};
 ghost use Rattle.paper.specs.Marking.{marking};

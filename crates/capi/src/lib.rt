@@ -1,4 +1,4 @@
-// The engine with C linkage, over flat numbers and slices.
+// The engine over flat numbers and slices; `capi_c` gives it C linkage.
 #![tactic(auto)]
 
 pub mod calls;

@@ -1,4 +1,4 @@
-// Question files written and read, with C linkage (include/engine.h).
+// Question files written and read (include/engine.h).
 ghost use Rattle.std.specs.Prelude.{◌≡◌};
 ghost use Rattle.capi.specs.Report as Reports;
 ghost use Rattle.capi.specs.Record as Records;

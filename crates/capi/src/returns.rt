@@ -1,4 +1,4 @@
-// Returns from prices, with C linkage (include/engine.h).
+// Returns from prices (include/engine.h).
 ghost use Rattle.std.specs.Prelude.{◌≡◌};
 ghost use Rattle.inputs.specs.Checks.{checked};
 ghost use Rattle.capi.specs.Report as Reports;
