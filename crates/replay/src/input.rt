@@ -1,44 +1,47 @@
 // The numbers of the input: eight bytes each, the low one first. Past its end they are 0.
-ghost use Rattle.std.specs.Prelude.{◌≤◌};
+ghost use Rattle.std.specs.Prelude.{◌≤◌, IfOk};
 
-fn wide(b: u8) -> u64 {
-    b as u64
-}
+use std::io;
+use std::io::Read;
 
-fn word() -> u64 {
+fn word(reader: &mut impl Read) -> io::Result<u64> {
     let mut b = [0u8; 8];
-    io::read_full(libc::STDIN_FILENO, &mut b);
-    let low = wide(b[0]) | wide(b[1]) << 8 | wide(b[2]) << 16 | wide(b[3]) << 24;
-    let high = wide(b[4]) | wide(b[5]) << 8 | wide(b[6]) << 16 | wide(b[7]) << 24;
-    low | high << 32
+    let mut done = 0;
+    while done < 8 {
+        let n = reader.read(&mut b[done..])?;
+        if n == 0 {
+            break;
+        }
+        done += n;
+    }
+    Ok(u64::from_le_bytes(b))
 }
 
-pub(crate) fn float() -> f64 {
-    leaves::numbers::float(word())
+pub(crate) fn float(reader: &mut impl Read) -> io::Result<f64> {
+    Ok(leaves::numbers::float(word(reader)?))
 }
 
-pub(crate) fn whole() -> usize {
-    word() as usize
+pub(crate) fn whole(reader: &mut impl Read) -> io::Result<usize> {
+    Ok(word(reader)? as usize)
 }
 
 // A call's number, a kind or the number of a stored refusal: all are below 99, which stands for anything larger.
-pub(crate) fn kind() -> u32 {
-    let k = word();
-    if k < 99 { k as u32 } else { 99 }
+pub(crate) fn kind(reader: &mut impl Read) -> io::Result<u32> {
+    let k = word(reader)?;
+    Ok(if k < 99 { k as u32 } else { 99 })
 }
 
 // A count of numbers that there is room for.
-pub(crate) fn length(most: usize) -> usize
-    ensures { result ≤ most }
+pub(crate) fn length(reader: &mut impl Read, most: usize) -> io::Result<usize>
+    ensures { IfOk result (λ n. n ≤ most) }
 {
-    let n = whole();
-    if n < most { n } else { most }
+    let n = whole(reader)?;
+    Ok(if n < most { n } else { most })
 }
 
-pub(crate) fn fill(out: &mut [f64]) {
-    let mut i = 0;
-    while i < out.len() {
-        out[i] = float();
-        i += 1;
+pub(crate) fn fill(reader: &mut impl Read, out: &mut [f64]) -> io::Result<()> {
+    for x in out.iter_mut() {
+        *x = float(reader)?;
     }
+    Ok(())
 }

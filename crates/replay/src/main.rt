@@ -7,19 +7,20 @@ mod input;
 mod replay;
 mod report;
 
-// The first number says how many answers follow.
-fn main() {
-    let most = input::whole();
+use std::io;
+
+// The first number says how many answers follow. A read or a write that fails ends the program with its error.
+fn main(rt: HostRuntime) -> io::Result<()> {
+    let mut stdin = rt.stdin();
+    let most = input::whole(&mut stdin)?;
     let mut counts = [0u64; report::PLACES];
     let mut different = 0u64;
-    let mut i = 0;
-    while i < most {
-        let outcome = replay::one();
+    for _ in 0..most {
+        let outcome = replay::one(&mut stdin)?;
         report::count(&mut counts, outcome.number);
         if !outcome.same {
-            different = std::num::wrapping_add_u64(different, 1);
+            different = different.wrapping_add(1);
         }
-        i += 1;
     }
-    report::print(&counts, different);
+    report::print(&rt, &counts, different)
 }

@@ -2,6 +2,8 @@
 use crate::input;
 use capi::calls;
 use capi::returns::engine_returns_from_prices;
+use std::io;
+use std::io::Read;
 
 #[derive(Drop)]
 pub(crate) struct Outcome {
@@ -31,42 +33,46 @@ fn same(x: f64, y: f64) -> bool {
     x == y
 }
 
-fn same_slice(answer: &[f64]) -> bool {
+fn same_slice(reader: &mut impl Read, answer: &[f64]) -> io::Result<bool> {
     let mut equal = true;
-    let mut i = 0;
-    while i < answer.len() {
-        let x = input::float();
-        if !same(answer[i], x) {
+    for x in answer {
+        let y = input::float(reader)?;
+        if !same(*x, y) {
             equal = false;
         }
-        i += 1;
     }
-    equal
+    Ok(equal)
 }
 
-fn same_report(number: u32, numbers: &[f64; 2], wholes: &[usize; 2]) -> bool {
-    let k = input::kind();
-    let x = input::float();
-    let y = input::float();
-    let i = input::whole();
-    let j = input::whole();
+fn same_report(
+    reader: &mut impl Read,
+    number: u32,
+    numbers: &[f64; 2],
+    wholes: &[usize; 2],
+) -> io::Result<bool> {
+    let k = input::kind(reader)?;
+    let x = input::float(reader)?;
+    let y = input::float(reader)?;
+    let i = input::whole(reader)?;
+    let j = input::whole(reader)?;
     if k != number {
-        return false;
+        return Ok(false);
     }
     if !same(x, numbers[0]) {
-        return false;
+        return Ok(false);
     }
     if !same(y, numbers[1]) {
-        return false;
+        return Ok(false);
     }
     if i != wholes[0] {
-        return false;
+        return Ok(false);
     }
-    j == wholes[1]
+    Ok(j == wholes[1])
 }
 
 // The adjusted covariance. The given matrix comes last.
 fn covariance(
+    reader: &mut impl Read,
     returns: &[f64],
     assets: usize,
     periods: usize,
@@ -74,17 +80,17 @@ fn covariance(
     answer: &mut [f64],
     numbers: &mut [f64; 2],
     wholes: &mut [usize; 2],
-) -> u32 {
-    let estimate = input::kind();
-    let x = input::float();
-    let shrinkage = input::kind();
-    let y = input::float();
-    let regularization = input::kind();
-    let z = input::float();
-    let limit = input::whole();
-    let side = input::whole();
-    input::fill(given);
-    calls::engine_adjusted_covariance(
+) -> io::Result<u32> {
+    let estimate = input::kind(reader)?;
+    let x = input::float(reader)?;
+    let shrinkage = input::kind(reader)?;
+    let y = input::float(reader)?;
+    let regularization = input::kind(reader)?;
+    let z = input::float(reader)?;
+    let limit = input::whole(reader)?;
+    let side = input::whole(reader)?;
+    input::fill(reader, given)?;
+    Ok(calls::engine_adjusted_covariance(
         returns,
         assets,
         periods,
@@ -100,20 +106,22 @@ fn covariance(
         answer,
         numbers,
         wholes,
-    )
+    ))
 }
 
 fn with_given(
+    reader: &mut impl Read,
     returns: &[f64],
     assets: usize,
     periods: usize,
     answer: &mut [f64],
     numbers: &mut [f64; 2],
     wholes: &mut [usize; 2],
-) -> u32 {
-    let n = input::length(MOST_ENTRIES);
+) -> io::Result<u32> {
+    let n = input::length(reader, MOST_ENTRIES)?;
     let mut given = [0.0; MOST_ENTRIES];
     covariance(
+        reader,
         returns,
         assets,
         periods,
@@ -126,31 +134,36 @@ fn with_given(
 
 // The weighted mean, by half-life and by decay factor.
 fn with_half_life(
+    reader: &mut impl Read,
     returns: &[f64],
     assets: usize,
     periods: usize,
     answer: &mut [f64],
     numbers: &mut [f64; 2],
     wholes: &mut [usize; 2],
-) -> u32 {
-    let half_life = input::float();
-    calls::engine_weighted_mean(returns, assets, periods, half_life, answer, numbers, wholes)
+) -> io::Result<u32> {
+    let half_life = input::float(reader)?;
+    Ok(calls::engine_weighted_mean(returns, assets, periods, half_life, answer, numbers, wholes))
 }
 
 fn with_factor(
+    reader: &mut impl Read,
     returns: &[f64],
     assets: usize,
     periods: usize,
     answer: &mut [f64],
     numbers: &mut [f64; 2],
     wholes: &mut [usize; 2],
-) -> u32 {
-    let factor = input::float();
-    calls::engine_weighted_mean_by_factor(returns, assets, periods, factor, answer, numbers, wholes)
+) -> io::Result<u32> {
+    let factor = input::float(reader)?;
+    Ok(calls::engine_weighted_mean_by_factor(
+        returns, assets, periods, factor, answer, numbers, wholes,
+    ))
 }
 
 // The two means that decompose a matrix.
 fn with_limit(
+    reader: &mut impl Read,
     call: u32,
     returns: &[f64],
     assets: usize,
@@ -158,69 +171,86 @@ fn with_limit(
     answer: &mut [f64],
     numbers: &mut [f64; 2],
     wholes: &mut [usize; 2],
-) -> u32 {
-    let limit = input::whole();
+) -> io::Result<u32> {
+    let limit = input::whole(reader)?;
     if call == 3 {
-        return calls::engine_james_stein_mean(
+        return Ok(calls::engine_james_stein_mean(
             returns, assets, periods, limit, answer, numbers, wholes,
-        );
+        ));
     }
-    calls::engine_bayes_stein_mean(returns, assets, periods, limit, answer, numbers, wholes)
+    Ok(calls::engine_bayes_stein_mean(returns, assets, periods, limit, answer, numbers, wholes))
 }
 
 // 0 the adjusted covariance, 1 Ledoit-Wolf, 2 the weighted mean by half-life, 3 James-Stein, 4 Bayes-Stein, 5 the weighted mean by decay factor, 6 returns from
 // prices: the slice then has prices, and the periods are their rows.
 fn made(
+    reader: &mut impl Read,
     returns: &[f64],
     assets: usize,
     periods: usize,
     answer: &mut [f64],
     numbers: &mut [f64; 2],
     wholes: &mut [usize; 2],
-) -> u32 {
-    let call = input::kind();
+) -> io::Result<u32> {
+    let call = input::kind(reader)?;
     if call == 0 {
-        return with_given(returns, assets, periods, answer, numbers, wholes);
+        return with_given(reader, returns, assets, periods, answer, numbers, wholes);
     }
     if call == 1 {
-        let target = input::kind();
-        return calls::engine_ledoit_wolf(returns, assets, periods, target, numbers, wholes);
+        let target = input::kind(reader)?;
+        return Ok(calls::engine_ledoit_wolf(returns, assets, periods, target, numbers, wholes));
     }
     if call == 2 {
-        return with_half_life(returns, assets, periods, answer, numbers, wholes);
+        return with_half_life(reader, returns, assets, periods, answer, numbers, wholes);
     }
     if call == 5 {
-        return with_factor(returns, assets, periods, answer, numbers, wholes);
+        return with_factor(reader, returns, assets, periods, answer, numbers, wholes);
     }
     if call == 6 {
-        return engine_returns_from_prices(returns, assets, periods, answer, numbers, wholes);
+        return Ok(engine_returns_from_prices(returns, assets, periods, answer, numbers, wholes));
     }
-    with_limit(call, returns, assets, periods, answer, numbers, wholes)
+    with_limit(
+        reader, call, returns, assets, periods, answer, numbers, wholes,
+    )
 }
 
-fn compared(returns: &[f64], assets: usize, periods: usize, answer: &mut [f64]) -> Outcome {
+fn compared(
+    reader: &mut impl Read,
+    returns: &[f64],
+    assets: usize,
+    periods: usize,
+    answer: &mut [f64],
+) -> io::Result<Outcome> {
     let mut numbers = [UNTOUCHED; 2];
     let mut wholes = [7; 2];
-    let number = made(returns, assets, periods, answer, &mut numbers, &mut wholes);
-    let report = same_report(number, &numbers, &wholes);
-    let slice = same_slice(answer);
-    Outcome {
+    let number = made(
+        reader,
+        returns,
+        assets,
+        periods,
+        answer,
+        &mut numbers,
+        &mut wholes,
+    )?;
+    let report = same_report(reader, number, &numbers, &wholes)?;
+    let slice = same_slice(reader, answer)?;
+    Ok(Outcome {
         number,
         same: report & slice,
-    }
+    })
 }
 
-fn asked(returns: &mut [f64]) -> Outcome {
-    input::fill(returns);
-    let assets = input::whole();
-    let periods = input::whole();
-    let n = input::length(MOST_ENTRIES);
+fn asked(reader: &mut impl Read, returns: &mut [f64]) -> io::Result<Outcome> {
+    input::fill(reader, returns)?;
+    let assets = input::whole(reader)?;
+    let periods = input::whole(reader)?;
+    let n = input::length(reader, MOST_ENTRIES)?;
     let mut answer = [UNTOUCHED; MOST_ENTRIES];
-    compared(returns, assets, periods, &mut answer[..n])
+    compared(reader, returns, assets, periods, &mut answer[..n])
 }
 
-pub(crate) fn one() -> Outcome {
-    let n = input::length(MOST_RETURNS);
+pub(crate) fn one(reader: &mut impl Read) -> io::Result<Outcome> {
+    let n = input::length(reader, MOST_RETURNS)?;
     let mut returns = [0.0; MOST_RETURNS];
-    asked(&mut returns[..n])
+    asked(reader, &mut returns[..n])
 }

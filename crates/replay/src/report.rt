@@ -1,7 +1,7 @@
 // How often each number was answered, and what the program prints.
 ghost use Rattle.std.specs.Prelude.{◌<◌};
 
-use libc::STDOUT_FILENO;
+use std::io;
 
 // A place for answers, one for each number up to 16, and the last for all others: it is printed as 17. No call answers 15 or 17.
 pub(crate) const PLACES: usize = 18;
@@ -18,27 +18,21 @@ fn place(number: u32) -> usize
 
 pub(crate) fn count(counts: &mut [u64; PLACES], number: u32) {
     let k = place(number);
-    counts[k] = std::num::wrapping_add_u64(counts[k], 1);
+    counts[k] = counts[k].wrapping_add(1);
 }
 
-fn line(name: &[u8], number: u64) {
-    io::write_all(STDOUT_FILENO, name);
-    io::print_decimal(STDOUT_FILENO, number);
-    io::write_all(STDOUT_FILENO, b"\n");
+fn line(rt: &impl Print, name: &str, number: u64) -> io::Result<()> {
+    println!(rt; "{name}: {number}")
 }
 
-fn refusal(number: u64, count: u64) {
-    io::write_all(STDOUT_FILENO, b"refused ");
-    io::print_decimal(STDOUT_FILENO, number);
-    line(b": ", count);
+fn refusal(rt: &impl Print, number: u64, count: u64) -> io::Result<()> {
+    println!(rt; "refused {number}: {count}")
 }
 
-pub(crate) fn print(counts: &[u64; PLACES], different: u64) {
-    line(b"accepted: ", counts[0]);
-    let mut i = 1usize;
-    while i < PLACES {
-        refusal(i as u64, counts[i]);
-        i += 1;
+pub(crate) fn print(rt: &impl Print, counts: &[u64; PLACES], different: u64) -> io::Result<()> {
+    line(rt, "accepted", counts[0])?;
+    for i in 1..PLACES {
+        refusal(rt, i as u64, counts[i])?;
     }
-    line(b"differences: ", different);
+    line(rt, "differences", different)
 }
