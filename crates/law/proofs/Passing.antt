@@ -20,7 +20,7 @@ use Rattle.rules.proofs.Shapes.{shape_passes}
 pub pass_append : (xs ys : List Check) → first (xs ++ ys) ≡ passes → (first xs ≡ passes) × (first ys ≡ passes)
 pass_append xs ys e = pass_cons (first xs) ys (first_then xs ys refl ∙ e)
 
--- no more than maxSide assets, and the answer slice is long enough
+-- no more than max_side assets, and the answer slice is long enough
 pub pass_opening : (r : List Float) (n P needed : ℕ) (slice : List Float) → first (opening r n P needed slice) ≡ passes → (n ≤ max_side) × (needed ≤ length slice)
 unfolding opening
 pass_opening r n P needed slice h =

@@ -20,7 +20,8 @@ use Rattle.rules.specs.Adjusted.{is_sample}
 use Rattle.examples.proofs.Evaluated.{evaluated}
 use Rattle.law.specs.Law as Law
 use Rattle.law.specs.Law.{Question, Input, adjusted, EstimateInRange, RegularizationInRange, ShrinkageInRange, SettingsInRange, CopiedEstimate, CopiedRegularization, CopiedSettings, sample, given, semi_below, unregularized, ridge, covariance}
-use Rattle.law_examples.proofs.Inputs.{factor, low_return, high_return, low_covariance, high_covariance, matrix, Pair, pair}
+use Rattle.law_examples.proofs.Inputs.{factor, low_return, high_return, low_covariance, high_covariance, matrix}
+use Rattle.law_examples.proofs.Pairs.{Pair, pair}
 
 -- ---- no matrix given: the question, its settings in range, and its settings scaled
 abbrev ungiven : Estimate → Shrinkage → Regularization → Question

@@ -7,7 +7,8 @@ use Rattle.rules.specs.declared.Target.TheVariants.{ConstantVariance}
 use Rattle.examples.proofs.Evaluated.{evaluated}
 use Rattle.law.specs.Law as Law
 use Rattle.law.specs.Law.{intensity, weighted_mean, james_stein, bayes_stein, ledoit_wolf, james, bayes}
-use Rattle.law_examples.proofs.Inputs.{factor, Pair, pair}
+use Rattle.law_examples.proofs.Inputs.{factor}
+use Rattle.law_examples.proofs.Pairs.{Pair, pair}
 
 -- Ledoit and Wolf's intensity, to constant variance
 pub intensity_pair : Pair (intensity ConstantVariance) (intensity ConstantVariance)

@@ -4,39 +4,17 @@ use Prim.Native.Nat.{ℕ, zero, suc, ◌%◌, ◌<◌}
 use native.Mathlib.Omega.{arith}
 use mathlib.Core.Path.{◌≡◌, refl}
 use mathlib.Core.Bool.{Bool, true, false}
-use mathlib.Core.List.{List, [], ◌∷◌}
-use lib.IntN.{ℤ, pos, neg_ℤ, ◌+ℤ◌}
-use lib.Ieee.{Float, fin, neg}
-use Rattle.leaves.specs.Numbers.{zero⁺, half, one}
+use mathlib.Core.List.{[], ◌∷◌}
+use lib.Ieee.{neg}
+use Rattle.leaves.specs.Numbers.{half, one}
 use Rattle.leaves.specs.Loops.{nth}
 use Rattle.rules.specs.Refusals.{passes, refuses}
 use Rattle.rules.specs.Prices.{Converted, converted}
 use Rattle.rules.specs.declared.Refusal.TheVariants.{NonPositivePrice}
 use Rattle.examples.proofs.Evaluated.{evaluated}
 use Rattle.law.specs.Law.{All, Sized, Copy}
-use Rattle.law.specs.Prices.{PriceInput, converted_by, price_range, ScaledPrices}
-
--- the first column's prices are 2^e and 2^(e + 1), the second's 2^(f + 1) and 2^f; s is the sign of the price in the middle of the first
-abbrev prices : Bool → ℤ → ℤ → List Float
-prices s e f = fin false 1 e ∷ fin false 1 (f +ℤ pos 1) ∷ fin s 1 (e +ℤ pos 1) ∷ fin false 1 f ∷ fin false 1 e ∷ fin false 1 (f +ℤ pos 1) ∷ []
-
-abbrev low : ℤ
-low = neg_ℤ (pos price_range)
-
--- a power of two below the upper end, which the other prices of its column have
-abbrev high : ℤ
-high = pos 399
-
-abbrev blank : List Float
-blank = zero⁺ ∷ zero⁺ ∷ zero⁺ ∷ zero⁺ ∷ one ∷ []
-
-abbrev input : Bool → ℤ → ℤ → PriceInput
-input s e f = record { prices = prices s e f; assets = 2; rows = 3; slice = blank }
-
--- 2^799 and 2^-799
-abbrev powers : ℕ → ℤ
-powers zero = pos 799
-powers (suc i) = neg_ℤ (pos 799)
+use Rattle.law.specs.Prices.{converted_by, price_range, ScaledPrices}
+use Rattle.law_examples.proofs.PriceInputs.{prices, low, high, blank, input, powers}
 
 copies : (s : Bool) (j : ℕ) → j < 6 → Copy (powers (j % 2)) (nth (prices s low high) j) (nth (prices s high low) j)
 unfolding evaluated
