@@ -80,10 +80,10 @@ def turn(text, names, steps=False):
 
 
 def turn_antt(text, names, steps=False):
-    """Code, and the code spans of comments."""
+    """Code, and in comments the code spans and words with a capital inside."""
     parts, at = [], 0
     for m in COMMENT.finditer(text):
-        parts += [turn(text[at : m.start()], names, steps), turn_md(m[0], names)]
+        parts += [turn(text[at : m.start()], names, steps), turn_comment(m[0], names)]
         at = m.end()
     return "".join(parts + [turn(text[at:], names, steps)])
 
@@ -116,6 +116,10 @@ def turn_rt(text, names):
                 inside = False
         lines.append(line)
     return "\n".join(lines)
+
+
+def turn_comment(text, names):
+    return re.sub(r"\b[a-z]+[A-Z]\w*", lambda m: names.get(m[0], m[0]), turn_md(text, names))
 
 
 def turn_md(text, names):

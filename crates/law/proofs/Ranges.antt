@@ -1,6 +1,6 @@
 -- The bounds of every quantity between the returns and an answer, each made of the bounds that it follows from as the quantity is made of others. At the bottom stand document 01's ranges
 -- and the limits on assets and periods (Bits); nothing else is a number of its own but what the constants and `exp` ask for. So a limit or range that changes moves all that rests on it, and outside of
--- Exponential and Weights the proofs write no bound as a numeral. Bounds are powers of two of units, and 1 is 2 ^ oneBits of them. Assumes nothing.
+-- Exponential and Weights the proofs write no bound as a numeral. Bounds are powers of two of units, and 1 is 2 ^ one_bits of them. Assumes nothing.
 use Prim.Native.Nat.{ℕ, suc, ◌+◌, ◌-◌}
 use Rattle.leaves.proofs.Units.{one_bits, top_bits}
 use Rattle.leaves.proofs.Bounds.{Bounds, sizes, multiples, sum_of, product_of, normal_product_of, quotient_of, root_of}

@@ -1,4 +1,4 @@
--- The Bayes-Stein ratio N / D, with N the sum of p m / λ and D the sum of p p / λ over the columns of V, is NaN, infinite or at most 2 ^ ratioMost units, some 2 ^ 909: so scaled by a power of two that
+-- The Bayes-Stein ratio N / D, with N the sum of p m / λ and D the sum of p p / λ over the columns of V, is NaN, infinite or at most 2 ^ ratio_most units, some 2 ^ 909: so scaled by a power of two that
 -- is small enough it is finite in both runs or in none. V's entries are at most 2 ^ 300 in size, what it is multiplied with at most 2, and the smallest value λ is above n 2 ^ -52 times the largest, Λ. Where D is
 -- finite and not zero, every λ is above 0, and at least 2 ^ -53 Λ. With P the largest p in size, N is at most 2 ^ 367 P / Λ; and D is at least P P / 16 Λ where that is a unit or more, and else 1 / 4 Λ
 -- at least, in units. Both bounds give the ratio's, and no lower bound on V or Λ is needed. Assumes nothing.
@@ -40,14 +40,14 @@ turned_most = suc turn_bits
 abbrev pub projected_most : ℕ
 projected_most = side_bits + turned_most
 
--- a term of N is at most 2 ^ termMost P / Λ, N itself 2 ^ numeratorMost P / Λ
+-- a term of N is at most 2 ^ term_most P / Λ, N itself 2 ^ numerator_most P / Λ
 abbrev term_most : ℕ
 term_most = 3 + fraction_bits + projected_most
 
 abbrev numerator_most : ℕ
 numerator_most = suc side_bits + term_most
 
--- P in units is at most 2 ^ divisorMost D Λ; the root of a unit is 2 ^ rootBits units
+-- P in units is at most 2 ^ divisor_most D Λ; the root of a unit is 2 ^ root_bits units
 abbrev root_bits : ℕ
 root_bits = one_bits / 2
 

@@ -30,7 +30,7 @@ use Rattle.law.proofs.Ranges.{weight_bounds, denominator_bounds}
 pub record Decaying (P : ℕ) (l : Float) : Type 0 where
   pub fit : T (fits binary64 l)
   pub ok : accepted l ≡ true
-  -- in units, ageMost W being 48
+  -- in units, age_most W being 48
   pub aged : (P - 1) * mag l ≤ age_most * W
 
 -- it is finite and below zero
@@ -78,7 +78,7 @@ module _ (P : ℕ) (periods : 2 ≤ P) (most : P ≤ max_periods) (l : Float) (d
   log_exp : Exp l (mag l)
   log_exp = exp_within l m (log_val l d.fit d.ok).0 (le_trans log_bound (omega arith))
 
-  -- (T - 1) l, from l to 2 ^ periodBits l
+  -- (T - 1) l, from l to 2 ^ period_bits l
   span : ℕ
   span = near ((P - 1) * U * mag l) U
 

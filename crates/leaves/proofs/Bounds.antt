@@ -23,7 +23,7 @@ zero_bounded b = range_zero b.grain (2 ^ b.least) (2 ^ b.most)
 pub only_zero : {x : Float} (b : Bounds) → b.most < b.least → Bounded b x → mag x ≡ 0
 only_zero {x} b h r = elim (eq-zero-or-pos (mag x)) [ inl z ↦ z | inr p ↦ absurd (lt_irrefl (2 ^ b.most) (lt_of_lt_of_le (pow-lt h) (le_trans (r.least p) r.most))) ]
 
--- zero or from 2 ^ l to 2 ^ h units: the last bit of such a value is not below 2 ^ (l - fractionBits)
+-- zero or from 2 ^ l to 2 ^ h units: the last bit of such a value is not below 2 ^ (l - fraction_bits)
 abbrev pub sizes : ℕ → ℕ → Bounds
 sizes l h = record { grain = l - fraction_bits; least = l; most = h }
 

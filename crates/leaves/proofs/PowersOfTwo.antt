@@ -111,7 +111,7 @@ exponent_shift k (inf s) f p = absurd f
 exponent_shift k (fin s zero e) f p = absurd (lt_irrefl 0 (rw (zero_mag s e) at p))
 exponent_shift k (fin s (suc m) e) f p = let z = pos (size (suc m) - 1) in same (z +ℤ (e +ℤ k)) (z +ℤ e +ℤ k) (omega (arith, plus z (e +ℤ k), plus e k, plus z e, plus (z +ℤ e) k))
 
--- by the leading bit: x has 2 ^ (b(x) + oneBits) units at least, and less than twice as many
+-- by the leading bit: x has 2 ^ (b(x) + one_bits) units at least, and less than twice as many
 pub lead : (x : Float) → T (is_finite x) → Val x (sign x) (mag x) → 0 < mag x
     → (2 ^ (one_bits + pos_part (binary_exponent x)) ≤ mag x * 2 ^ neg_part (binary_exponent x)) × (mag x * 2 ^ neg_part (binary_exponent x) < 2 ^ (suc one_bits + pos_part (binary_exponent x)))
 unfolding binary_exponent is_finite
@@ -144,7 +144,7 @@ lead (fin s (suc m) e) f v p =
     most : (m a g e n u o : ℕ) → o + e ≡ a + g + u → m * 2 ^ g ≡ n * 2 ^ e → m < 2 ^ a → n * 2 ^ u < 2 ^ o
     most m a g e n u o i w l = let q = moved m a g e n u o i w in lt_of_mul-lt-mul_right (2 ^ e) (subst₂ ◌<◌ q.1 (sym q.0) (mul-lt-mul_of_pos_right (mul-lt-mul_of_pos_right l (pow_pos g)) (pow_pos u)))
 
--- so a value from 2 ^ least to 2 ^ most units has an exponent from least - oneBits to most - oneBits
+-- so a value from 2 ^ least to 2 ^ most units has an exponent from least - one_bits to most - one_bits
 pub exponent_range : (b : Bounds) (x : Float) → Bounded b x → 0 < mag x → (b.least + neg_part (binary_exponent x) ≤ pos_part (binary_exponent x) + one_bits) × (pos_part (binary_exponent x) + one_bits ≤ b.most + neg_part (binary_exponent x))
 exponent_range b x r p =
     let o = pos_part (binary_exponent x) in

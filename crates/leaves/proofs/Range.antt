@@ -81,7 +81,7 @@ pub range_zero : (g L B : ℕ) → Range g L B zero⁺
 unfolding fits is_finite
 range_zero g L B = range_null zero⁺ tt tt (zero_mag false (pos 0)) g L B
 
--- ---- by the size: 2 ^ l units and more are a multiple of 2 ^ (l - fractionBits)
+-- ---- by the size: 2 ^ l units and more are a multiple of 2 ^ (l - fraction_bits)
 pub range_size : (l B : ℕ) (x : Float) → fraction_bits ≤ l → T (fits binary64 x) → T (is_finite x) → (mag x ≡ 0) ⊎ (2 ^ l ≤ mag x) → mag x ≤ B → Range (l - fraction_bits) (2 ^ l) B x
 range_size l B x e t f (inl z) h = range_null x t f z (l - fraction_bits) (2 ^ l) B
 range_size l B x e t f (inr p) h = let c = representable_grain (l - fraction_bits) (mag x) (mag_representable x t f).0 (rw (sub-add_cancel e) p) in record { fit = t; finite = f; multiple = c.0; grain = c.1; least = λ q. p; most = h }

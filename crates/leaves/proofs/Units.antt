@@ -17,7 +17,7 @@ use Rattle.leaves.proofs.Shift.{shift_value, below_scaled, level_scaled}
 use Rattle.leaves.proofs.Rounding.{near, Representable, Grained, representable_small, representable_times, near_scale, round_near}
 
 -- ---- definitions
--- the format in units: 1 is 2 ^ oneBits of them, and the largest power of two 2 ^ top_bits; behind a leading bit stand fractionBits more
+-- the format in units: 1 is 2 ^ one_bits of them, and the largest power of two 2 ^ top_bits; behind a leading bit stand fraction_bits more
 abbrev pub one_bits : ℕ
 one_bits = 1074
 
