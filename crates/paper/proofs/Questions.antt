@@ -12,7 +12,7 @@ use lib.Dec.{eqb, T}
 use borrow.Author.Tests.{eqb-true, eq-eqb}
 use Rattle.paper.specs.declared.format.Outline.{Outline}
 use Rattle.paper.specs.Grammar.{file_assets, file_periods, kinds, sheet}
-use Rattle.paper.specs.Rules.{first_of, outline, count, has, value, assets, periods, estimates, malformed, question, is_question, read_paper}
+use Rattle.paper.specs.Rules.{first_of, outline, count, has, value, assets, estimates, malformed, question, is_question, read_paper}
 use Rattle.paper.specs.Question.{Contents, estimate_in, question_in, of_kind, contents_in, said, read_question, given_count}
 use Rattle.paper.proofs.Outlines.{well_formed_lem, Ruled, ruled, OneOf, one_of}
 

@@ -1,6 +1,5 @@
 -- `covariances::weighted::put_roots` meets its contract. The invariant: the numbers passed are the square roots.
 use Rattle.std.proofs.Common.{arith, rules}
-use Rattle.leaves.specs.Root.{sqrt}
 use Rattle.leaves.proofs.Invariants.{filled_more, filled_whole, filled_none}
 use Rattle.covariances.proofs.weighted.put_roots.Goals as goal
 

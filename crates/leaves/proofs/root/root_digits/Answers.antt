@@ -1,5 +1,5 @@
 -- `leaves::root::root_digits` meets its contract. The invariant is `Digits`: what the i digits found and the remainder stand for.
-use Rattle.std.proofs.Common.{◌^◌, ◌<◌, arith}
+use Rattle.std.proofs.Common.{arith}
 use Rattle.leaves.proofs.Digits.{bounded, turn_0, turn_1, exact, inexact, all_passed}
 use Rattle.leaves.proofs.root.root_digits.Goals as goal
 use Rattle.leaves.proofs.root.root_digits.Goals.{then-next-trial, else-next-trial}

@@ -8,7 +8,6 @@ use lib.Ieee.{Float}
 use Rattle.leaves.specs.Numbers.{is_finite}
 use Rattle.leaves.specs.Loops.{nth}
 use Rattle.leaves.proofs.Search.{first_none, first_more}
-use Rattle.matrix.specs.Matrix.{at}
 use Rattle.matrix.proofs.First.{entry_at_cell, entry_nowhere}
 use Rattle.matrix.proofs.Stored.{entry_at}
 use Rattle.matrix.proofs.places.first_not_finite.Goals as goal

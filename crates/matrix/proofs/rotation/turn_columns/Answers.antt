@@ -4,7 +4,7 @@ use native.Mathlib.Omega.{arith}
 use borrow.Author.Rules.{rules}
 use Rattle.leaves.proofs.Invariants.{loop_turn, loop_end, loop_start}
 use Rattle.leaves.proofs.Cells.{row}
-use Rattle.matrix.specs.Rotation.{turn, turn_columns}
+use Rattle.matrix.specs.Rotation.{turn_columns}
 use Rattle.matrix.proofs.rotation.turn_columns.Goals as goal
 
 pub loop-k-init : goal.loop-k-init

@@ -4,7 +4,7 @@ use native.Mathlib.Omega.{arith}
 use borrow.Author.Rules.{rules}
 use Rattle.leaves.proofs.Invariants.{loop_turn, loop_end, loop_start}
 use Rattle.leaves.proofs.Cells.{row}
-use Rattle.matrix.specs.Rotation.{turn, turn_rows}
+use Rattle.matrix.specs.Rotation.{turn_rows}
 use Rattle.matrix.proofs.rotation.turn_rows.Goals as goal
 
 pub overflow_mul-pn : goal.overflow_mul-pn

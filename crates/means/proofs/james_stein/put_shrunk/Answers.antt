@@ -1,6 +1,5 @@
 -- `means::james_stein::put_shrunk` meets its contract. The invariant: every mean passed is moved.
 use Rattle.std.proofs.Common.{refl, arith, to_z-of_z}
-use Rattle.leaves.specs.Scaling.{pow2_scaled}
 use Rattle.leaves.proofs.Invariants.{filled_more, filled_whole, filled_none}
 use Rattle.rules.specs.JamesStein.{towards}
 use Rattle.means.proofs.james_stein.put_shrunk.Goals as goal

@@ -1,6 +1,5 @@
 -- `paper::floats::fill_floats` meets its contract. The invariant: the floats passed are filled in.
 use native.Mathlib.Omega.{arith}
-use Rattle.leaves.specs.Numbers.{float}
 use Rattle.leaves.proofs.Invariants.{filled_more, filled_all, filled_none}
 use Rattle.paper.proofs.floats.fill_floats.Goals as goal
 

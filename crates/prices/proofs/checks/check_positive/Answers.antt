@@ -8,7 +8,6 @@ use lib.Ieee.{Float, le, of_bits}
 use Rattle.leaves.specs.Numbers.{zero⁺}
 use Rattle.leaves.specs.Loops.{nth}
 use Rattle.leaves.proofs.Search.{first_none, first_more}
-use Rattle.matrix.specs.Matrix.{at}
 use Rattle.matrix.proofs.Stored.{entry_at}
 use Rattle.rules.specs.Prices.{non_positive}
 use Rattle.rules.specs.declared.Refusal.TheVariants.{NonPositivePrice}

@@ -7,7 +7,6 @@ use native.Mathlib.Omega.{arith}
 use lib.Ieee.{Float}
 use Rattle.leaves.specs.Numbers.{is_finite}
 use Rattle.leaves.proofs.Search.{first_none, first_more}
-use Rattle.matrix.specs.Matrix.{at}
 use Rattle.rules.specs.Order.{not_finite}
 use Rattle.rules.specs.declared.Refusal.TheVariants.{NotFinite}
 use Rattle.prices.specs.Stored.{return_at}

@@ -3,7 +3,6 @@ use native.Mathlib.Omega.{arith}
 use native.Mathlib.Nat.{le_refl}
 use mathlib.Core.Path.{refl}
 use Rattle.leaves.proofs.Invariants.{filled_more, filled_none, filled_whole}
-use Rattle.prices.specs.Stored.{return_at}
 use Rattle.prices.proofs.returns.write_returns.Goals as goal
 
 pub loop-k-init : goal.loop-k-init

@@ -1,7 +1,7 @@
 -- `tables::vectors::raise` meets its contract. The invariant: the numbers passed are raised.
 use Rattle.std.proofs.Common.{◌∙◌, ap₂, arith, rules}
 use lib.Ieee.{nan}
-use Rattle.leaves.specs.Numbers.{abs, larger}
+use Rattle.leaves.specs.Numbers.{larger}
 use Rattle.leaves.proofs.Invariants.{filled_here, filled_more, filled_whole, filled_none}
 use Rattle.tables.proofs.vectors.raise.Goals as goal
 
