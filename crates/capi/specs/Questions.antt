@@ -1,13 +1,13 @@
 -- What only the contracts of the C interface cite: a question written and read, with the numbers that are returned (include/engine.h). Definitions only.
-use Rattle.std.specs.Prelude.{ℕ, Bool, true, false, List}
+use Rattle.std.specs.Prelude.{ℕ, Bool, true, false, List, Result, Ok, Err}
 use Rattle.leaves.specs.Numbers.{zero⁺}
 use Rattle.paper.specs.declared.question.Question.{Question}
-use Rattle.paper.specs.declared.reading.Read.{Read}
-use Rattle.paper.specs.declared.reading.Read.TheVariants.{Malformed, TooShort, Found}
+use Rattle.paper.specs.declared.reading.ReadError.{ReadError}
+use Rattle.paper.specs.declared.reading.ReadError.TheVariants.{Malformed, TooShort}
 use Rattle.paper.specs.Answer.{malformed_number}
 use Rattle.paper.specs.Question.{contents, read_into, read_question}
-use Rattle.writer.specs.declared.calls.Written.{Written}
-use Rattle.writer.specs.declared.calls.Written.TheVariants.{BreaksFormat, Bytes, TooShort as ShortOutput}
+use Rattle.writer.specs.declared.calls.WriteError.{WriteError}
+use Rattle.writer.specs.declared.calls.WriteError.TheVariants.{BreaksFormat, TooShort as ShortOutput}
 use Rattle.writer.specs.Writer.{written}
 use Rattle.capi.specs.Report.{reported}
 use Rattle.capi.specs.Record.{bits_of, wholes_of}
@@ -23,10 +23,10 @@ broken_number = 17
 abbrev pub short_number : ℕ
 short_number = 18
 
-abbrev pub report_of_written : Written → Report
-report_of_written BreaksFormat = reported broken_number zero⁺ zero⁺ 0 0
-report_of_written ShortOutput = reported short_number zero⁺ zero⁺ 0 0
-report_of_written (Bytes count) = reported 0 zero⁺ zero⁺ count 0
+abbrev pub report_of_written : Result ℕ WriteError → Report
+report_of_written (Err BreaksFormat) = reported broken_number zero⁺ zero⁺ 0 0
+report_of_written (Err ShortOutput) = reported short_number zero⁺ zero⁺ 0 0
+report_of_written (Ok count) = reported 0 zero⁺ zero⁺ count 0
 
 -- what a call leaves behind: the report, and the output
 pub record LeftFile : Type 0 where
@@ -57,10 +57,10 @@ abbrev pub left_record : ℕ → List ℕ → List ℕ → List ℕ → List ℕ
 left_record number returns given bits wholes = record { number = number; returns = returns; given = given; bits = bits; wholes = wholes }
 
 -- a refusal leaves bits and wholes as they were
-abbrev pub told_record : Read → List ℕ → List ℕ → List ℕ → List ℕ → LeftRecord
-told_record Malformed returns given bits wholes = left_record malformed_number returns given bits wholes
-told_record TooShort returns given bits wholes = left_record short_slice returns given bits wholes
-told_record (Found q) returns given bits wholes = left_record 0 returns given (bits_of q) (wholes_of q)
+abbrev pub told_record : Result Question ReadError → List ℕ → List ℕ → List ℕ → List ℕ → LeftRecord
+told_record (Err Malformed) returns given bits wholes = left_record malformed_number returns given bits wholes
+told_record (Err TooShort) returns given bits wholes = left_record short_slice returns given bits wholes
+told_record (Ok q) returns given bits wholes = left_record 0 returns given (bits_of q) (wholes_of q)
 
 unfoldable pub engine_read_question : List ℕ → List ℕ → List ℕ → List ℕ → List ℕ → LeftRecord
 engine_read_question file returns given bits wholes = let i = read_into (read_question file) returns given in told_record i.read i.returns i.given bits wholes

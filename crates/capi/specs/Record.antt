@@ -1,5 +1,5 @@
 -- What only the contracts of the C interface cite: a question record in numbers (include/engine.h), a kind each, with the bits that some kinds have. Definitions only.
-use Rattle.std.specs.Prelude.{ℕ, ◌-◌, Bool, cond, ◌&&◌, List, [], ◌∷◌, ltb, eqb}
+use Rattle.std.specs.Prelude.{ℕ, ◌-◌, Bool, cond, ◌&&◌, List, [], ◌∷◌, ltb, eqb, Option, Some, None}
 use Rattle.rules.specs.Settings.{target_of}
 use Rattle.rules.specs.declared.Target.TheVariants.{ConstantVariance, ConstantCorrelation}
 use Rattle.paper.specs.declared.question.EstimateBits.{EstimateBits}
@@ -8,8 +8,6 @@ use Rattle.paper.specs.declared.question.ShrinkageBits.{ShrinkageBits}
 use Rattle.paper.specs.declared.question.ShrinkageBits.TheVariants.{Unshrunk, Fixed, LedoitWolf}
 use Rattle.paper.specs.declared.question.RegularizationBits.{RegularizationBits}
 use Rattle.paper.specs.declared.question.RegularizationBits.TheVariants.{Unregularized, Ridge}
-use Rattle.paper.specs.declared.question.Limit.{Limit}
-use Rattle.paper.specs.declared.question.Limit.TheVariants.{Missing, Sweeps}
 use Rattle.paper.specs.declared.question.Asked.{Asked}
 use Rattle.paper.specs.declared.question.Asked.TheVariants.{Covariance, WeightedMean, JamesStein, BayesStein}
 use Rattle.paper.specs.declared.question.Question.{Question}
@@ -40,8 +38,8 @@ shrinkage_from kind bits = cond (eqb kind 0) Unshrunk (cond (eqb kind 1) (Fixed 
 unfoldable pub regularization_from : ℕ → ℕ → RegularizationBits
 regularization_from kind bits = cond (eqb kind 0) Unregularized (Ridge bits)
 
-unfoldable pub limit_from : ℕ → ℕ → Limit
-limit_from has_limit limit = cond (eqb has_limit 0) Missing (Sweeps limit)
+unfoldable pub limit_from : ℕ → ℕ → Option ℕ
+limit_from has_limit limit = cond (eqb has_limit 0) None (Some limit)
 
 abbrev pub question_from : ℕ → ℕ → ℕ → ℕ → ℕ → ℕ → ℕ → ℕ → ℕ → ℕ → ℕ → Question
 question_from assets periods estimate estimateBits shrinkage shrinkageBits regularization regularizationBits has_limit limit question = record {
@@ -91,13 +89,13 @@ abbrev pub regularization_value : RegularizationBits → ℕ
 regularization_value Unregularized = 0
 regularization_value (Ridge bits) = bits
 
-abbrev pub has_limit : Limit → ℕ
-has_limit Missing = 0
-has_limit (Sweeps limit) = 1
+abbrev pub has_limit : Option ℕ → ℕ
+has_limit None = 0
+has_limit (Some limit) = 1
 
-abbrev pub limit_value : Limit → ℕ
-limit_value Missing = 0
-limit_value (Sweeps limit) = limit
+abbrev pub limit_value : Option ℕ → ℕ
+limit_value None = 0
+limit_value (Some limit) = limit
 
 abbrev pub asked_kind : Asked → ℕ
 asked_kind Covariance = 0

@@ -1,13 +1,13 @@
 -- What only the contracts of the C interface cite: an answer in numbers, 0 or the refusal's number, two floats and two whole numbers (include/engine.h).
 -- What an answer does not have is 0. Definitions only.
-use Rattle.std.specs.Prelude.{ℕ, List, [], ◌∷◌, Float}
+use Rattle.std.specs.Prelude.{ℕ, List, [], ◌∷◌, Float, Result, Ok, Err}
 use Rattle.leaves.specs.Numbers.{zero⁺}
 use Rattle.rules.specs.Refusals.{number, detail}
 use Rattle.rules.specs.declared.Detail.{Detail}
 use Rattle.rules.specs.declared.Detail.TheVariants.{Nothing as nothing, Only as only, Entry as entry, Value as value}
 use Rattle.rules.specs.declared.Refusal.{Refusal}
 use Rattle.rules.specs.declared.Answer.{Answer}
-use Rattle.rules.specs.declared.Answer.TheVariants.{Refused, Covariance, Intensity, Mean, Shrunk}
+use Rattle.rules.specs.declared.Answer.TheVariants.{Covariance, Intensity, Mean, Shrunk}
 use Rattle.capi.specs.declared.report.Report.{Report}
 
 abbrev pub handed : ℕ → List Float → List ℕ → Report
@@ -39,9 +39,9 @@ abbrev pub refused : Refusal → Report
 refused c = reported (number c) (value_or zero⁺ (detail c)) zero⁺ (first_of (detail c)) (second_of (detail c))
 
 -- intensity and target, sweeps and rotations
-unfoldable pub report_of : Answer → Report
-report_of (Refused c) = refused c
-report_of (Covariance δ sweeps rotations) = reported 0 δ zero⁺ sweeps rotations
-report_of (Intensity δ) = reported 0 δ zero⁺ 0 0
-report_of Mean = reported 0 zero⁺ zero⁺ 0 0
-report_of (Shrunk α μ₀ sweeps rotations) = reported 0 α μ₀ sweeps rotations
+unfoldable pub report_of : Result Answer Refusal → Report
+report_of (Err c) = refused c
+report_of (Ok (Covariance δ sweeps rotations)) = reported 0 δ zero⁺ sweeps rotations
+report_of (Ok (Intensity δ)) = reported 0 δ zero⁺ 0 0
+report_of (Ok Mean) = reported 0 zero⁺ zero⁺ 0 0
+report_of (Ok (Shrunk α μ₀ sweeps rotations)) = reported 0 α μ₀ sweeps rotations

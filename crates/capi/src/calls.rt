@@ -6,7 +6,7 @@ ghost use Rattle.capi.specs.Report as Reports;
 ghost use Rattle.capi.specs.Calls as Calls;
 
 use crate::report::{hand_out, report_of, reported};
-use crate::settings::{known, settings_of};
+use crate::settings::{settings_of, target_from};
 use estimators::calls;
 use rules::Decay;
 
@@ -14,6 +14,7 @@ use rules::Decay;
 pub(crate) const UNKNOWN_KIND: u32 = 100;
 
 // A value is read where its kind has one.
+#[tactic(auto, unfolding(crate::specs::Calls::engine_adjusted_covariance, crate::specs::Calls::when_known))]
 pub fn engine_adjusted_covariance(
     returns: &[f64],
     assets: usize,
@@ -33,10 +34,7 @@ pub fn engine_adjusted_covariance(
 ) -> u32
     ensures { Calls.left (Reports.handed result numbers.new wholes.new) answer.new ≡ Calls.engine_adjusted_covariance returns.now assets periods estimate estimate_value shrinkage shrinkage_value regularization regularization_value limit given.now side answer.old }
 {
-    if !known(estimate, shrinkage, regularization) {
-        return hand_out(reported(UNKNOWN_KIND, 0.0, 0.0, 0, 0), numbers, wholes);
-    }
-    let settings = settings_of(
+    let Some(settings) = settings_of(
         estimate,
         estimate_value,
         shrinkage,
@@ -44,11 +42,14 @@ pub fn engine_adjusted_covariance(
         regularization,
         regularization_value,
         limit,
-    );
+    ) else {
+        return hand_out(reported(UNKNOWN_KIND, 0.0, 0.0, 0, 0), numbers, wholes);
+    };
     let told = calls::adjusted_covariance(returns, assets, periods, settings, given, side, answer);
     hand_out(report_of(told), numbers, wholes)
 }
 
+#[tactic(auto, unfolding(crate::specs::Calls::engine_ledoit_wolf, crate::specs::Calls::when_known))]
 pub fn engine_ledoit_wolf(
     returns: &[f64],
     assets: usize,
@@ -59,15 +60,10 @@ pub fn engine_ledoit_wolf(
 ) -> u32
     ensures { Reports.handed result numbers.new wholes.new ≡ Calls.engine_ledoit_wolf returns.now assets periods target }
 {
-    if target > 1 {
+    let Some(target) = target_from(target) else {
         return hand_out(reported(UNKNOWN_KIND, 0.0, 0.0, 0, 0), numbers, wholes);
-    }
-    let told = calls::ledoit_wolf(
-        returns,
-        assets,
-        periods,
-        rules::targets::target(target as u64),
-    );
+    };
+    let told = calls::ledoit_wolf(returns, assets, periods, target);
     hand_out(report_of(told), numbers, wholes)
 }
 

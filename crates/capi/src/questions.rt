@@ -5,14 +5,10 @@ ghost use Rattle.capi.specs.Record as Records;
 ghost use Rattle.capi.specs.Questions as Questions;
 
 use crate::calls::UNKNOWN_KIND;
-use crate::record::{
-    bits_of, estimate_from, known_question, limit_from, regularization_from, shrinkage_from,
-    wholes_of,
-};
+use crate::record::{bits_of, question_from, wholes_of};
 use crate::report::{Report, hand_out, reported};
-use paper::question::{Question, asked_of};
-use paper::reading::{Read, read_question};
-use writer::calls::{Written, write_question};
+use paper::reading::{ReadError, read_question};
+use writer::calls::{WriteError, write_question};
 
 // The numbers of the writer's refusals: the definitions' `broken_number` and `short_number`.
 const BROKEN: u32 = 17;
@@ -24,17 +20,18 @@ const MALFORMED: u32 = 15;
 
 const SHORT_SLICE: u32 = 4;
 
-fn report_of_written(answer: Written) -> Report
-    ensures { result ≡ Questions.report_of_written answer }
+fn report_of_written(told: Result<usize, WriteError>) -> Report
+    ensures { result ≡ Questions.report_of_written told }
 {
-    match answer {
-        Written::BreaksFormat => reported(BROKEN, 0.0, 0.0, 0, 0),
-        Written::TooShort => reported(SHORT_OUTPUT, 0.0, 0.0, 0, 0),
-        Written::Bytes(count) => reported(0, 0.0, 0.0, count, 0),
+    match told {
+        Err(WriteError::BreaksFormat) => reported(BROKEN, 0.0, 0.0, 0, 0),
+        Err(WriteError::TooShort) => reported(SHORT_OUTPUT, 0.0, 0.0, 0, 0),
+        Ok(count) => reported(0, 0.0, 0.0, count, 0),
     }
 }
 
 // Bits and a limit are read where their kind has them.
+#[tactic(auto, unfolding(crate::specs::Questions::engine_write_question))]
 pub fn engine_write_question(
     assets: usize,
     periods: usize,
@@ -55,22 +52,26 @@ pub fn engine_write_question(
 ) -> u32
     ensures { Questions.left_file (Reports.handed result numbers.new wholes.new) out.new ≡ Questions.engine_write_question (Records.known_question estimate shrinkage regularization has_limit question) (Records.question_from assets periods estimate estimate_bits shrinkage shrinkage_bits regularization regularization_bits has_limit limit question) returns.now given.now out.old }
 {
-    if !known_question(estimate, shrinkage, regularization, has_limit, question) {
-        return hand_out(reported(UNKNOWN_KIND, 0.0, 0.0, 0, 0), numbers, wholes);
-    }
-    let q = Question {
+    let Some(q) = question_from(
         assets,
         periods,
-        estimate: estimate_from(estimate, estimate_bits),
-        shrinkage: shrinkage_from(shrinkage, shrinkage_bits),
-        regularization: regularization_from(regularization, regularization_bits),
-        limit: limit_from(has_limit, limit),
-        asked: asked_of(question as u64),
+        estimate,
+        estimate_bits,
+        shrinkage,
+        shrinkage_bits,
+        regularization,
+        regularization_bits,
+        has_limit,
+        limit,
+        question,
+    ) else {
+        return hand_out(reported(UNKNOWN_KIND, 0.0, 0.0, 0, 0), numbers, wholes);
     };
     let told = write_question(q, returns, given, out);
     hand_out(report_of_written(told), numbers, wholes)
 }
 
+#[tactic(auto, unfolding(crate::specs::Questions::engine_read_question))]
 pub fn engine_read_question(
     file: &[u8],
     returns: &mut [u64],
@@ -81,13 +82,11 @@ pub fn engine_read_question(
     ensures { Questions.left_record result returns.new given.new bits.new wholes.new ≡ Questions.engine_read_question file.now returns.old given.old bits.old wholes.old }
 {
     match read_question(file, returns, given) {
-        Read::Malformed => MALFORMED,
-        Read::TooShort => SHORT_SLICE,
-        Read::Found(q) => {
-            let x = bits_of(q);
-            *bits = x;
-            let i = wholes_of(q);
-            *wholes = i;
+        Err(ReadError::Malformed) => MALFORMED,
+        Err(ReadError::TooShort) => SHORT_SLICE,
+        Ok(q) => {
+            *bits = bits_of(q);
+            *wholes = wholes_of(q);
             0
         }
     }

@@ -1,81 +1,107 @@
 // A question record in numbers: a kind each, with the bits that some kinds have (include/engine.h).
-ghost use Rattle.std.specs.Prelude.{◌≡◌};
+ghost use Rattle.std.specs.Prelude.{◌≡◌, ltb, is_some, IfSome};
 ghost use Rattle.capi.specs.Record as Records;
+ghost use Rattle.capi.specs.Settings as Kinds;
+ghost use Rattle.paper.specs.Question as Questions;
 
-use crate::settings::known;
-use paper::question::{Asked, EstimateBits, Limit, Question, RegularizationBits, ShrinkageBits};
+use paper::question::{Asked, EstimateBits, Question, RegularizationBits, ShrinkageBits};
 use rules::Target;
 
-// How many numbers stand for a question: the definitions' `question_kinds`.
-const QUESTION_KINDS: u32 = 4;
+// A number that stands for no kind gives none.
+#[tactic(auto, unfolding(crate::specs::Record::estimate_from))]
+fn estimate_from(kind: u32, bits: u64) -> Option<EstimateBits>
+    ensures known { is_some result ≡ ltb kind Kinds.estimate_kinds }
+    ensures value { IfSome result (λ e. e ≡ Records.estimate_from kind bits) }
+{
+    match kind {
+        0 => Some(EstimateBits::Sample),
+        1 => Some(EstimateBits::Given),
+        2 => Some(EstimateBits::HalfLife(bits)),
+        3 => Some(EstimateBits::Semi),
+        4 => Some(EstimateBits::SemiBelow(bits)),
+        5 => Some(EstimateBits::Lambda(bits)),
+        _ => None,
+    }
+}
 
-pub(crate) fn known_question(
+#[tactic(auto, unfolding(crate::specs::Record::shrinkage_from, rules::specs::Settings::target_of))]
+fn shrinkage_from(kind: u32, bits: u64) -> Option<ShrinkageBits>
+    ensures known { is_some result ≡ ltb kind Kinds.shrinkage_kinds }
+    ensures value { IfSome result (λ s. s ≡ Records.shrinkage_from kind bits) }
+{
+    match kind {
+        0 => Some(ShrinkageBits::Unshrunk),
+        1 => Some(ShrinkageBits::Fixed(bits)),
+        2 => Some(ShrinkageBits::LedoitWolf(Target::ConstantVariance)),
+        3 => Some(ShrinkageBits::LedoitWolf(Target::ConstantCorrelation)),
+        _ => None,
+    }
+}
+
+#[tactic(auto, unfolding(crate::specs::Record::regularization_from))]
+fn regularization_from(kind: u32, bits: u64) -> Option<RegularizationBits>
+    ensures known { is_some result ≡ ltb kind Kinds.regularization_kinds }
+    ensures value { IfSome result (λ r. r ≡ Records.regularization_from kind bits) }
+{
+    match kind {
+        0 => Some(RegularizationBits::Unregularized),
+        1 => Some(RegularizationBits::Ridge(bits)),
+        _ => None,
+    }
+}
+
+#[tactic(auto, unfolding(crate::specs::Record::limit_from))]
+fn limit_from(has_limit: u32, limit: usize) -> Option<Option<usize>>
+    ensures known { is_some result ≡ ltb has_limit 2 }
+    ensures value { IfSome result (λ l. l ≡ Records.limit_from has_limit limit) }
+{
+    match has_limit {
+        0 => Some(None),
+        1 => Some(Some(limit)),
+        _ => None,
+    }
+}
+
+#[tactic(auto, unfolding(paper::specs::Question::asked_of))]
+fn asked_from(question: u32) -> Option<Asked>
+    ensures known { is_some result ≡ ltb question Records.question_kinds }
+    ensures value { IfSome result (λ a. a ≡ Questions.asked_of question) }
+{
+    match question {
+        0 => Some(Asked::Covariance),
+        1 => Some(Asked::WeightedMean),
+        2 => Some(Asked::JamesStein),
+        3 => Some(Asked::BayesStein),
+        _ => None,
+    }
+}
+
+#[tactic(auto, unfolding(crate::specs::Record::known_question, crate::specs::Settings::known))]
+pub(crate) fn question_from(
+    assets: usize,
+    periods: usize,
     estimate: u32,
+    estimate_bits: u64,
     shrinkage: u32,
+    shrinkage_bits: u64,
     regularization: u32,
+    regularization_bits: u64,
     has_limit: u32,
+    limit: usize,
     question: u32,
-) -> bool
-    ensures { result ≡ Records.known_question estimate shrinkage regularization has_limit question }
+) -> Option<Question>
+    ensures known { is_some result ≡ Records.known_question estimate shrinkage regularization has_limit question }
+    ensures value { IfSome result (λ q. q ≡ Records.question_from assets periods estimate estimate_bits shrinkage shrinkage_bits regularization regularization_bits has_limit limit question) }
 {
-    if !known(estimate, shrinkage, regularization) {
-        return false;
-    }
-    if has_limit >= 2 {
-        return false;
-    }
-    question < QUESTION_KINDS
-}
-
-pub(crate) fn estimate_from(kind: u32, bits: u64) -> EstimateBits
-    ensures { result ≡ Records.estimate_from kind bits }
-{
-    if kind == 0 {
-        return EstimateBits::Sample;
-    }
-    if kind == 1 {
-        return EstimateBits::Given;
-    }
-    if kind == 2 {
-        return EstimateBits::HalfLife(bits);
-    }
-    if kind == 3 {
-        return EstimateBits::Semi;
-    }
-    if kind == 4 {
-        return EstimateBits::SemiBelow(bits);
-    }
-    EstimateBits::Lambda(bits)
-}
-
-pub(crate) fn shrinkage_from(kind: u32, bits: u64) -> ShrinkageBits
-    ensures { result ≡ Records.shrinkage_from kind bits }
-{
-    if kind == 0 {
-        return ShrinkageBits::Unshrunk;
-    }
-    if kind == 1 {
-        return ShrinkageBits::Fixed(bits);
-    }
-    ShrinkageBits::LedoitWolf(rules::targets::target((kind - 2) as u64))
-}
-
-pub(crate) fn regularization_from(kind: u32, bits: u64) -> RegularizationBits
-    ensures { result ≡ Records.regularization_from kind bits }
-{
-    if kind == 0 {
-        return RegularizationBits::Unregularized;
-    }
-    RegularizationBits::Ridge(bits)
-}
-
-pub(crate) fn limit_from(has_limit: u32, limit: usize) -> Limit
-    ensures { result ≡ Records.limit_from has_limit limit }
-{
-    if has_limit == 0 {
-        return Limit::Missing;
-    }
-    Limit::Sweeps(limit)
+    Some(Question {
+        assets,
+        periods,
+        estimate: estimate_from(estimate, estimate_bits)?,
+        shrinkage: shrinkage_from(shrinkage, shrinkage_bits)?,
+        regularization: regularization_from(regularization, regularization_bits)?,
+        limit: limit_from(has_limit, limit)?,
+        asked: asked_from(question)?,
+    })
 }
 
 fn estimate_kind(estimate: EstimateBits) -> usize
@@ -95,12 +121,9 @@ fn estimate_value(estimate: EstimateBits) -> u64
     ensures { result ≡ Records.estimate_value estimate }
 {
     match estimate {
-        EstimateBits::Sample => 0,
-        EstimateBits::Given => 0,
-        EstimateBits::HalfLife(bits) => bits,
-        EstimateBits::Lambda(bits) => bits,
-        EstimateBits::Semi => 0,
-        EstimateBits::SemiBelow(bits) => bits,
+        EstimateBits::HalfLife(bits) | EstimateBits::Lambda(bits) | EstimateBits::SemiBelow(bits) =>
+            bits,
+        _ => 0,
     }
 }
 
@@ -110,10 +133,8 @@ fn shrinkage_kind(shrinkage: ShrinkageBits) -> usize
     match shrinkage {
         ShrinkageBits::Unshrunk => 0,
         ShrinkageBits::Fixed(_) => 1,
-        ShrinkageBits::LedoitWolf(target) => match target {
-            Target::ConstantVariance => 2,
-            Target::ConstantCorrelation => 3,
-        },
+        ShrinkageBits::LedoitWolf(Target::ConstantVariance) => 2,
+        ShrinkageBits::LedoitWolf(Target::ConstantCorrelation) => 3,
     }
 }
 
@@ -121,9 +142,8 @@ fn shrinkage_value(shrinkage: ShrinkageBits) -> u64
     ensures { result ≡ Records.shrinkage_value shrinkage }
 {
     match shrinkage {
-        ShrinkageBits::Unshrunk => 0,
         ShrinkageBits::Fixed(bits) => bits,
-        ShrinkageBits::LedoitWolf(_) => 0,
+        _ => 0,
     }
 }
 
@@ -145,24 +165,6 @@ fn regularization_value(regularization: RegularizationBits) -> u64
     }
 }
 
-fn has_limit(limit: Limit) -> usize
-    ensures { result ≡ Records.has_limit limit }
-{
-    match limit {
-        Limit::Missing => 0,
-        Limit::Sweeps(_) => 1,
-    }
-}
-
-fn limit_value(limit: Limit) -> usize
-    ensures { result ≡ Records.limit_value limit }
-{
-    match limit {
-        Limit::Missing => 0,
-        Limit::Sweeps(limit) => limit,
-    }
-}
-
 fn asked_kind(asked: Asked) -> usize
     ensures { result ≡ Records.asked_kind asked }
 {
@@ -174,35 +176,29 @@ fn asked_kind(asked: Asked) -> usize
     }
 }
 
+#[tactic(auto, unfolding(crate::specs::Record::bits_of))]
 pub(crate) fn bits_of(q: Question) -> [u64; 3]
     ensures { result ≡ Records.bits_of q }
 {
-    let e = q.estimate;
-    let s = q.shrinkage;
-    let r = q.regularization;
     [
-        estimate_value(e),
-        shrinkage_value(s),
-        regularization_value(r),
+        estimate_value(q.estimate),
+        shrinkage_value(q.shrinkage),
+        regularization_value(q.regularization),
     ]
 }
 
+#[tactic(auto, unfolding(crate::specs::Record::wholes_of))]
 pub(crate) fn wholes_of(q: Question) -> [usize; 8]
     ensures { result ≡ Records.wholes_of q }
 {
-    let e = q.estimate;
-    let s = q.shrinkage;
-    let r = q.regularization;
-    let l = q.limit;
-    let a = q.asked;
     [
         q.assets,
         q.periods,
-        estimate_kind(e),
-        shrinkage_kind(s),
-        regularization_kind(r),
-        has_limit(l),
-        limit_value(l),
-        asked_kind(a),
+        estimate_kind(q.estimate),
+        shrinkage_kind(q.shrinkage),
+        regularization_kind(q.regularization),
+        usize::from(q.limit.is_some()),
+        q.limit.unwrap_or(0),
+        asked_kind(q.asked),
     ]
 }

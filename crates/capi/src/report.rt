@@ -2,7 +2,6 @@
 ghost use Rattle.std.specs.Prelude.{◌≡◌};
 ghost use Rattle.capi.specs.Report as Reports;
 
-use rules::refusals::{detail, number};
 use rules::{Answer, Detail, Refusal};
 
 #[derive(Drop)]
@@ -17,10 +16,8 @@ fn first_of(detail: Detail) -> usize
     ensures { result ≡ Reports.first_of detail }
 {
     match detail {
-        Detail::Nothing => 0,
-        Detail::Only(i) => i,
-        Detail::Entry(i, _) => i,
-        Detail::Value(_) => 0,
+        Detail::Only(i) | Detail::Entry(i, _) => i,
+        _ => 0,
     }
 }
 
@@ -28,10 +25,8 @@ fn second_of(detail: Detail) -> usize
     ensures { result ≡ Reports.second_of detail }
 {
     match detail {
-        Detail::Nothing => 0,
-        Detail::Only(_) => 0,
         Detail::Entry(_, j) => j,
-        Detail::Value(_) => 0,
+        _ => 0,
     }
 }
 
@@ -39,19 +34,17 @@ fn value_or(otherwise: f64, detail: Detail) -> f64
     ensures { result ≡ Reports.value_or otherwise detail }
 {
     match detail {
-        Detail::Nothing => otherwise,
-        Detail::Only(_) => otherwise,
-        Detail::Entry(_, _) => otherwise,
         Detail::Value(x) => x,
+        _ => otherwise,
     }
 }
 
 pub(crate) fn refused(refusal: Refusal) -> Report
     ensures { result ≡ Reports.refused refusal }
 {
-    let with = detail(refusal);
+    let with = refusal.detail();
     Report {
-        number: number(refusal),
+        number: refusal.number(),
         numbers: [value_or(0.0, with), 0.0],
         wholes: [first_of(with), second_of(with)],
     }
@@ -67,17 +60,18 @@ pub(crate) fn reported(number: u32, x: f64, y: f64, i: usize, j: usize) -> Repor
     }
 }
 
-pub(crate) fn report_of(answer: Answer) -> Report
-    ensures { result ≡ Reports.report_of answer }
+#[tactic(auto, unfolding(crate::specs::Report::report_of))]
+pub(crate) fn report_of(told: Result<Answer, Refusal>) -> Report
+    ensures { result ≡ Reports.report_of told }
 {
-    match answer {
-        Answer::Refused(refusal) => refused(refusal),
-        Answer::Covariance(intensity, sweeps, rotations) => {
+    match told {
+        Err(refusal) => refused(refusal),
+        Ok(Answer::Covariance(intensity, sweeps, rotations)) => {
             reported(0, intensity, 0.0, sweeps, rotations)
         }
-        Answer::Intensity(intensity) => reported(0, intensity, 0.0, 0, 0),
-        Answer::Mean => reported(0, 0.0, 0.0, 0, 0),
-        Answer::Shrunk(intensity, target, sweeps, rotations) => {
+        Ok(Answer::Intensity(intensity)) => reported(0, intensity, 0.0, 0, 0),
+        Ok(Answer::Mean) => reported(0, 0.0, 0.0, 0, 0),
+        Ok(Answer::Shrunk(intensity, target, sweeps, rotations)) => {
             reported(0, intensity, target, sweeps, rotations)
         }
     }
@@ -87,9 +81,12 @@ pub(crate) fn report_of(answer: Answer) -> Report
 pub(crate) fn hand_out(report: Report, numbers: &mut [f64; 2], wholes: &mut [usize; 2]) -> u32
     ensures { Reports.handed result numbers.new wholes.new ≡ report }
 {
-    let x = report.numbers;
+    let Report {
+        number,
+        numbers: x,
+        wholes: i,
+    } = report;
     *numbers = x;
-    let i = report.wholes;
     *wholes = i;
-    report.number
+    number
 }

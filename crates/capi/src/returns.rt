@@ -6,17 +6,18 @@ ghost use Rattle.capi.specs.Calls as Calls;
 ghost use Rattle.capi.specs.Returns as Returns;
 
 use crate::report::{Report, hand_out, refused, reported};
-use inputs::checks::Check;
+use rules::Refusal;
 
-fn report_of_check(check: Check) -> Report
+fn report_of_check(check: Result<(), Refusal>) -> Report
     ensures { result ≡ Returns.report_of_check (checked check) }
 {
     match check {
-        Check::Passes => reported(0, 0.0, 0.0, 0, 0),
-        Check::Refuses(refusal) => refused(refusal),
+        Ok(()) => reported(0, 0.0, 0.0, 0, 0),
+        Err(refusal) => refused(refusal),
     }
 }
 
+#[tactic(auto, unfolding(crate::specs::Returns::engine_returns_from_prices))]
 pub fn engine_returns_from_prices(
     prices: &[f64],
     assets: usize,

@@ -1,70 +1,66 @@
 // Settings from numbers: a kind each, with the value that some kinds have (include/engine.h).
-ghost use Rattle.std.specs.Prelude.{◌≡◌};
+ghost use Rattle.std.specs.Prelude.{◌≡◌, ltb, is_some, IfSome};
+ghost use Rattle.rules.specs.Settings.{is_target, target_of};
 ghost use Rattle.capi.specs.Settings as Kinds;
 
-use rules::{Decay, Estimate, Regularization, Settings, Shrinkage};
+use rules::{Decay, Estimate, Regularization, Settings, Shrinkage, Target};
 
-// How many kinds there are: the definitions' `estimate_kinds`, `shrinkage_kinds` and `regularization_kinds`.
-const ESTIMATE_KINDS: u32 = 6;
-
-const SHRINKAGE_KINDS: u32 = 4;
-
-const REGULARIZATION_KINDS: u32 = 2;
-
-pub(crate) fn known(estimate: u32, shrinkage: u32, regularization: u32) -> bool
-    ensures { result ≡ Kinds.known estimate shrinkage regularization }
+// A number that stands for no kind gives none. Kinds are numbers because the C interface has them so.
+#[tactic(auto, unfolding(rules::specs::Settings::target_of))]
+pub(crate) fn target_from(kind: u32) -> Option<Target>
+    ensures known { is_some result ≡ is_target kind }
+    ensures value { IfSome result (λ t. t ≡ target_of kind) }
 {
-    if estimate >= ESTIMATE_KINDS {
-        return false;
+    match kind {
+        0 => Some(Target::ConstantVariance),
+        1 => Some(Target::ConstantCorrelation),
+        _ => None,
     }
-    if shrinkage >= SHRINKAGE_KINDS {
-        return false;
-    }
-    regularization < REGULARIZATION_KINDS
 }
 
-fn estimate_of(kind: u32, value: f64) -> Estimate
-    ensures { result ≡ Kinds.estimate_of kind value }
+#[tactic(auto, unfolding(crate::specs::Settings::estimate_of))]
+fn estimate_of(kind: u32, value: f64) -> Option<Estimate>
+    ensures known { is_some result ≡ ltb kind Kinds.estimate_kinds }
+    ensures value { IfSome result (λ e. e ≡ Kinds.estimate_of kind value) }
 {
-    if kind == 0 {
-        return Estimate::Sample;
+    match kind {
+        0 => Some(Estimate::Sample),
+        1 => Some(Estimate::Given),
+        2 => Some(Estimate::Weighted(Decay::HalfLife(value))),
+        3 => Some(Estimate::Semi),
+        4 => Some(Estimate::SemiBelow(value)),
+        5 => Some(Estimate::Weighted(Decay::Lambda(value))),
+        _ => None,
     }
-    if kind == 1 {
-        return Estimate::Given;
-    }
-    if kind == 2 {
-        return Estimate::Weighted(Decay::HalfLife(value));
-    }
-    if kind == 3 {
-        return Estimate::Semi;
-    }
-    if kind == 4 {
-        return Estimate::SemiBelow(value);
-    }
-    Estimate::Weighted(Decay::Lambda(value))
 }
 
-fn shrinkage_of(kind: u32, value: f64) -> Shrinkage
-    ensures { result ≡ Kinds.shrinkage_of kind value }
+#[tactic(auto, unfolding(crate::specs::Settings::shrinkage_of, rules::specs::Settings::target_of))]
+fn shrinkage_of(kind: u32, value: f64) -> Option<Shrinkage>
+    ensures known { is_some result ≡ ltb kind Kinds.shrinkage_kinds }
+    ensures value { IfSome result (λ s. s ≡ Kinds.shrinkage_of kind value) }
 {
-    if kind == 0 {
-        return Shrinkage::Unshrunk;
+    match kind {
+        0 => Some(Shrinkage::Unshrunk),
+        1 => Some(Shrinkage::Fixed(value)),
+        2 => Some(Shrinkage::LedoitWolf(Target::ConstantVariance)),
+        3 => Some(Shrinkage::LedoitWolf(Target::ConstantCorrelation)),
+        _ => None,
     }
-    if kind == 1 {
-        return Shrinkage::Fixed(value);
-    }
-    Shrinkage::LedoitWolf(rules::targets::target((kind - 2) as u64))
 }
 
-fn regularization_of(kind: u32, value: f64) -> Regularization
-    ensures { result ≡ Kinds.regularization_of kind value }
+#[tactic(auto, unfolding(crate::specs::Settings::regularization_of))]
+fn regularization_of(kind: u32, value: f64) -> Option<Regularization>
+    ensures known { is_some result ≡ ltb kind Kinds.regularization_kinds }
+    ensures value { IfSome result (λ r. r ≡ Kinds.regularization_of kind value) }
 {
-    if kind == 0 {
-        return Regularization::Unregularized;
+    match kind {
+        0 => Some(Regularization::Unregularized),
+        1 => Some(Regularization::Ridge(value)),
+        _ => None,
     }
-    Regularization::Ridge(value)
 }
 
+#[tactic(auto, unfolding(crate::specs::Settings::known))]
 pub(crate) fn settings_of(
     estimate: u32,
     estimate_value: f64,
@@ -73,13 +69,14 @@ pub(crate) fn settings_of(
     regularization: u32,
     regularization_value: f64,
     limit: usize,
-) -> Settings
-    ensures { result ≡ Kinds.settings_of estimate estimate_value shrinkage shrinkage_value regularization regularization_value limit }
+) -> Option<Settings>
+    ensures known { is_some result ≡ Kinds.known estimate shrinkage regularization }
+    ensures value { IfSome result (λ s. s ≡ Kinds.settings_of estimate estimate_value shrinkage shrinkage_value regularization regularization_value limit) }
 {
-    Settings {
-        estimate: estimate_of(estimate, estimate_value),
-        shrinkage: shrinkage_of(shrinkage, shrinkage_value),
-        regularization: regularization_of(regularization, regularization_value),
+    Some(Settings {
+        estimate: estimate_of(estimate, estimate_value)?,
+        shrinkage: shrinkage_of(shrinkage, shrinkage_value)?,
+        regularization: regularization_of(regularization, regularization_value)?,
         limit,
-    }
+    })
 }

@@ -45,6 +45,7 @@ fn mix_correlation(intensity: f64, b: &[f64], n: usize, volatilities: &mut [f64]
 }
 
 // Shrunk towards the target of the shrinkage, a fixed one towards constant variance. `volatilities` is to reckon in.
+// Two arms have one body: joined by `|`, a proof no longer sees which of them it is in.
 fn shrink(
     shrinkage: Shrinkage,
     intensity: f64,
@@ -89,6 +90,7 @@ fn regularize(regularization: Regularization, n: usize, unit: &mut [f64], out: &
 }
 
 // Shrunk, then regularized.
+#[tactic(auto, using(matrix::proofs::Lent::lent))]
 pub fn adjust(settings: Settings, intensity: f64, b: &[f64], n: usize, out: &mut [f64])
     requires { (0 < n) × (n ≤ max_side) × (length b.now ≡ n * n) × (length out.old ≡ n * n) }
     ensures { out.new ≡ Adjusted.adjusted_of settings intensity n b.now }

@@ -9,6 +9,7 @@ ghost use Rattle.rules.specs.Order.{max_periods};
 use crate::decay::log_decay;
 use crate::{semi, weighted};
 use rules::Estimate;
+use tables::returns::Returns;
 
 // The estimate. `sample` is the sample covariance, `given` the averaged given matrix, any table where there is none.
 pub fn put_base(
@@ -23,6 +24,11 @@ pub fn put_base(
     requires { (length r.now ≡ periods * n) × (n ≤ max_side) × (1 ≤ periods) × (periods ≤ max_periods) × (sample.now ≡ rows n n (Sample.covariance periods (at r.now n))) × (length given.now ≡ n * n) × (length out.old ≡ n * n) }
     ensures { out.new ≡ rows n n (Adjusted.base estimate periods (at r.now n) (at given.now n)) }
 {
+    let returns = &Returns {
+        numbers: r,
+        assets: n,
+        periods,
+    };
     match estimate {
         Estimate::Sample => {
             matrix::tables::copy(sample, out);
@@ -31,13 +37,13 @@ pub fn put_base(
             matrix::tables::copy(given, out);
         }
         Estimate::Weighted(decay) => {
-            weighted::covariance(log_decay(decay), r, n, periods, out);
+            weighted::covariance(log_decay(decay), returns, out);
         }
         Estimate::Semi => {
-            semi::semicovariance(r, n, periods, out);
+            semi::semicovariance(returns, out);
         }
         Estimate::SemiBelow(threshold) => {
-            semi::semicovariance_below(threshold, r, n, periods, out);
+            semi::semicovariance_below(threshold, returns, out);
         }
     }
 }

@@ -4,7 +4,7 @@ ghost use Rattle.rules.specs.Weighted as Weighted;
 ghost use Rattle.rules.specs.Order as Order;
 ghost use Rattle.inputs.specs.Checks.{checked};
 
-use inputs::checks::{Check, when};
+use inputs::checks::when;
 use rules::{Decay, Field, Refusal};
 
 // ln λ.
@@ -47,7 +47,8 @@ fn field(decay: Decay) -> Field
 }
 
 // Refusal 7 for field 3, or for field 6 in its place.
-pub fn bad_decay(decay: Decay) -> Check
+#[tactic(auto, unfolding(rules::specs::Order::bad_decay))]
+pub fn bad_decay(decay: Decay) -> Result<(), Refusal>
     ensures { checked result ≡ Order.bad_decay decay }
 {
     when(!accepted_decay(decay), Refusal::BadSetting(field(decay)))

@@ -5,16 +5,17 @@ ghost use Rattle.leaves.specs.Numbers.{◌⊖◌};
 ghost use Rattle.leaves.specs.Loops.{tab, nth};
 ghost use Rattle.leaves.specs.Scaling.{binary_exponent};
 ghost use Rattle.matrix.specs.Limits.{max_side};
-ghost use Rattle.matrix.specs.Matrix.{Matrix, at, rows, trace, amax, sum_over, squares, sum_row};
+ghost use Rattle.matrix.specs.Matrix.{Matrix, at, rows, trace, amax, sum_over, squares};
 ghost use Rattle.matrix.specs.Inner.{Symmetric};
 ghost use Rattle.rules.specs.Sample as Sample;
 ghost use Rattle.rules.specs.LedoitWolf as LedoitWolf;
 ghost use Rattle.rules.specs.LedoitWolf.{apart, variation, covariation, cross_covariation, intensity_of, intensity_from, second_moments};
 ghost use Rattle.tables.specs.Exponents.{max_exponent};
-ghost use Rattle.tables.specs.Rows.{centered};
+ghost use Rattle.tables.specs.Rows.{return_at, matrix_of};
 
 use crate::{sample, targets};
 use rules::Target;
+use tables::returns::{Returns, Rows};
 use tables::rows::Row;
 use tables::scales::exponent;
 use tables::{columns, gram, powers, vectors};
@@ -28,45 +29,13 @@ fn squared_distance(s: &[f64], n: usize, work: &mut [f64]) -> f64
     matrix::sums::squares(work, n)
 }
 
-// The summands of ρ in row i, added to `sum`.
-fn add_covariations(
-    r: f64,
-    volatilities: &[f64],
-    theta: &[f64],
-    n: usize,
-    i: usize,
-    sum: f64,
-) -> f64
-    requires { (i < n) × (length volatilities.now ≡ n) × (length theta.now ≡ n * n) }
-    ensures { result ≡ sum_row n apart (cross_covariation r (nth volatilities.now) (at theta.now n)) i sum }
-{
-    let base = i * n;
-    let mut t = sum;
-    let mut j = 0;
-    while j < n {
-        t = targets::add_apart(
-            i,
-            j,
-            t,
-            r * volatilities[j] / volatilities[i] * theta[base + j],
-        );
-        j += 1;
-    }
-    t
-}
-
 // ρ, from the average correlation r and the volatilities.
 fn target_covariation(r: f64, volatilities: &[f64], pi: &[f64], theta: &[f64], n: usize) -> f64
     requires { (length volatilities.now ≡ n) × (length pi.now ≡ n * n) × (length theta.now ≡ n * n) }
     ensures { result ≡ sum_over n apart (cross_covariation r (nth volatilities.now) (at theta.now n)) (trace n (at pi.now n)) }
 {
-    let mut t = matrix::sums::trace(pi, n);
-    let mut i = 0;
-    while i < n {
-        t = add_covariations(r, volatilities, theta, n, i, t);
-        i += 1;
-    }
-    t
+    let covariation = |i: usize, j: usize| r * volatilities[j] / volatilities[i] * theta[i * n + j];
+    targets::sum_apart(n, matrix::sums::trace(pi, n), covariation)
 }
 
 // δ, in [0, 1], from the estimation error and γ.
@@ -75,9 +44,10 @@ fn intensity(error: f64, periods: usize, gamma: f64) -> f64
 {
     if 0.0 < gamma {
         let t = std::num::nearest_u64_to_f64(periods as u64);
-        return leaves::numbers::clamp01(error / t / gamma);
+        leaves::numbers::clamp01(error / t / gamma)
+    } else {
+        0.0
     }
-    0.0
 }
 
 // δ towards the average variance.
@@ -113,54 +83,47 @@ fn to_correlation(
 }
 
 // s, the second moments of the rows.
-fn put_second_moments(
-    row: Row,
-    r: &[f64],
-    n: usize,
-    periods: usize,
-    centers: &[f64],
-    out: &mut [f64],
-)
-    requires { (length r.now ≡ periods * n) × (n ≤ max_side) × (length centers.now ≡ n) × (length out.old ≡ n * n) }
-    ensures { (out.new ≡ second_moments periods n (centered row n centers.now r.now)) × Symmetric n out.new }
+fn put_second_moments(z: &Rows, out: &mut [f64])
+    requires { length out.old ≡ z.now.returns.assets * z.now.returns.assets }
+    ensures { (out.new ≡ second_moments z.now.returns.periods z.now.returns.assets (matrix_of z.now)) × Symmetric z.now.returns.assets out.new }
 {
-    let none = [0.0; 0];
-    gram::gram(row, r, n, periods, &none, centers, &none, out);
+    let periods = z.returns.periods;
+    gram::gram(z, out);
     vectors::divide(std::num::nearest_u64_to_f64(periods as u64), out);
 }
 
 // δ of the rows. The tables are to reckon in.
 fn of_rows_in(
     target: Target,
-    row: Row,
-    r: &[f64],
-    n: usize,
-    periods: usize,
-    centers: &[f64],
+    z: &Rows,
     s: &mut [f64],
     pi: &mut [f64],
     theta: &mut [f64],
     volatilities: &mut [f64],
     work: &mut [f64],
 ) -> f64
-    requires { (0 < n) × (n ≤ max_side) × (length r.now ≡ periods * n) × (length centers.now ≡ n) × (length s.old ≡ n * n) × (length pi.old ≡ n * n) × (length theta.old ≡ n * n) × (length volatilities.old ≡ n) × (length work.old ≡ n * n) }
-    ensures { result ≡ intensity_from target periods n (centered row n centers.now r.now) }
+    requires { (0 < z.now.returns.assets) × (length s.old ≡ z.now.returns.assets * z.now.returns.assets) × (length pi.old ≡ z.now.returns.assets * z.now.returns.assets) × (length theta.old ≡ z.now.returns.assets * z.now.returns.assets) × (length volatilities.old ≡ z.now.returns.assets) × (length work.old ≡ z.now.returns.assets * z.now.returns.assets) }
+    ensures { result ≡ intensity_from target z.now.returns.periods z.now.returns.assets (matrix_of z.now) }
 {
-    put_second_moments(row, r, n, periods, centers, s);
-    gram::variation(row, r, n, periods, centers, s, pi);
+    let n = z.returns.assets;
+    let periods = z.returns.periods;
+    put_second_moments(z, s);
+    gram::variation(z, s, pi);
     match target {
         Target::ConstantVariance => to_variance(s, pi, n, periods, work),
         Target::ConstantCorrelation => {
-            gram::covariation(row, r, n, periods, centers, s, theta);
+            gram::covariation(z, s, theta);
             to_correlation(s, pi, theta, n, periods, volatilities, work)
         }
     }
 }
 
-fn of_rows(target: Target, row: Row, r: &[f64], n: usize, periods: usize, centers: &[f64]) -> f64
-    requires { (0 < n) × (n ≤ max_side) × (length r.now ≡ periods * n) × (length centers.now ≡ n) }
-    ensures { result ≡ intensity_from target periods n (centered row n centers.now r.now) }
+#[tactic(auto, using(matrix::proofs::Lent::lent))]
+fn of_rows(target: Target, z: &Rows) -> f64
+    requires { 0 < z.now.returns.assets }
+    ensures { result ≡ intensity_from target z.now.returns.periods z.now.returns.assets (matrix_of z.now) }
 {
+    let n = z.returns.assets;
     let mut s = [0.0; matrix::MAX_SIDE * matrix::MAX_SIDE];
     let mut pi = [0.0; matrix::MAX_SIDE * matrix::MAX_SIDE];
     let mut theta = [0.0; matrix::MAX_SIDE * matrix::MAX_SIDE];
@@ -169,11 +132,7 @@ fn of_rows(target: Target, row: Row, r: &[f64], n: usize, periods: usize, center
     let size = n * n;
     of_rows_in(
         target,
-        row,
-        r,
-        n,
-        periods,
-        centers,
+        z,
         &mut s[..size],
         &mut pi[..size],
         &mut theta[..size],
@@ -183,15 +142,23 @@ fn of_rows(target: Target, row: Row, r: &[f64], n: usize, periods: usize, center
 }
 
 // The exponent of the largest distance from the mean. `sizes` is to reckon in.
-fn largest_exponent(r: &[f64], n: usize, periods: usize, means: &[f64], sizes: &mut [f64]) -> i32
-    requires { (n ≤ max_side) × (length r.now ≡ periods * n) × (length means.now ≡ n) × (length sizes.old ≡ n) }
-    ensures { (unsigned_abs result ≤ max_exponent) × (means.now ≡ tab n (Sample.mean periods (at r.now n)) → result ≡ binary_exponent (amax periods n (Sample.deviation periods (at r.now n)))) }
+fn largest_exponent(r: &Returns, means: &[f64], sizes: &mut [f64]) -> i32
+    requires { (length means.now ≡ r.now.assets) × (length sizes.old ≡ r.now.assets) }
+    ensures { (unsigned_abs result ≤ max_exponent) × (means.now ≡ tab r.now.assets (Sample.mean r.now.periods (return_at r.now)) → result ≡ binary_exponent (amax r.now.periods r.now.assets (Sample.deviation r.now.periods (return_at r.now)))) }
 {
-    columns::amax(Row::Deviation, r, n, periods, means, sizes);
+    let z = Rows {
+        row: Row::Deviation,
+        returns: *r,
+        units: &[],
+        centers: means,
+        weights: &[],
+    };
+    columns::amax(&z, sizes);
     exponent(leaves::sums::amax(sizes))
 }
 
 // δ of the returns: the second moments, π and θ of the deviations over a power of two near the largest.
+#[tactic(auto, using(matrix::proofs::Lent::lent))]
 pub fn ledoit_wolf(target: Target, r: &[f64], n: usize, periods: usize) -> f64
     requires { (length r.now ≡ periods * n) × (0 < n) × (n ≤ max_side) }
     ensures { result ≡ LedoitWolf.ledoit_wolf target periods n (at r.now n) }
@@ -199,15 +166,20 @@ pub fn ledoit_wolf(target: Target, r: &[f64], n: usize, periods: usize) -> f64
     let mut means = [0.0; matrix::MAX_SIDE];
     let mut sizes = [0.0; matrix::MAX_SIDE];
     let centers = &mut means[..n];
-    sample::means(r, n, periods, centers);
-    let e = largest_exponent(r, n, periods, centers, &mut sizes[..n]);
-    let power = powers::factors(-e);
-    of_rows(
-        target,
-        Row::Scaled(power.near, power.far),
-        r,
-        n,
+    let returns = &Returns {
+        numbers: r,
+        assets: n,
         periods,
+    };
+    sample::means(returns, centers);
+    let e = largest_exponent(returns, centers, &mut sizes[..n]);
+    let power = powers::factors(-e);
+    let z = Rows {
+        row: Row::Scaled(power.near, power.far),
+        returns: *returns,
+        units: &[],
         centers,
-    )
+        weights: &[],
+    };
+    of_rows(target, &z)
 }

@@ -1,4 +1,5 @@
-// The estimates of a covariance, the intensity of Ledoit and Wolf, and the adjustments.
+// The estimates of a covariance, the intensity of Ledoit and Wolf, and the adjustments. There is no heap: what a function reckons in is an array of
+// the largest size, of which it lends the part that it needs.
 #![tactic(auto)]
 
 pub mod adjusted;

@@ -7,68 +7,103 @@ ghost use Rattle.rules.specs.Sample as Sample;
 ghost use Rattle.rules.specs.Sample.{volatility};
 ghost use Rattle.rules.specs.Order.{constant_returns};
 ghost use Rattle.inputs.specs.Checks.{checked};
-ghost use Rattle.tables.specs.Rows.{in_units};
+ghost use Rattle.tables.specs.Rows.{return_at, in_units};
 
-use inputs::checks::Check;
 use rules::Refusal;
 use tables::gram::gram;
+use tables::returns::{Returns, Rows};
 use tables::rows::Row;
 use tables::{columns, vectors};
 
 // Each asset's mean return, in its unit where there are units.
-pub fn means_in_units(r: &[f64], n: usize, periods: usize, units: &[f64], out: &mut [f64])
+#[tactic(auto, using(matrix::proofs::Lent::lent))]
+pub fn means_in_units<'a>(r: &'a [f64], n: usize, periods: usize, units: &'a [f64], out: &mut [f64])
     requires { (length r.now ≡ periods * n) × (n ≤ max_side) × (length out.old ≡ n) }
     ensures { out.new ≡ tab n (Sample.mean periods (in_units n units.now (at r.now n))) }
 {
-    let none = [0.0; 0];
     let zeros = [0.0; matrix::MAX_SIDE];
-    columns::sum(Row::Plain, r, n, periods, units, &zeros[..n], &none, out);
+    let returns = &Returns {
+        numbers: r,
+        assets: n,
+        periods,
+    };
+    let z = Rows {
+        row: Row::Plain,
+        returns: *returns,
+        units,
+        centers: &zeros[..n],
+        weights: &[],
+    };
+    columns::sum(&z, out);
     vectors::divide(std::num::nearest_u64_to_f64(periods as u64), out);
 }
 
 // The sample covariance, from these means.
-pub fn covariance_in_units(
-    r: &[f64],
+pub fn covariance_in_units<'a>(
+    r: &'a [f64],
     n: usize,
     periods: usize,
-    units: &[f64],
-    means: &[f64],
+    units: &'a [f64],
+    means: &'a [f64],
     out: &mut [f64],
 )
     requires { (length r.now ≡ periods * n) × (n ≤ max_side) × (1 ≤ periods) × (length means.now ≡ n) × (length out.old ≡ n * n) }
     ensures { means.now ≡ tab n (Sample.mean periods (in_units n units.now (at r.now n))) → out.new ≡ rows n n (Sample.covariance periods (in_units n units.now (at r.now n))) }
 {
-    let none = [0.0; 0];
-    gram(Row::Deviation, r, n, periods, units, means, &none, out);
+    let returns = &Returns {
+        numbers: r,
+        assets: n,
+        periods,
+    };
+    let z = Rows {
+        row: Row::Deviation,
+        returns: *returns,
+        units,
+        centers: means,
+        weights: &[],
+    };
+    gram(&z, out);
     vectors::divide(std::num::nearest_u64_to_f64((periods - 1) as u64), out);
 }
 
-pub(crate) fn means(r: &[f64], n: usize, periods: usize, out: &mut [f64])
-    requires { (length r.now ≡ periods * n) × (n ≤ max_side) × (length out.old ≡ n) }
-    ensures { out.new ≡ tab n (Sample.mean periods (at r.now n)) }
+pub(crate) fn means(r: &Returns, out: &mut [f64])
+    requires { length out.old ≡ r.now.assets }
+    ensures { out.new ≡ tab r.now.assets (Sample.mean r.now.periods (return_at r.now)) }
 {
-    let none = [0.0; 0];
-    means_in_units(r, n, periods, &none, out);
+    means_in_units(r.numbers, r.assets, r.periods, &[], out);
 }
 
+#[tactic(auto, using(matrix::proofs::Lent::lent))]
 pub fn covariance(r: &[f64], n: usize, periods: usize, out: &mut [f64])
     requires { (length r.now ≡ periods * n) × (n ≤ max_side) × (1 ≤ periods) × (length out.old ≡ n * n) }
     ensures { out.new ≡ rows n n (Sample.covariance periods (at r.now n)) }
 {
-    let none = [0.0; 0];
     let mut buffer = [0.0; matrix::MAX_SIDE];
     let mean = &mut buffer[..n];
-    means_in_units(r, n, periods, &none, mean);
-    covariance_in_units(r, n, periods, &none, mean, out);
+    means_in_units(r, n, periods, &[], mean);
+    covariance_in_units(r, n, periods, &[], mean, out);
 }
 
 // Each asset's largest return in size.
+#[tactic(auto, using(matrix::proofs::Lent::lent))]
 pub fn amax(r: &[f64], n: usize, periods: usize, out: &mut [f64])
     requires { (length r.now ≡ periods * n) × (n ≤ max_side) × (length out.old ≡ n) }
     ensures { out.new ≡ tab n (Sample.largest periods (at r.now n)) }
 {
     let zeros = [0.0; matrix::MAX_SIDE];
-    columns::amax(Row::Plain, r, n, periods, &zeros[..n], out);
+    let returns = &Returns {
+        numbers: r,
+        assets: n,
+        periods,
+    };
+    let z = Rows {
+        row: Row::Plain,
+        returns: *returns,
+        units: &[],
+        centers: &zeros[..n],
+        weights: &[],
+    };
+    columns::amax(&z, out);
 }
 
 // The square root of each variance.
@@ -76,24 +111,22 @@ pub fn put_volatilities(s: &[f64], n: usize, out: &mut [f64])
     requires { (length s.now ≡ n * n) × (length out.old ≡ n) }
     ensures { out.new ≡ tab n (volatility (at s.now n)) }
 {
-    let mut i = 0;
-    while i < n {
+    for i in 0..n {
         out[i] = leaves::root::sqrt(s[i * n + i]);
-        i += 1;
     }
 }
 
 // The first asset with a volatility of at most 1e-10 of its largest return.
-pub fn constant_returns(volatilities: &[f64], n: usize, sizes: &[f64]) -> Check
+// By index: with `zip` and `position`, n would stand in the contract alone.
+// A loop and not `position`: it reads two slices at i, and the refusal names i.
+pub fn constant_returns(volatilities: &[f64], n: usize, sizes: &[f64]) -> Result<(), Refusal>
     requires { (length volatilities.now ≡ n) × (length sizes.now ≡ n) }
     ensures { (s : Matrix) → volatilities.now ≡ tab n (volatility s) → checked result ≡ constant_returns n s (nth sizes.now) }
 {
-    let mut i = 0;
-    while i < n {
+    for i in 0..n {
         if volatilities[i] <= 1e-10 * sizes[i] {
-            return Check::Refuses(Refusal::ZeroVariance(i));
+            return Err(Refusal::ZeroVariance(i));
         }
-        i += 1;
     }
-    Check::Passes
+    Ok(())
 }

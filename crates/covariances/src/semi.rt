@@ -1,48 +1,51 @@
 // The semicovariance below each asset's mean, or below a threshold (covariance.rs).
 ghost use Rattle.std.specs.Prelude.{◌≡◌, ℕ, ◌*◌, ◌≤◌, length, Float};
 ghost use Rattle.leaves.specs.Loops.{tab};
-ghost use Rattle.matrix.specs.Limits.{max_side};
-ghost use Rattle.matrix.specs.Matrix.{at, rows};
+ghost use Rattle.matrix.specs.Matrix.{rows};
 ghost use Rattle.rules.specs.Semi as Semi;
+ghost use Rattle.tables.specs.Rows.{return_at};
 
 use crate::sample;
 use tables::gram::gram;
+use tables::returns::{Returns, Rows};
 use tables::rows::Row;
 use tables::vectors;
 
 // The second moments of the shortfalls below the floors, over the degrees of freedom.
-fn put_below(floors: &[f64], r: &[f64], n: usize, periods: usize, degrees: usize, out: &mut [f64])
-    requires { (length r.now ≡ periods * n) × (n ≤ max_side) × (length floors.now ≡ n) × (length out.old ≡ n * n) }
-    ensures { (f : ℕ → Float) → floors.now ≡ tab n f → out.new ≡ rows n n (Semi.below f degrees periods (at r.now n)) }
+fn put_below(floors: &[f64], r: &Returns, degrees: usize, out: &mut [f64])
+    requires { (length floors.now ≡ r.now.assets) × (length out.old ≡ r.now.assets * r.now.assets) }
+    ensures { (f : ℕ → Float) → floors.now ≡ tab r.now.assets f → out.new ≡ rows r.now.assets r.now.assets (Semi.below f degrees r.now.periods (return_at r.now)) }
 {
-    let none = [0.0; 0];
-    gram(Row::Shortfall, r, n, periods, &none, floors, &none, out);
+    let z = Rows {
+        row: Row::Shortfall,
+        returns: *r,
+        units: &[],
+        centers: floors,
+        weights: &[],
+    };
+    gram(&z, out);
     vectors::divide(std::num::nearest_u64_to_f64(degrees as u64), out);
 }
 
 // The mean takes a degree of freedom.
-pub(crate) fn semicovariance(r: &[f64], n: usize, periods: usize, out: &mut [f64])
-    requires { (length r.now ≡ periods * n) × (n ≤ max_side) × (1 ≤ periods) × (length out.old ≡ n * n) }
-    ensures { out.new ≡ rows n n (Semi.semicovariance periods (at r.now n)) }
+#[tactic(auto, using(matrix::proofs::Lent::lent))]
+pub(crate) fn semicovariance(r: &Returns, out: &mut [f64])
+    requires { (1 ≤ r.now.periods) × (length out.old ≡ r.now.assets * r.now.assets) }
+    ensures { out.new ≡ rows r.now.assets r.now.assets (Semi.semicovariance r.now.periods (return_at r.now)) }
 {
     let mut buffer = [0.0; matrix::MAX_SIDE];
-    let means = &mut buffer[..n];
-    sample::means(r, n, periods, means);
-    put_below(means, r, n, periods, periods - 1, out);
+    let means = &mut buffer[..r.assets];
+    sample::means(r, means);
+    put_below(means, r, r.periods - 1, out);
 }
 
-pub(crate) fn semicovariance_below(
-    threshold: f64,
-    r: &[f64],
-    n: usize,
-    periods: usize,
-    out: &mut [f64],
-)
-    requires { (length r.now ≡ periods * n) × (n ≤ max_side) × (length out.old ≡ n * n) }
-    ensures { out.new ≡ rows n n (Semi.semicovariance_below threshold periods (at r.now n)) }
+#[tactic(auto, using(matrix::proofs::Lent::lent))]
+pub(crate) fn semicovariance_below(threshold: f64, r: &Returns, out: &mut [f64])
+    requires { length out.old ≡ r.now.assets * r.now.assets }
+    ensures { out.new ≡ rows r.now.assets r.now.assets (Semi.semicovariance_below threshold r.now.periods (return_at r.now)) }
 {
     let mut buffer = [0.0; matrix::MAX_SIDE];
-    let floors = &mut buffer[..n];
+    let floors = &mut buffer[..r.assets];
     vectors::fill(threshold, floors);
-    put_below(floors, r, n, periods, periods, out);
+    put_below(floors, r, r.periods, out);
 }

@@ -1,11 +1,11 @@
 // What a covariance s, an n × n table, is shrunk to: its average variance, or its volatilities with their average correlation
 // (covariance.rs, `average_correlation`, `constant_correlation`).
-ghost use Rattle.std.specs.Prelude.{◌≡◌, ℕ, ◌*◌, ◌<◌, ◌≤◌, length, if◌then◌else◌, nat_eq};
+ghost use Rattle.std.specs.Prelude.{◌≡◌, ℕ, ◌*◌, ◌<◌, ◌≤◌, length, if◌then◌else◌, nat_eq, Float};
 ghost use Rattle.leaves.specs.Numbers.{◌⊗◌};
 ghost use Rattle.leaves.specs.Loops.{tab, nth};
 ghost use Rattle.matrix.specs.Limits.{max_side};
-ghost use Rattle.matrix.specs.Matrix.{at, rows, add_kept, sum_row};
-ghost use Rattle.rules.specs.Sample.{volatility, correlation_by};
+ghost use Rattle.matrix.specs.Matrix.{Matrix, at, rows, sum_over};
+ghost use Rattle.rules.specs.Sample.{volatility};
 ghost use Rattle.rules.specs.LedoitWolf as LedoitWolf;
 ghost use Rattle.rules.specs.LedoitWolf.{apart};
 
@@ -17,24 +17,18 @@ pub(crate) fn average_variance(s: &[f64], n: usize) -> f64
     matrix::sums::trace(s, n) / std::num::nearest_u64_to_f64(n as u64)
 }
 
-// x added to a sum over i and j other than i.
-pub(crate) fn add_apart(i: usize, j: usize, sum: f64, x: f64) -> f64
-    ensures { result ≡ add_kept apart (λ (i j : ℕ). x) i j sum }
+// The numbers f(i, j) over i and j other than i, added to `first`.
+pub(crate) fn sum_apart<F: Fn(usize, usize) -> f64>(n: usize, first: f64, f: F) -> f64
+    requires { (i j : ℕ) → i < n → j < n → F.pre f i j }
+    ensures { (x : Matrix) → ((i j : ℕ) (y : Float) → i < n → j < n → F.post f i j y → y ≡ x i j) → result ≡ sum_over n apart x first }
 {
-    if i == j { sum } else { sum + x }
-}
-
-// The correlations of asset i with the others, added to `sum`.
-fn add_correlations(s: &[f64], volatilities: &[f64], n: usize, i: usize, sum: f64) -> f64
-    requires { (i < n) × (length s.now ≡ n * n) × (length volatilities.now ≡ n) }
-    ensures { result ≡ sum_row n apart (correlation_by (nth volatilities.now) (at s.now n)) i sum }
-{
-    let base = i * n;
-    let mut t = sum;
-    let mut j = 0;
-    while j < n {
-        t = add_apart(i, j, t, s[base + j] / volatilities[i] / volatilities[j]);
-        j += 1;
+    let mut t = first;
+    for i in 0..n {
+        for j in 0..n {
+            if i != j {
+                t = t + f(i, j);
+            }
+        }
     }
     t
 }
@@ -44,12 +38,8 @@ pub(crate) fn average_correlation(s: &[f64], volatilities: &[f64], n: usize) -> 
     requires { (0 < n) × (n ≤ max_side) × (length s.now ≡ n * n) × (volatilities.now ≡ tab n (volatility (at s.now n))) }
     ensures { result ≡ LedoitWolf.average_correlation n (at s.now n) }
 {
-    let mut t = 0.0;
-    let mut i = 0;
-    while i < n {
-        t = add_correlations(s, volatilities, n, i, t);
-        i += 1;
-    }
+    let correlation = |i: usize, j: usize| s[i * n + j] / volatilities[i] / volatilities[j];
+    let t = sum_apart(n, 0.0, correlation);
     t / std::num::nearest_u64_to_f64((n * (n - 1)) as u64)
 }
 
@@ -59,10 +49,8 @@ fn put_row(r: f64, volatilities: &[f64], i: usize, variance: f64, out: &mut [f64
     ensures { out.new ≡ tab (length out.old) (λ (j : ℕ). (if nat_eq i j then variance else (r ⊗ nth volatilities.now i ⊗ nth volatilities.now j))) }
 {
     let scale = r * volatilities[i];
-    let mut j = 0;
-    while j < out.len() {
+    for j in 0..out.len() {
         out[j] = scale * volatilities[j];
-        j += 1;
     }
     out[i] = variance;
 }
@@ -78,12 +66,10 @@ pub(crate) fn put_constant_correlation(
     requires { (length s.now ≡ n * n) × (r ≡ LedoitWolf.average_correlation n (at s.now n)) × (volatilities.now ≡ tab n (volatility (at s.now n))) × (length out.old ≡ n * n) }
     ensures { out.new ≡ rows n n (LedoitWolf.constant_correlation n (at s.now n)) }
 {
-    let mut i = 0;
-    while i < n {
+    for i in 0..n {
         let base = i * n;
         let end = base + n;
         let variance = s[base + i];
         put_row(r, volatilities, i, variance, &mut out[base..end]);
-        i += 1;
     }
 }

@@ -9,10 +9,12 @@ ghost use Rattle.rules.specs.Weighted as Weighted;
 ghost use Rattle.rules.specs.BayesStein.{exponent_at};
 ghost use Rattle.rules.specs.Order.{max_periods};
 ghost use Rattle.tables.specs.Exponents.{Exponents};
+ghost use Rattle.tables.specs.Rows.{return_at};
 
 use crate::sample;
 use tables::gram::gram;
 use tables::powers::put_units;
+use tables::returns::{Returns, Rows};
 use tables::rows::Row;
 use tables::{columns, scales, vectors};
 
@@ -20,11 +22,10 @@ use tables::{columns, scales, vectors};
 fn put_weights(l: f64, out: &mut [f64])
     ensures { out.new ≡ Weighted.weights (length out.old) l }
 {
-    let mut t = 0;
-    while t < out.len() {
-        let back = std::num::nearest_u64_to_f64((out.len() - 1 - t) as u64);
-        out[t] = leaves::exponential::exp(back * l);
-        t += 1;
+    let periods = out.len();
+    for (t, w) in out.iter_mut().enumerate() {
+        let back = std::num::nearest_u64_to_f64((periods - 1 - t) as u64);
+        *w = leaves::exponential::exp(back * l);
     }
 }
 
@@ -44,89 +45,77 @@ fn put_roots(weights: &[f64], denominator: f64, out: &mut [f64])
     requires { length weights.now ≡ length out.old }
     ensures { out.new ≡ tab (length out.old) (λ (t : ℕ). sqrt (nth weights.now t ⊘ denominator)) }
 {
-    let mut t = 0;
-    while t < out.len() {
+    for t in 0..out.len() {
         out[t] = leaves::root::sqrt(weights[t] / denominator);
-        t += 1;
     }
 }
 
 // The weighted means in units of the powers of two.
-fn put_means(
-    r: &[f64],
-    n: usize,
-    periods: usize,
-    exponents: &[i32],
-    weights: &[f64],
-    out: &mut [f64],
-)
-    requires { (length r.now ≡ periods * n) × (n ≤ max_side) × (length exponents.now ≡ n) × Exponents exponents.now × (length weights.now ≡ periods) × (length out.old ≡ n) }
-    ensures { out.new ≡ tab n (λ (i : ℕ). Weighted.scaled_mean periods weights.now (at r.now n) i (exponent_at exponents.now i)) }
+#[tactic(auto, using(matrix::proofs::Lent::lent))]
+fn put_means(r: &Returns, exponents: &[i32], weights: &[f64], out: &mut [f64])
+    requires { (length exponents.now ≡ r.now.assets) × Exponents exponents.now × (length weights.now ≡ r.now.periods) × (length out.old ≡ r.now.assets) }
+    ensures { out.new ≡ tab r.now.assets (λ (i : ℕ). Weighted.scaled_mean r.now.periods weights.now (return_at r.now) i (exponent_at exponents.now i)) }
 {
+    let n = r.assets;
     let zeros = [0.0; matrix::MAX_SIDE];
     let mut buffer = [0.0; 2 * matrix::MAX_SIDE];
     let twice = n + n;
     let units = &mut buffer[..twice];
     put_units(exponents, n, units);
-    columns::sum(
-        Row::Weighted,
-        r,
-        n,
-        periods,
+    let z = Rows {
+        row: Row::Weighted,
+        returns: *r,
         units,
-        &zeros[..n],
+        centers: &zeros[..n],
         weights,
-        out,
-    );
+    };
+    columns::sum(&z, out);
     vectors::divide(leaves::sums::sum(weights), out);
 }
 
 // Σ wₜ xₜ / Σ wₜ of each asset, by way of a power of two near its largest return.
-fn means(r: &[f64], n: usize, periods: usize, weights: &[f64], out: &mut [f64])
-    requires { (length r.now ≡ periods * n) × (n ≤ max_side) × (length weights.now ≡ periods) × (length out.old ≡ n) }
-    ensures { out.new ≡ tab n (Weighted.weighted_mean periods weights.now (at r.now n)) }
+#[tactic(auto, using(matrix::proofs::Lent::lent))]
+fn means(r: &Returns, weights: &[f64], out: &mut [f64])
+    requires { (length weights.now ≡ r.now.periods) × (length out.old ≡ r.now.assets) }
+    ensures { out.new ≡ tab r.now.assets (Weighted.weighted_mean r.now.periods weights.now (return_at r.now)) }
 {
     let mut buffer = [0; matrix::MAX_SIDE];
-    let exponents = &mut buffer[..n];
-    sample::amax(r, n, periods, out);
+    let exponents = &mut buffer[..r.assets];
+    sample::amax(r.numbers, r.assets, r.periods, out);
     scales::put_exponents(out, exponents);
-    put_means(r, n, periods, exponents, weights, out);
+    put_means(r, exponents, weights, out);
     scales::scale_back(exponents, out);
 }
 
 // `covariance`, with three slices to reckon in.
 fn covariance_in(
     l: f64,
-    r: &[f64],
-    n: usize,
-    periods: usize,
+    r: &Returns,
     weights: &mut [f64],
     roots: &mut [f64],
     centers: &mut [f64],
     out: &mut [f64],
 )
-    requires { (length r.now ≡ periods * n) × (n ≤ max_side) × (1 ≤ periods) × (length weights.old ≡ periods) × (length roots.old ≡ periods) × (length centers.old ≡ n) × (length out.old ≡ n * n) }
-    ensures { out.new ≡ rows n n (Weighted.weighted_covariance periods l (at r.now n)) }
+    requires { (1 ≤ r.now.periods) × (length weights.old ≡ r.now.periods) × (length roots.old ≡ r.now.periods) × (length centers.old ≡ r.now.assets) × (length out.old ≡ r.now.assets * r.now.assets) }
+    ensures { out.new ≡ rows r.now.assets r.now.assets (Weighted.weighted_covariance r.now.periods l (return_at r.now)) }
 {
-    let none = [0.0; 0];
     put_weights(l, weights);
-    means(r, n, periods, weights, centers);
-    put_roots(weights, denominator(l, periods), roots);
-    gram(
-        Row::WeightedDeviation,
-        r,
-        n,
-        periods,
-        &none,
+    means(r, weights, centers);
+    put_roots(weights, denominator(l, r.periods), roots);
+    let z = Rows {
+        row: Row::WeightedDeviation,
+        returns: *r,
+        units: &[],
         centers,
-        roots,
-        out,
-    );
+        weights: roots,
+    };
+    gram(&z, out);
 }
 
-pub(crate) fn covariance(l: f64, r: &[f64], n: usize, periods: usize, out: &mut [f64])
-    requires { (length r.now ≡ periods * n) × (n ≤ max_side) × (1 ≤ periods) × (periods ≤ max_periods) × (length out.old ≡ n * n) }
-    ensures { out.new ≡ rows n n (Weighted.weighted_covariance periods l (at r.now n)) }
+#[tactic(auto, using(matrix::proofs::Lent::lent))]
+pub(crate) fn covariance(l: f64, r: &Returns, out: &mut [f64])
+    requires { (1 ≤ r.now.periods) × (r.now.periods ≤ max_periods) × (length out.old ≡ r.now.assets * r.now.assets) }
+    ensures { out.new ≡ rows r.now.assets r.now.assets (Weighted.weighted_covariance r.now.periods l (return_at r.now)) }
 {
     let mut weights = [0.0; rules::MAX_PERIODS];
     let mut roots = [0.0; rules::MAX_PERIODS];
@@ -134,16 +123,15 @@ pub(crate) fn covariance(l: f64, r: &[f64], n: usize, periods: usize, out: &mut 
     covariance_in(
         l,
         r,
-        n,
-        periods,
-        &mut weights[..periods],
-        &mut roots[..periods],
-        &mut centers[..n],
+        &mut weights[..r.periods],
+        &mut roots[..r.periods],
+        &mut centers[..r.assets],
         out,
     );
 }
 
 // The means with the weights of l.
+#[tactic(auto, using(matrix::proofs::Lent::lent))]
 pub fn mean_of(l: f64, r: &[f64], n: usize, periods: usize, out: &mut [f64])
     requires { (length r.now ≡ periods * n) × (n ≤ max_side) × (periods ≤ max_periods) × (length out.old ≡ n) }
     ensures { out.new ≡ tab n (Weighted.weighted_mean periods (Weighted.weights periods l) (at r.now n)) }
@@ -151,5 +139,10 @@ pub fn mean_of(l: f64, r: &[f64], n: usize, periods: usize, out: &mut [f64])
     let mut buffer = [0.0; rules::MAX_PERIODS];
     let weights = &mut buffer[..periods];
     put_weights(l, weights);
-    means(r, n, periods, weights, out);
+    let returns = &Returns {
+        numbers: r,
+        assets: n,
+        periods,
+    };
+    means(returns, weights, out);
 }

@@ -3,3 +3,4 @@ pub mod Estimated
 pub mod LedoitWolfCall
 pub mod OfGiven
 pub mod MeanCalls
+pub mod Refusing

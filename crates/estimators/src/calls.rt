@@ -4,10 +4,10 @@ ghost use Rattle.std.specs.Prelude.{◌≡◌};
 ghost use Rattle.rules.specs.Calls as Calls;
 ghost use Rattle.rules.specs.Calls.{answered};
 
+use crate::panel::Panel;
 use crate::{covariance, expected_returns};
-use inputs::checks::Check;
 use inputs::shapes::{AnswerShape, check_shape};
-use rules::{Answer, Decay, Settings, Target};
+use rules::{Answer, Decay, Refusal, Settings, Target};
 
 // The covariance of n assets, estimated, shrunk and regularized as the settings say: n * n numbers, row by row. `given`, `side` rows of as many
 // numbers, is looked at for the given estimate alone.
@@ -19,34 +19,35 @@ pub fn adjusted_covariance(
     given: &[f64],
     side: usize,
     answer: &mut [f64],
-) -> Answer
+) -> Result<Answer, Refusal>
     ensures { answered result answer.new ≡ Calls.adjusted_covariance returns.now n periods settings given.now side answer.old }
 {
-    let shape = check_shape(returns.len(), n, periods, AnswerShape::Table, answer.len());
-    if let Check::Refuses(refusal) = shape {
-        return Answer::Refused(refusal);
-    }
-    let size = n * n;
-    covariance::adjusted_covariance(
-        settings,
+    check_shape(returns.len(), n, periods, AnswerShape::Table, answer.len())?;
+    let p = Panel {
         returns,
         n,
         periods,
-        given,
-        side,
-        &mut answer[..size],
-    )
+    };
+    let size = n * n;
+    covariance::adjusted_covariance(settings, &p, given, side, &mut answer[..size])
 }
 
 // The intensity of Ledoit and Wolf's shrinkage towards the target.
-pub fn ledoit_wolf(returns: &[f64], n: usize, periods: usize, target: Target) -> Answer
+pub fn ledoit_wolf(
+    returns: &[f64],
+    n: usize,
+    periods: usize,
+    target: Target,
+) -> Result<Answer, Refusal>
     ensures { result ≡ Calls.ledoit_wolf_intensity returns.now n periods target }
 {
-    let shape = check_shape(returns.len(), n, periods, AnswerShape::Nothing, 0);
-    if let Check::Refuses(refusal) = shape {
-        return Answer::Refused(refusal);
-    }
-    covariance::ledoit_wolf(target, returns, n, periods)
+    check_shape(returns.len(), n, periods, AnswerShape::Nothing, 0)?;
+    let p = Panel {
+        returns,
+        n,
+        periods,
+    };
+    covariance::ledoit_wolf(target, &p)
 }
 
 // Each asset's mean, with weights that fall as the decay says: n numbers.
@@ -56,14 +57,16 @@ pub fn exponentially_weighted_mean(
     periods: usize,
     decay: Decay,
     answer: &mut [f64],
-) -> Answer
+) -> Result<Answer, Refusal>
     ensures { answered result answer.new ≡ Calls.exponentially_weighted_mean returns.now n periods decay answer.old }
 {
-    let shape = check_shape(returns.len(), n, periods, AnswerShape::Vector, answer.len());
-    if let Check::Refuses(refusal) = shape {
-        return Answer::Refused(refusal);
-    }
-    expected_returns::exponentially_weighted_mean(returns, n, periods, decay, &mut answer[..n])
+    check_shape(returns.len(), n, periods, AnswerShape::Vector, answer.len())?;
+    let p = Panel {
+        returns,
+        n,
+        periods,
+    };
+    expected_returns::exponentially_weighted_mean(&p, decay, &mut answer[..n])
 }
 
 // Each asset's mean, moved towards their average as by James and Stein: n numbers.
@@ -73,14 +76,16 @@ pub fn james_stein_mean(
     periods: usize,
     limit: usize,
     answer: &mut [f64],
-) -> Answer
+) -> Result<Answer, Refusal>
     ensures { answered result answer.new ≡ Calls.james_stein_mean returns.now n periods limit answer.old }
 {
-    let shape = check_shape(returns.len(), n, periods, AnswerShape::Vector, answer.len());
-    if let Check::Refuses(refusal) = shape {
-        return Answer::Refused(refusal);
-    }
-    expected_returns::james_stein_mean(returns, n, periods, limit, &mut answer[..n])
+    check_shape(returns.len(), n, periods, AnswerShape::Vector, answer.len())?;
+    let p = Panel {
+        returns,
+        n,
+        periods,
+    };
+    expected_returns::james_stein_mean(&p, limit, &mut answer[..n])
 }
 
 // Each asset's mean, moved towards the mean of the portfolio of least variance as by Jorion: n numbers.
@@ -90,12 +95,14 @@ pub fn bayes_stein_mean(
     periods: usize,
     limit: usize,
     answer: &mut [f64],
-) -> Answer
+) -> Result<Answer, Refusal>
     ensures { answered result answer.new ≡ Calls.bayes_stein_mean returns.now n periods limit answer.old }
 {
-    let shape = check_shape(returns.len(), n, periods, AnswerShape::Vector, answer.len());
-    if let Check::Refuses(refusal) = shape {
-        return Answer::Refused(refusal);
-    }
-    expected_returns::bayes_stein_mean(returns, n, periods, limit, &mut answer[..n])
+    check_shape(returns.len(), n, periods, AnswerShape::Vector, answer.len())?;
+    let p = Panel {
+        returns,
+        n,
+        periods,
+    };
+    expected_returns::bayes_stein_mean(&p, limit, &mut answer[..n])
 }

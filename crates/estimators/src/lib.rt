@@ -5,4 +5,5 @@ pub mod calls;
 mod covariance;
 mod expected_returns;
 mod opening;
+mod panel;
 mod validate;

@@ -1,36 +1,46 @@
 // What every call looks at after its shape: the returns, refusal 5, and the sample covariance, 6.
-ghost use Rattle.std.specs.Prelude.{◌≡◌, ◌*◌, ◌≤◌, length};
-ghost use Rattle.matrix.specs.Limits.{max_side};
+ghost use Rattle.std.specs.Prelude.{◌≡◌, ◌*◌, ◌≤◌, [], ◌∷◌, ◌++◌, length, OnOk};
+ghost use Rattle.matrix.specs.Limits.{max_sweeps};
 ghost use Rattle.matrix.specs.Matrix.{at, rows};
 ghost use Rattle.rules.specs.Refusals as Refusals;
 ghost use Rattle.rules.specs.Sample as Sample;
+ghost use Rattle.rules.specs.Order as Order;
 ghost use Rattle.rules.specs.Order.{by_returns};
 ghost use Rattle.inputs.specs.Checks.{checked};
 
+use crate::panel::Panel;
 use covariances::sample::covariance;
-use inputs::checks::{Check, first, when};
+use inputs::checks::when;
 use inputs::entries::check_finite;
+use inputs::limits::bad_sweep_limit;
 use rules::Refusal;
 
-// Refusal 5, and 6 of the sample covariance, which is left in `out`.
-pub(crate) fn check_returns(r: &[f64], n: usize, periods: usize, out: &mut [f64]) -> Check
-    requires { (length r.now ≡ periods * n) × (n ≤ max_side) × (1 ≤ periods) × (length out.old ≡ n * n) }
-    ensures { (out.new ≡ rows n n (Sample.covariance periods (at r.now n))) × (checked result ≡ Refusals.first (by_returns periods n (at r.now n))) }
+// Refusal 5, and 6 of the sample covariance, which is left in `out` where neither refuses.
+pub(crate) fn check_returns(p: &Panel, out: &mut [f64]) -> Result<(), Refusal>
+    requires { length out.old ≡ p.now.n * p.now.n }
+    ensures { (out.new ≡ rows p.now.n p.now.n (Sample.covariance p.now.periods (at p.now.returns.now p.now.n))) × (checked result ≡ Refusals.first (by_returns p.now.periods p.now.n (at p.now.returns.now p.now.n))) }
 {
-    covariance(r, n, periods, out);
-    let finite = matrix::places::all_finite(out, n, n);
-    first(
-        check_finite(r, periods, n),
-        when(!finite, Refusal::CovarianceNotFinite),
+    covariance(p.returns, p.n, p.periods, out);
+    check_finite(p.returns, p.periods, p.n)?;
+    when(
+        !matrix::places::all_finite(out, p.n, p.n),
+        Refusal::CovarianceNotFinite,
     )
 }
 
 // The same, with the sample covariance in an array of the engine.
-pub(crate) fn check_opened(returns: &[f64], n: usize, periods: usize) -> Check
-    requires { (length returns.now ≡ periods * n) × (n ≤ max_side) × (1 ≤ periods) }
-    ensures { checked result ≡ Refusals.first (by_returns periods n (at returns.now n)) }
+pub(crate) fn check_opened(p: &Panel) -> Result<(), Refusal>
+    ensures { checked result ≡ Refusals.first (by_returns p.now.periods p.now.n (at p.now.returns.now p.now.n)) }
 {
     let mut sample = [0.0; matrix::MAX_SIDE * matrix::MAX_SIDE];
-    let size = n * n;
-    check_returns(returns, n, periods, &mut sample[..size])
+    let size = p.n * p.n;
+    check_returns(p, &mut sample[..size])
+}
+
+// And the sweep limit, refusal 7.
+pub(crate) fn check_limited(p: &Panel, limit: usize) -> Result<(), Refusal>
+    ensures { (checked result ≡ Refusals.first (by_returns p.now.periods p.now.n (at p.now.returns.now p.now.n) ++ Order.bad_sweep_limit limit ∷ [])) × OnOk result (limit ≤ max_sweeps) }
+{
+    check_opened(p)?;
+    bad_sweep_limit(limit)
 }

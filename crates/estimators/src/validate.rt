@@ -5,39 +5,27 @@ ghost use Rattle.rules.specs.Order as Order;
 ghost use Rattle.inputs.specs.Checks.{checked};
 
 use covariances::decay::bad_decay;
-use inputs::checks::{Check, when};
+use inputs::checks::when;
 use rules::{Estimate, Field, Refusal, Regularization, Shrinkage};
 
 fn is_sample(estimate: Estimate) -> bool
     ensures { result ≡ Adjusted.is_sample estimate }
 {
-    match estimate {
-        Estimate::Sample => true,
-        Estimate::Given => false,
-        Estimate::Weighted(_) => false,
-        Estimate::Semi => false,
-        Estimate::SemiBelow(_) => false,
-    }
+    matches!(estimate, Estimate::Sample)
 }
 
 pub(crate) fn is_given(estimate: Estimate) -> bool
     ensures { result ≡ Adjusted.is_given estimate }
 {
-    match estimate {
-        Estimate::Sample => false,
-        Estimate::Given => true,
-        Estimate::Weighted(_) => false,
-        Estimate::Semi => false,
-        Estimate::SemiBelow(_) => false,
-    }
+    matches!(estimate, Estimate::Given)
 }
 
 // Finite and at least 0, as -0 is.
-pub(crate) fn bad_regularization(regularization: Regularization) -> Check
+pub(crate) fn bad_regularization(regularization: Regularization) -> Result<(), Refusal>
     ensures { checked result ≡ Order.bad_regularization regularization }
 {
     match regularization {
-        Regularization::Unregularized => Check::Passes,
+        Regularization::Unregularized => Ok(()),
         Regularization::Ridge(ridge) => {
             let good = leaves::numbers::is_finite(ridge) && 0.0 <= ridge;
             when(!good, Refusal::BadSetting(Field::RegularizationField))
@@ -46,28 +34,25 @@ pub(crate) fn bad_regularization(regularization: Regularization) -> Check
 }
 
 // In [0, 1].
-pub(crate) fn bad_shrinkage(shrinkage: Shrinkage) -> Check
+pub(crate) fn bad_shrinkage(shrinkage: Shrinkage) -> Result<(), Refusal>
     ensures { checked result ≡ Order.bad_shrinkage shrinkage }
 {
     match shrinkage {
-        Shrinkage::Unshrunk => Check::Passes,
+        Shrinkage::Unshrunk | Shrinkage::LedoitWolf(_) => Ok(()),
         Shrinkage::Fixed(intensity) => {
             let good = 0.0 <= intensity && intensity <= 1.0;
             when(!good, Refusal::BadSetting(Field::ShrinkageField))
         }
-        Shrinkage::LedoitWolf(_) => Check::Passes,
     }
 }
 
 // Refusal 7 for fields 3, 6 and 4: the decay accepted, the threshold finite.
-pub(crate) fn bad_estimate(estimate: Estimate) -> Check
+pub(crate) fn bad_estimate(estimate: Estimate) -> Result<(), Refusal>
     ensures { checked result ≡ Order.bad_estimate estimate }
 {
     match estimate {
-        Estimate::Sample => Check::Passes,
-        Estimate::Given => Check::Passes,
+        Estimate::Sample | Estimate::Given | Estimate::Semi => Ok(()),
         Estimate::Weighted(decay) => bad_decay(decay),
-        Estimate::Semi => Check::Passes,
         Estimate::SemiBelow(threshold) => when(
             !leaves::numbers::is_finite(threshold),
             Refusal::BadSetting(Field::ThresholdField),
@@ -76,12 +61,11 @@ pub(crate) fn bad_estimate(estimate: Estimate) -> Check
 }
 
 // Ledoit-Wolf with another estimate.
-pub(crate) fn not_the_sample(shrinkage: Shrinkage, estimate: Estimate) -> Check
+pub(crate) fn not_the_sample(shrinkage: Shrinkage, estimate: Estimate) -> Result<(), Refusal>
     ensures { checked result ≡ Order.not_the_sample shrinkage estimate }
 {
     match shrinkage {
-        Shrinkage::Unshrunk => Check::Passes,
-        Shrinkage::Fixed(_) => Check::Passes,
+        Shrinkage::Unshrunk | Shrinkage::Fixed(_) => Ok(()),
         Shrinkage::LedoitWolf(_) => when(!is_sample(estimate), Refusal::NotTheSample),
     }
 }

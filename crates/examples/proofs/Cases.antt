@@ -22,7 +22,8 @@ use Rattle.rules.specs.declared.Regularization.TheVariants.{Unregularized, Ridge
 use Rattle.rules.specs.declared.Decay.TheVariants.{HalfLife}
 use Rattle.rules.specs.declared.Field.TheVariants.{HalfLifeField}
 use Rattle.rules.specs.declared.Refusal.TheVariants.{BadSetting, ZeroVariance, Indefinite, NotDecomposed, Singular}
-use Rattle.rules.specs.declared.Answer.TheVariants.{Refused, Covariance, Mean, Shrunk}
+use Rattle.rules.specs.declared.Answer.TheVariants.{Covariance, Mean, Shrunk}
+use Rattle.std.specs.Prelude.{Ok, Err}
 use Rattle.examples.proofs.Evaluated.{evaluated}
 
 -- rows (1,2), (3,6) or (1,1), (1,1)
@@ -46,21 +47,21 @@ one_asset g regularization limit =
 
 -- a covariance of two assets that nothing shrank and for which nothing was decomposed
 abbrev plain : Float → Float → Float → Float → Answered
-plain a b c d = answered (Covariance zero⁺ 0 0) (a ∷ b ∷ c ∷ d ∷ [])
+plain a b c d = answered (Ok (Covariance zero⁺ 0 0)) (a ∷ b ∷ c ∷ d ∷ [])
 
 pub record TwelveCases : Type 0 where
   pub case_1 : (binary_exponent zero⁺ ≡ pos 0) × (binary_exponent (pow2 (negsuc 1073)) ≡ negsuc 1073) × (binary_exponent (float 0x7FEF_FFFF_FFFF_FFFF) ≡ pos 1023)
   pub case_2 : (pow2_scaled one (negsuc 1073) ≡ pow2 (negsuc 1073)) × (pow2_scaled one (pos 1024) ≡ inf false)
   pub case_3 : (sqrt two ≡ float 0x3FF6_A09E_667F_3BCD) × (sqrt (pow2 (negsuc 1073)) ≡ pow2 (negsuc 536))
   pub case_4 : (bad_decay (HalfLife (float 0x3F50_624D_D2F1_A9FC)) ≡ passes) × (bad_decay (HalfLife (float 0x3F4D_7DBF_487F_CB92)) ≡ refuses (BadSetting HalfLifeField))
-  pub case_5 : (weights 2 (log_decay (HalfLife one)) ≡ half ∷ one ∷ []) × (exponentially_weighted_mean (one ∷ count 4 ∷ []) 1 2 (HalfLife one) (zero⁺ ∷ []) ≡ answered Mean (count 3 ∷ []))
+  pub case_5 : (weights 2 (log_decay (HalfLife one)) ≡ half ∷ one ∷ []) × (exponentially_weighted_mean (one ∷ count 4 ∷ []) 1 2 (HalfLife one) (zero⁺ ∷ []) ≡ answered (Ok Mean) (count 3 ∷ []))
   pub case_6 : two_assets rows Unshrunk Unregularized ≡ plain (count 2) (count 4) (count 4) (count 8)
   pub case_7 : two_assets rows Unshrunk (Ridge one) ≡ plain (count 3) (count 4) (count 4) (count 9)
-  pub case_8 : two_assets rows (Fixed half) Unregularized ≡ answered (Covariance half 0 0) (fin false 7 (negsuc 0) ∷ two ∷ two ∷ fin false 13 (negsuc 0) ∷ [])
-  pub case_9 : (two_assets equal Unshrunk Unregularized ≡ answered (Refused (ZeroVariance 0)) blank) × (two_assets equal Unshrunk (Ridge zero⁺) ≡ answered (Refused (ZeroVariance 0)) blank) × (two_assets equal (Fixed half) Unregularized ≡ answered (Refused Singular) blank)
-  pub case_10 : (one_asset (neg one) Unregularized max_sweeps ≡ answered (Refused (Indefinite (neg one))) (zero⁺ ∷ [])) × (one_asset zero⁺ Unregularized max_sweeps ≡ answered (Refused (ZeroVariance 0)) (zero⁺ ∷ [])) × (one_asset zero⁺ (Ridge one) max_sweeps ≡ answered (Covariance zero⁺ 0 0) (one ∷ []))
-  pub case_11 : (one_asset one Unregularized 0 ≡ answered (Refused NotDecomposed) (zero⁺ ∷ [])) × (one_asset one Unregularized 1 ≡ answered (Covariance zero⁺ 0 0) (one ∷ []))
-  pub case_12 : james_stein_mean (one ∷ count 3 ∷ []) 1 2 max_sweeps (zero⁺ ∷ []) ≡ answered (Shrunk zero⁺ two 0 0) (two ∷ [])
+  pub case_8 : two_assets rows (Fixed half) Unregularized ≡ answered (Ok (Covariance half 0 0)) (fin false 7 (negsuc 0) ∷ two ∷ two ∷ fin false 13 (negsuc 0) ∷ [])
+  pub case_9 : (two_assets equal Unshrunk Unregularized ≡ answered (Err (ZeroVariance 0)) blank) × (two_assets equal Unshrunk (Ridge zero⁺) ≡ answered (Err (ZeroVariance 0)) blank) × (two_assets equal (Fixed half) Unregularized ≡ answered (Err Singular) blank)
+  pub case_10 : (one_asset (neg one) Unregularized max_sweeps ≡ answered (Err (Indefinite (neg one))) (zero⁺ ∷ [])) × (one_asset zero⁺ Unregularized max_sweeps ≡ answered (Err (ZeroVariance 0)) (zero⁺ ∷ [])) × (one_asset zero⁺ (Ridge one) max_sweeps ≡ answered (Ok (Covariance zero⁺ 0 0)) (one ∷ []))
+  pub case_11 : (one_asset one Unregularized 0 ≡ answered (Err NotDecomposed) (zero⁺ ∷ [])) × (one_asset one Unregularized 1 ≡ answered (Ok (Covariance zero⁺ 0 0)) (one ∷ []))
+  pub case_12 : james_stein_mean (one ∷ count 3 ∷ []) 1 2 max_sweeps (zero⁺ ∷ []) ≡ answered (Ok (Shrunk zero⁺ two 0 0)) (two ∷ [])
 
 pub twelve_cases : TwelveCases
 unfolding evaluated

@@ -16,7 +16,8 @@ use Rattle.rules.specs.declared.Shrinkage.TheVariants.{Unshrunk}
 use Rattle.rules.specs.declared.Regularization.TheVariants.{Unregularized}
 use Rattle.rules.specs.declared.Refusal.{Refusal}
 use Rattle.rules.specs.declared.Refusal.TheVariants.{TooLarge, TooFewPeriods, WrongLength, NotFinite, CovarianceNotFinite, NonPositivePrice}
-use Rattle.rules.specs.declared.Answer.TheVariants.{Refused, Covariance}
+use Rattle.rules.specs.declared.Answer.TheVariants.{Covariance}
+use Rattle.std.specs.Prelude.{Ok, Err}
 use Rattle.examples.proofs.Evaluated.{evaluated}
 
 -- the least and the largest number of f64, -0 and 1e200
@@ -66,8 +67,8 @@ pub record PriceCases : Type 0 where
   pub two_rows : (returns_from_prices (one ∷ one ∷ []) 1 2 blank ≡ refused (TooFewPeriods 2)) × (returns_from_prices [] 25 2 blank ≡ refused TooLarge)
   pub four_prices : returns_from_prices (one ∷ one ∷ one ∷ one ∷ []) 1 3 blank ≡ refused WrongLength
   -- prices, then a covariance of their returns; and returns whose covariance is refused with 6
-  pub then_covariance : covariance_of (asset (count 100) (count 110) (count 99)) ≡ answered (Covariance zero⁺ 0 0) (float 0x3F94_7AE1_47AE_147F ∷ [])
-  pub then_refused : (asset one 1e200 one ≡ returns 1e200 (neg one)) × (covariance_of (asset one 1e200 one) ≡ answered (Refused CovarianceNotFinite) (zero⁺ ∷ []))
+  pub then_covariance : covariance_of (asset (count 100) (count 110) (count 99)) ≡ answered (Ok (Covariance zero⁺ 0 0)) (float 0x3F94_7AE1_47AE_147F ∷ [])
+  pub then_refused : (asset one 1e200 one ≡ returns 1e200 (neg one)) × (covariance_of (asset one 1e200 one) ≡ answered (Err CovarianceNotFinite) (zero⁺ ∷ []))
 
 pub price_cases : PriceCases
 unfolding evaluated

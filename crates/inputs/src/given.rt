@@ -1,4 +1,5 @@
 // A given covariance: its checks, its average with its transpose and its decomposition (covariance.rs, `CovarianceConfig::given`).
+// A matrix is a slice and its side here, as the crate `matrix` takes it.
 ghost use Rattle.std.specs.Prelude.{◌≡◌, ◌*◌, ◌<◌, ◌≤◌, List, length, Float};
 ghost use Rattle.matrix.specs.Limits.{max_side, max_sweeps};
 ghost use Rattle.matrix.specs.Matrix.{at};
@@ -10,44 +11,45 @@ ghost use Rattle.rules.specs.Order as Order;
 ghost use Rattle.rules.specs.Order.{by_sizes, by_entries, by_numbers};
 ghost use Rattle.inputs.specs.Checks.{checked, examined, judged};
 
-use crate::checks::{Check, first, when};
+use crate::checks::when;
 use crate::entries::check_finite;
 use matrix::jacobi::Outcome;
-use matrix::places::Place;
 use rules::Refusal;
 
 // Refusals 1 and 2; 10 by the slice's length.
-pub fn check_sizes(size: usize, n: usize) -> Check
+#[tactic(auto, unfolding(rules::specs::Refusals::first))]
+pub fn check_sizes(size: usize, n: usize) -> Result<(), Refusal>
     ensures { checked result ≡ Refusals.first (by_sizes size n) }
 {
     if n == 0 {
-        return Check::Refuses(Refusal::NoAssets);
+        return Err(Refusal::NoAssets);
     }
     if n > matrix::MAX_SIDE {
-        return Check::Refuses(Refusal::TooLarge);
+        return Err(Refusal::TooLarge);
     }
     when(size != n * n, Refusal::WrongSide(n))
 }
 
 // Refusal 11: the first entry that differs from its transpose by more than 1e-12 of the largest.
-fn check_symmetric(g: &[f64], n: usize) -> Check
+#[tactic(auto, unfolding(rules::specs::Given::asymmetry))]
+fn check_symmetric(g: &[f64], n: usize) -> Result<(), Refusal>
     requires { length g.now ≡ n * n }
     ensures { checked result ≡ Order.asymmetric n (at g.now n) }
 {
     let tolerance = 1e-12 * matrix::entries::amax(g, n, n);
-    let skew = matrix::places::first_asymmetric(g, n, tolerance);
-    if let Place::At(i, j) = skew {
-        return Check::Refuses(Refusal::Asymmetric(i, j));
+    match matrix::places::first_asymmetric(g, n, tolerance) {
+        Some((i, j)) => Err(Refusal::Asymmetric(i, j)),
+        None => Ok(()),
     }
-    Check::Passes
 }
 
 // Refusals 5 and 11.
-pub fn check_entries(g: &[f64], n: usize) -> Check
+pub fn check_entries(g: &[f64], n: usize) -> Result<(), Refusal>
     requires { length g.now ≡ n * n }
     ensures { checked result ≡ Refusals.first (by_entries n (at g.now n)) }
 {
-    first(check_finite(g, n, n), check_symmetric(g, n))
+    check_finite(g, n, n)?;
+    check_symmetric(g, n)
 }
 
 // The average with the transpose.
@@ -79,42 +81,33 @@ pub fn decompose(
 }
 
 // Refusal 13, of a decomposition that is found or not.
-pub fn not_decomposed(found: bool) -> Check
+pub fn not_decomposed(found: bool) -> Result<(), Refusal>
     ensures { (d : Decomposition) → d.found ≡ found → checked result ≡ Order.not_decomposed d }
 {
     when(!found, Refusal::NotDecomposed)
 }
 
 // Refusal 12 of the matrix `a`, by the values of its decomposition.
-pub fn not_semidefinite(values: &[f64], a: &[f64], n: usize) -> Check
+pub fn not_semidefinite(values: &[f64], a: &[f64], n: usize) -> Result<(), Refusal>
     requires { (0 < n) × (length values.now ≡ n) × (length a.now ≡ n * n) }
     ensures { (d : Decomposition) → d.values ≡ values.now → checked result ≡ Order.not_semidefinite n (at a.now n) d }
 {
     let lowest = matrix::entries::smallest(values);
     let size = std::num::nearest_u64_to_f64(n as u64);
     if lowest < -10.0 * size * leaves::numbers::EPSILON * leaves::sums::amax(values) {
-        return Check::Refuses(Refusal::Indefinite(lowest * matrix::entries::amax(a, n, n)));
+        return Err(Refusal::Indefinite(lowest * matrix::entries::amax(a, n, n)));
     }
-    Check::Passes
+    Ok(())
 }
 
-#[derive(Clone, Copy)]
-pub enum Examined {
-    Refused(Refusal),
-    // sweeps, rotations
-    Accepted(usize, usize),
-}
-
-// Refusals 13 and 12, by the values that the decomposition `d` of the matrix `a` has.
-fn judge(d: Outcome, values: &[f64], a: &[f64], n: usize) -> Examined
+// Refusals 13 and 12, by the values that the decomposition `d` of the matrix `a` has, or its sweeps and rotations.
+fn judge(d: Outcome, values: &[f64], a: &[f64], n: usize) -> Result<(usize, usize), Refusal>
     requires { (0 < n) × (length values.now ≡ n) × (length a.now ≡ n * n) }
     ensures { (v : List Float) → result ≡ judged n (at a.now n) (decomposed d.found values.now v d.sweeps d.rotations) }
 {
-    let bad = first(not_decomposed(d.found), not_semidefinite(values, a, n));
-    if let Check::Refuses(refusal) = bad {
-        return Examined::Refused(refusal);
-    }
-    Examined::Accepted(d.sweeps, d.rotations)
+    not_decomposed(d.found)?;
+    not_semidefinite(values, a, n)?;
+    Ok((d.sweeps, d.rotations))
 }
 
 // `check_values`, with three slices to reckon in.
@@ -125,7 +118,7 @@ fn check_values_in(
     over: &mut [f64],
     values: &mut [f64],
     vectors: &mut [f64],
-) -> Examined
+) -> Result<(usize, usize), Refusal>
     requires { (0 < n) × (n ≤ max_side) × (limit ≤ max_sweeps) × (length a.now ≡ n * n) × (length over.old ≡ n * n) × (length values.old ≡ n) × (length vectors.old ≡ n * n) }
     ensures { result ≡ judged n (at a.now n) (Given.decompose_given limit n (at a.now n)) }
 {
@@ -134,7 +127,7 @@ fn check_values_in(
 }
 
 // Refusals 13 and 12 of an averaged matrix.
-fn check_values(a: &[f64], n: usize, limit: usize) -> Examined
+fn check_values(a: &[f64], n: usize, limit: usize) -> Result<(usize, usize), Refusal>
     requires { (0 < n) × (n ≤ max_side) × (limit ≤ max_sweeps) × (length a.now ≡ n * n) }
     ensures { result ≡ judged n (at a.now n) (Given.decompose_given limit n (at a.now n)) }
 {
@@ -152,15 +145,17 @@ fn check_values(a: &[f64], n: usize, limit: usize) -> Examined
     )
 }
 
-// The average of a given matrix with its transpose, and whether it is refused, by 5, 11, 13, 12 in this order.
-pub fn examine(g: &[f64], n: usize, limit: usize, out: &mut [f64]) -> Examined
+// The average of a given matrix with its transpose, and whether it is refused, by 5, 11, 13, 12 in this order, or the sweeps and rotations that its decomposition took.
+pub fn examine(
+    g: &[f64],
+    n: usize,
+    limit: usize,
+    out: &mut [f64],
+) -> Result<(usize, usize), Refusal>
     requires { (0 < n) × (n ≤ max_side) × (limit ≤ max_sweeps) × (length g.now ≡ n * n) × (length out.old ≡ n * n) }
     ensures { (out.new ≡ Given.averaged_of g.now n) × (result ≡ examined (Refusals.first (by_numbers n (at g.now n) (Given.decompose_given limit n (at out.new n)))) (Given.decompose_given limit n (at out.new n))) }
 {
     average(g, n, out);
-    let bad = check_entries(g, n);
-    if let Check::Refuses(refusal) = bad {
-        return Examined::Refused(refusal);
-    }
+    check_entries(g, n)?;
     check_values(out, n, limit)
 }

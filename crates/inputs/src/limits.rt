@@ -3,10 +3,11 @@ ghost use Rattle.std.specs.Prelude.{◌≡◌};
 ghost use Rattle.rules.specs.Order as Order;
 ghost use Rattle.inputs.specs.Checks.{checked};
 
-use crate::checks::{Check, when};
+use crate::checks::when;
 use rules::{Field, Refusal};
 
-pub fn bad_sweep_limit(limit: usize) -> Check
+#[tactic(auto, unfolding(rules::specs::Order::bad_sweep_limit))]
+pub fn bad_sweep_limit(limit: usize) -> Result<(), Refusal>
     ensures { checked result ≡ Order.bad_sweep_limit limit }
 {
     when(

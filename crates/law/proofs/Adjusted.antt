@@ -47,6 +47,8 @@ use Rattle.rules.specs.declared.Field.TheVariants.{ShrinkageField}
 use Rattle.rules.specs.declared.Refusal.TheVariants.{BadSetting, CovarianceNotFinite, NotTheSample, ZeroVariance, WrongSide, Singular}
 use Rattle.rules.specs.declared.Answer.{Answer}
 use Rattle.rules.specs.declared.Answer.TheVariants.{Covariance, Intensity}
+use Rattle.rules.specs.declared.Refusal.{Refusal}
+use Rattle.std.specs.Prelude.{Result, Ok}
 use Rattle.rules.proofs.AdjustedCall.{adjusted_is}
 use Rattle.law.specs.Law.{All, Sized, AtLeast, answer_parts, Alike, ask, EstimateInRange, ShrinkageInRange, CopiedEstimate, max_power, return_range, covariance_range, intensity_range, parts}
 use Rattle.law.specs.Law as Law
@@ -71,9 +73,9 @@ Known S δ = ((δ ≡ nan) × (S ≡ Unshrunk → ⊥)) ⊎ Shrinkages.Intensity
 
 module _ (r : List Float) (n P : ℕ) (opens : (ds : List Check) → first (opening r n P 0 [] ++ ds) ≡ first ds) where
   -- where the adjustment gets as far as the intensity, the call for it does not refuse
-  answers : (F : Target) → no_correlation (LedoitWolf F) P n (at r n) ≡ passes → ledoit_wolf_intensity r n P F ≡ Intensity (ledoit_wolf F P n (at r n))
+  answers : (F : Target) → no_correlation (LedoitWolf F) P n (at r n) ≡ passes → ledoit_wolf_intensity r n P F ≡ Ok (Intensity (ledoit_wolf F P n (at r n)))
   unfolding ledoit_wolf_intensity ledoit_wolf_order settle first
-  answers F e = ap (λ (c : Check). (settle c [] (answered (Intensity (ledoit_wolf F P n (at r n))) [])).answer) (opens (no_correlation (LedoitWolf F) P n (at r n) ∷ []) ∙ ap (λ (c : Check). first (c ∷ [])) e)
+  answers F e = ap (λ (c : Check). (settle c [] (answered (Ok (Intensity (ledoit_wolf F P n (at r n)))) [])).answer) (opens (no_correlation (LedoitWolf F) P n (at r n) ∷ []) ∙ ap (λ (c : Check). first (c ∷ [])) e)
 
   ledoit_wolf_known : (F : Target) → AtLeast intensity_range (ledoit_wolf F P n (at r n)) → (ledoit_wolf F P n (at r n) ≡ nan) ⊎ Shrinkages.Intensity (ledoit_wolf F P n (at r n))
   ledoit_wolf_known F = ledoit_wolf_cases (λ z. AtLeast intensity_range z → (z ≡ nan) ⊎ Shrinkages.Intensity z) F P n (at r n) (λ a. inr (zero_bounded intensity_bounds)) (clamped_range intensity_range (lit≤ tt))
@@ -90,7 +92,7 @@ module _ (r : List Float) (n P : ℕ) (opens : (ds : List Check) → first (open
       fixed δ t a e = elim (unit_range intensity_range (lit≤ tt) δ t a (le_not_lt zero⁺ δ e.0) (le_not_lt δ one e.1)) [ inl z ↦ no (sym (ap (le zero⁺) z) ∙ e.0) (unfold le in refl) | inr q ↦ q ]
   intensity_known (LedoitWolf F) E q a b c =
       let e : is_sample E ≡ true = pass_must (is_sample E) NotTheSample b in
-      let l : All (AtLeast intensity_range) (ledoit_wolf F P n (at r n) ∷ []) = subst (λ (w : Answer). All (AtLeast intensity_range) (answer_parts n w []).intensity) (answers F c) (subst (λ (z : Bool). All (AtLeast intensity_range) (cond z (answer_parts n (ledoit_wolf_intensity r n P F) []).intensity [])) e q) in
+      let l : All (AtLeast intensity_range) (ledoit_wolf F P n (at r n) ∷ []) = subst (λ (w : Result Answer Refusal). All (AtLeast intensity_range) (answer_parts n w []).intensity) (answers F c) (subst (λ (z : Bool). All (AtLeast intensity_range) (cond z (answer_parts n (ledoit_wolf_intensity r n P F) []).intensity [])) e q) in
       elim (ledoit_wolf_known F l.0) [ inl z ↦ inl (z, λ w. not_unshrunk w) | inr i ↦ inr i ]
 
 -- ---- the checks of the settings, and the adjusted matrix
@@ -247,8 +249,8 @@ module _ (k : ℕ) (small : k ≤ max_power) (r : List Float) (sizes : All (Size
   covariance_law slice slice' e =
       let a = adjusted (δ r) E H r g in
       let a' = adjusted (δ r') E' H' r' g' in
-      let w = answered (Covariance (δ r) (d E H g).sweeps (d E H g).rotations) (fill (n * n) (nth a) slice) in
-      let w' = answered (Covariance (δ r') (d E' H' g').sweeps (d E' H' g').rotations) (fill (n * n) (nth a') slice') in
+      let w = answered (Ok (Covariance (δ r) (d E H g).sweeps (d E H g).rotations)) (fill (n * n) (nth a) slice) in
+      let w' = answered (Ok (Covariance (δ r') (d E' H' g').sweeps (d E' H' g').rotations)) (fill (n * n) (nth a') slice') in
       rw (adjusted_is r n P (settings E S H limit) g side slice, adjusted_is r' n P (settings E' S H' limit) g' side slice')
       (settled (chained (order slice slice' e)) (pos k) n slice slice' w w'
       (λ p p' o. record {

@@ -17,6 +17,7 @@ use Rattle.rules.specs.Order.{opening, bad_sweep_limit, of_given, not_found, of_
 use Rattle.rules.specs.Calls.{Answered, answered, settle, adjusted_covariance, james_stein_mean, bayes_stein_mean}
 use Rattle.rules.specs.declared.Settings.{Settings}
 use Rattle.rules.specs.declared.Answer.TheVariants.{Covariance, Shrunk}
+use Rattle.std.specs.Prelude.{Ok}
 use Rattle.rules.proofs.Opened.{answer_of}
 use Rattle.rules.proofs.AdjustedCall.{asked, covariances, of_answer, adjusted_is}
 use Rattle.law.proofs.JamesStein as James
@@ -27,7 +28,7 @@ module _ (r : List Float) (n P : ℕ) (s : Settings) (given : List Float) (side 
   abbrev pub covariance_by : List Float → Decomposition → List Check → Answered
   covariance_by slice d cs =
       settle (first (opening r n P (n * n) slice ++ cs ++ of_answer r n P s given side)) slice
-      (answered (Covariance (asked r n P s given side) d.sweeps d.rotations) (fill (n * n) (nth (covariances r n P s given side)) slice))
+      (answered (Ok (Covariance (asked r n P s given side) d.sweeps d.rotations)) (fill (n * n) (nth (covariances r n P s given side)) slice))
 
   pub covariance_is : (slice : List Float) → adjusted_covariance r n P s given side slice ≡ covariance_by slice (decomposition_of s given side) (of_given s given side)
   unfolding opening
@@ -50,7 +51,7 @@ module _ (r : List Float) (n P : ℕ) where
   abbrev pub james_by : List Float → Decomposition → Check → Answered
   james_by slice d c =
       let α = james_stein_intensity n in_unit unit_grand_mean d in
-      answer_of r n P n (c ∷ not_found d ∷ []) (Shrunk α (pow2_scaled unit_grand_mean unit) d.sweeps d.rotations) (λ i. pow2_scaled (towards α unit_grand_mean (nth in_unit.mean i)) unit) slice
+      answer_of r n P n (c ∷ not_found d ∷ []) (Ok (Shrunk α (pow2_scaled unit_grand_mean unit) d.sweeps d.rotations)) (λ i. pow2_scaled (towards α unit_grand_mean (nth in_unit.mean i)) unit) slice
 
   pub james_is : (limit : ℕ) (slice : List Float) → james_stein_mean r n P limit slice ≡ james_by slice (james_decomposition limit) (bad_sweep_limit limit)
   unfolding james_stein_mean james_stein_order
@@ -63,7 +64,7 @@ module _ (r : List Float) (n P : ℕ) where
   abbrev pub bayes_by : List Float → Decomposition → Check → Answered
   bayes_by slice d c =
       let m = column_moments P n (at r n) in
-      answer_of r n P n (c ∷ of_correlations n (size_of P n (at r n)) (Σ n m) (correlations n m) d) (Shrunk (shrinkage_from d).intensity (shrinkage_from d).target d.sweeps d.rotations)
+      answer_of r n P n (c ∷ of_correlations n (size_of P n (at r n)) (Σ n m) (correlations n m) d) (Ok (Shrunk (shrinkage_from d).intensity (shrinkage_from d).target d.sweeps d.rotations))
       (λ i. shrunk_mean (shrinkage_from d) (nth m.mean i) (exponents_of P n (at r n) i)) slice
 
   pub bayes_is : (limit : ℕ) (slice : List Float) → bayes_stein_mean r n P limit slice ≡ bayes_by slice (decomposed_correlations limit n (column_moments P n (at r n))) (bad_sweep_limit limit)

@@ -19,7 +19,9 @@ use Rattle.rules.specs.Adjusted.{is_given, decomposition_of}
 use Rattle.rules.specs.Calls.{ledoit_wolf_intensity, exponentially_weighted_mean}
 use Rattle.rules.specs.declared.Settings.{Settings}
 use Rattle.rules.specs.declared.Answer.{Answer}
-use Rattle.rules.specs.declared.Answer.TheVariants.{Refused, Covariance, Intensity, Mean, Shrunk}
+use Rattle.rules.specs.declared.Answer.TheVariants.{Covariance, Intensity, Mean, Shrunk}
+use Rattle.rules.specs.declared.Refusal.{Refusal}
+use Rattle.std.specs.Prelude.{Result, Ok, Err}
 use Rattle.rules.specs.BayesStein.{correlations}
 use Rattle.law.specs.Law as Law
 use Rattle.law.specs.Law.{Question, ask}
@@ -66,12 +68,12 @@ settings_few s given side = go (is_given s.estimate)
     go false = none_few side 0 s.limit true
 
 -- ---- the counts that a call reports, of a matrix of n rows
-abbrev pub Counted : ℕ → ℕ → Answer → Type 0
-Counted n limit (Refused c) = Unit {0}
-Counted n limit (Covariance δ sweeps rotations) = Few n limit sweeps rotations
-Counted n limit (Intensity δ) = Unit {0}
-Counted n limit Mean = Unit {0}
-Counted n limit (Shrunk α μ₀ sweeps rotations) = Few n limit sweeps rotations
+abbrev pub Counted : ℕ → ℕ → Result Answer Refusal → Type 0
+Counted n limit (Err c) = Unit {0}
+Counted n limit (Ok (Covariance δ sweeps rotations)) = Few n limit sweeps rotations
+Counted n limit (Ok (Intensity δ)) = Unit {0}
+Counted n limit (Ok Mean) = Unit {0}
+Counted n limit (Ok (Shrunk α μ₀ sweeps rotations)) = Few n limit sweeps rotations
 
 -- what is decomposed has the given matrix's side, or a row for each asset
 abbrev pub decomposed_side : ℕ → Question → ℕ

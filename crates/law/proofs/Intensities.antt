@@ -24,7 +24,9 @@ use Rattle.rules.specs.declared.Shrinkage.TheVariants.{Unshrunk, Fixed, LedoitWo
 use Rattle.rules.specs.declared.Field.TheVariants.{ShrinkageField}
 use Rattle.rules.specs.declared.Refusal.TheVariants.{BadSetting}
 use Rattle.rules.specs.declared.Answer.{Answer}
-use Rattle.rules.specs.declared.Answer.TheVariants.{Refused, Covariance, Intensity, Mean, Shrunk}
+use Rattle.rules.specs.declared.Answer.TheVariants.{Covariance, Intensity, Mean, Shrunk}
+use Rattle.rules.specs.declared.Refusal.{Refusal}
+use Rattle.std.specs.Prelude.{Result, Ok, Err}
 use Rattle.rules.specs.BayesStein.{exponents_of, bayes_stein}
 use Rattle.rules.proofs.Passed.{pass_cons}
 use Rattle.rules.proofs.AdjustedCall.{of_answer}
@@ -77,12 +79,12 @@ adjusted_share (Fixed δ) P n x h = inr ((and-eq-true_iff (le zero⁺ δ) (le δ
 adjusted_share (LedoitWolf F) P n x h = ledoit_wolf_share F P n x
 
 -- ---- what a call reports
-abbrev pub Reported : Answer → Type 0
-Reported (Refused c) = Unit {0}
-Reported (Covariance δ sweeps rotations) = Share δ
-Reported (Intensity δ) = Share δ
-Reported Mean = Unit {0}
-Reported (Shrunk α μ₀ sweeps rotations) = Share α
+abbrev pub Reported : Result Answer Refusal → Type 0
+Reported (Err c) = Unit {0}
+Reported (Ok (Covariance δ sweeps rotations)) = Share δ
+Reported (Ok (Intensity δ)) = Share δ
+Reported (Ok Mean) = Unit {0}
+Reported (Ok (Shrunk α μ₀ sweeps rotations)) = Share α
 
 pub reported : (r : List Float) (n P : ℕ) (q : Question) (slice : List Float) → Reported (ask r n P q slice).answer
 reported r n P (Law.adjusted s given side) slice =

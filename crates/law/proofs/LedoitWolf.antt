@@ -25,6 +25,7 @@ use Rattle.rules.specs.declared.Target.TheVariants.{ConstantVariance, ConstantCo
 use Rattle.rules.specs.declared.Shrinkage.TheVariants.{LedoitWolf}
 use Rattle.rules.specs.declared.Refusal.TheVariants.{ZeroVariance}
 use Rattle.rules.specs.declared.Answer.TheVariants.{Intensity}
+use Rattle.std.specs.Prelude.{Ok}
 use Rattle.law.specs.Law.{All, Sized, answer_parts, Alike, ask, max_power, return_range, parts}
 use Rattle.law.specs.Law as Law
 use Rattle.law.proofs.Ranges.{return_bounds, deviation_of}
@@ -62,10 +63,10 @@ module _ (k : ℕ) (small : k ≤ max_power) (r : List Float) (sizes : All (Size
       (constant_same (returns k small r sizes n P s) (lit≤ tt) (omega arith) (covariance P (at r n)) (covariance P (at (map (shift (pos k)) r) n)) (λ i l. (sample_moved k small r sizes n P s i i l l).copy))
 
   abbrev accepted : Target → List Float → Answered
-  accepted F r = answered (Intensity (ledoit_wolf F P n (at r n))) []
+  accepted F r = answered (Ok (Intensity (ledoit_wolf F P n (at r n)))) []
 
   -- the call takes no slice
-  no_slice : (c : Check) (δ : Float) (slice : List Float) → parts n (settle c [] (answered (Intensity δ) [])) ≡ answer_parts n (settle c [] (answered (Intensity δ) [])).answer slice
+  no_slice : (c : Check) (δ : Float) (slice : List Float) → parts n (settle c [] (answered (Ok (Intensity δ)) [])) ≡ answer_parts n (settle c [] (answered (Ok (Intensity δ)) [])).answer slice
   unfolding settle
   no_slice passes δ slice = refl
   no_slice (refuses c) δ slice = refl

@@ -33,7 +33,7 @@ use Rattle.rules.specs.declared.Field.TheVariants.{RegularizationField, Shrinkag
 use Rattle.rules.specs.declared.Refusal.{Refusal}
 use Rattle.rules.specs.declared.Refusal.TheVariants.{NoAssets, TooLarge, TooFewPeriods, WrongLength, NotFinite, CovarianceNotFinite, BadSetting, NotTheSample, ZeroVariance, WrongSide, Asymmetric, Indefinite, NotDecomposed, Singular}
 use Rattle.rules.specs.declared.Answer.{Answer}
-use Rattle.rules.specs.declared.Answer.TheVariants.{Refused, Covariance, Intensity, Mean, Shrunk}
+use Rattle.std.specs.Prelude.{Result, Ok, Err}
 use Rattle.rules.proofs.AdjustedCall.{estimated, covariances, of_answer}
 use Rattle.law.proofs.Diagonal.{Diagonal, given_diagonal}
 use Rattle.law.proofs.Calls.{covariance_is}
@@ -166,12 +166,9 @@ settings_avoid s δ P n side x b a = (
 
 -- ---- the call
 -- the number of a refusal, 0 of an answer
-abbrev number_of : Answer → ℕ
-number_of (Refused c) = number c
-number_of (Covariance δ s r) = 0
-number_of (Intensity δ) = 0
-number_of Mean = 0
-number_of (Shrunk α μ₀ s r) = 0
+abbrev number_of : Result Answer Refusal → ℕ
+number_of (Err c) = number c
+number_of (Ok a) = 0
 
 settled_avoids : (c : Check) → Avoids c → (slice : List Float) (w : Answered) → number_of w.answer ≡ 0 → eqb (number_of (settle c slice w).answer) (number NotDecomposed) ≡ false
 unfolding settle
@@ -189,9 +186,9 @@ module _ (r : List Float) (n P : ℕ) (s : Settings) (g : List Float) (side : �
       (settled_avoids (first (o ++ c ++ a)) (avoid_first (o ++ c ++ a) (append (o ++ c) a (append o c (opening_avoids r n P (n * n) slice) (given_avoids s.estimate s.shrinkage s.regularization s.limit g side h)) (settings_avoid s (intensity s.shrinkage P n (at r n)) P n side (at r n) (at (estimated r n P s g side) n) (at (covariances r n P s g side) n)))) slice _ refl)
 
   pub diagonal_not_refused : 0 < s.limit → ((i j : ℕ) → i < side → j < side → T (fits binary64 (at g side i j))) → Diagonal side (at g side) → all_finite side side (average g side) ≡ true
-      → (adjusted_covariance r n P s g side slice).answer ≡ Refused NotDecomposed → ⊥
+      → (adjusted_covariance r n P s g side slice).answer ≡ Err NotDecomposed → ⊥
   unfolding decomposition_of
-  diagonal_not_refused p fit diagonal all e = subst T (sym (ap (λ (w : Answer). eqb (number_of w) (number NotDecomposed)) e) ∙ decomposed (λ h. found (is_given s.estimate) h)) tt
+  diagonal_not_refused p fit diagonal all e = subst T (sym (ap (λ (w : Result Answer Refusal). eqb (number_of w) (number NotDecomposed)) e) ∙ decomposed (λ h. found (is_given s.estimate) h)) tt
     where
       found : (b : Bool) → b ≡ true → (elim b as (λ z. Decomposition) [ true ↦ decompose_given s.limit side (average g side) | false ↦ unturned 0 true ]).found ≡ true
       found true h = given_diagonal side g fit diagonal s.limit p all

@@ -1,10 +1,11 @@
 -- Document 01, "Records", "Causes" and demand 1, of the five calls over all inputs: a refusal leaves the answer slice as it was, numbers past the answer keep their value, and an adjusted
 -- covariance that is accepted is finite in every entry and has a trace other than 0. Assumes nothing.
-use mathlib.Core.Path.{◌≡◌, refl, sym, ap, ◌∙◌, subst}
+use mathlib.Core.Path.{◌≡◌, refl, ap, ◌∙◌, subst}
 use Prim.Native.Nat.{ℕ, ◌+◌, ◌*◌, ◌≤◌, ◌<◌}
 use mathlib.Core.Bool.{true, false, not}
 use mathlib.Core.List.{List, [], ◌∷◌, ◌++◌}
 use lib.Arith.{digits_lt}
+use lib.Dec.{T}
 use lib.ListN.{length, drop}
 use lib.Seq.{drop_at}
 use lib.Ieee.{Float, nan, eq}
@@ -24,7 +25,8 @@ use Rattle.rules.specs.declared.Settings.{Settings}
 use Rattle.rules.specs.declared.Refusal.{Refusal}
 use Rattle.rules.specs.declared.Refusal.TheVariants.{CovarianceNotFinite, Singular}
 use Rattle.rules.specs.declared.Answer.{Answer}
-use Rattle.rules.specs.declared.Answer.TheVariants.{Refused, Covariance, Intensity, Mean, Shrunk}
+use Rattle.rules.specs.declared.Answer.TheVariants.{Covariance}
+use Rattle.std.specs.Prelude.{is_ok, Ok, Err}
 use Rattle.rules.proofs.Passed.{pass_test, pass_cons}
 use Rattle.rules.proofs.Opened.{answer_of, settle_length}
 use Rattle.rules.proofs.AdjustedCall.{estimated, covariances, of_answer}
@@ -37,31 +39,24 @@ use Rattle.law.proofs.Passing.{pass_append, pass_opening, Accepted}
 -- ---- the answer slice
 pub record Kept (needed : ℕ) (old : List Float) (w : Answered) : Type 0 where
   -- "Each leaves the answer slice as it was"
-  pub refused : (c : Refusal) → w.answer ≡ Refused c → w.slice ≡ old
+  pub refused : (c : Refusal) → w.answer ≡ Err c → w.slice ≡ old
   -- "later numbers keep their value"
   pub later : drop needed w.slice ≡ drop needed old
   pub long : length w.slice ≡ length old
 
-abbrev IsRefused : Answer → Type 0
-IsRefused (Refused c) = Unit {0}
-IsRefused (Covariance δ s r) = ⊥
-IsRefused (Intensity δ) = ⊥
-IsRefused Mean = ⊥
-IsRefused (Shrunk α μ₀ s r) = ⊥
-
-settle_kept : (needed : ℕ) (old : List Float) (A : Answer) (f : ℕ → Float) (c : Check) → (IsRefused A → ⊥) → (c ≡ passes → needed ≤ length old) → Kept needed old (settle c old (answered A (fill needed f old)))
+settle_kept : (needed : ℕ) (old : List Float) (A : Answer) (f : ℕ → Float) (c : Check) → (c ≡ passes → needed ≤ length old) → Kept needed old (settle c old (answered (Ok A) (fill needed f old)))
 unfolding settle
-settle_kept needed old A f k other room = record { refused = (left k).0; later = (left k).1; long = settle_length k A needed f old room }
+settle_kept needed old A f k room = record { refused = (left k).0; later = (left k).1; long = settle_length k (Ok A) needed f old room }
   where
-    left : (k : Check) → let w = settle k old (answered A (fill needed f old)) in ((c : Refusal) → w.answer ≡ Refused c → w.slice ≡ old) × (drop needed w.slice ≡ drop needed old)
-    left passes = (λ c e. absurd (other (subst IsRefused (sym e) tt)), unfold fill in drop_at (tab needed f) (drop needed old) needed (length_tab f needed))
+    left : (k : Check) → let w = settle k old (answered (Ok A) (fill needed f old)) in ((c : Refusal) → w.answer ≡ Err c → w.slice ≡ old) × (drop needed w.slice ≡ drop needed old)
+    left passes = (λ c e. absurd (subst (λ w. T (is_ok w)) e tt), unfold fill in drop_at (tab needed f) (drop needed old) needed (length_tab f needed))
     left (refuses c) = (λ c e. refl, refl)
 
 -- whatever is checked after the opening
-opened_kept : (r : List Float) (n P needed : ℕ) (old : List Float) (A : Answer) (f : ℕ → Float) (cs : List Check) → (IsRefused A → ⊥)
-    → Kept needed old (answer_of r n P needed cs A f old)
-opened_kept r n P needed old A f cs other =
-    settle_kept needed old A f (first (opening r n P needed old ++ cs)) other (λ h. (pass_opening r n P needed old (pass_append (opening r n P needed old) cs h).0).1)
+opened_kept : (r : List Float) (n P needed : ℕ) (old : List Float) (A : Answer) (f : ℕ → Float) (cs : List Check)
+    → Kept needed old (answer_of r n P needed cs (Ok A) f old)
+opened_kept r n P needed old A f cs =
+    settle_kept needed old A f (first (opening r n P needed old ++ cs)) (λ h. (pass_opening r n P needed old (pass_append (opening r n P needed old) cs h).0).1)
 
 -- how many numbers of the slice an answer fills
 abbrev pub needed : ℕ → Question → ℕ
@@ -77,11 +72,11 @@ kept r n P (Law.adjusted s given side) old =
     let o = opening r n P (n * n) old in
     let g = of_given s given side in
     rw (covariance_is r n P s given side old)
-    (settle_kept (n * n) old _ _ (first (o ++ g ++ of_answer r n P s given side)) (λ z. z) (λ h. (pass_opening r n P (n * n) old (pass_append o g (pass_append (o ++ g) (of_answer r n P s given side) h).0).0).1))
+    (settle_kept (n * n) old _ _ (first (o ++ g ++ of_answer r n P s given side)) (λ h. (pass_opening r n P (n * n) old (pass_append o g (pass_append (o ++ g) (of_answer r n P s given side) h).0).0).1))
 kept r n P (Law.intensity F) old = record { refused = λ c e. refl; later = refl; long = refl }
-kept r n P (Law.weighted_mean decay) old = opened_kept r n P n old _ _ _ (λ z. z)
-kept r n P (Law.james_stein limit) old = opened_kept r n P n old _ _ _ (λ z. z)
-kept r n P (Law.bayes_stein limit) old = opened_kept r n P n old _ _ _ (λ z. z)
+kept r n P (Law.weighted_mean decay) old = opened_kept r n P n old _ _ _
+kept r n P (Law.james_stein limit) old = opened_kept r n P n old _ _ _
+kept r n P (Law.bayes_stein limit) old = opened_kept r n P n old _ _ _
 
 -- ---- an accepted covariance can be used
 pub record Usable (n : ℕ) (x : List Float) : Type 0 where
@@ -116,8 +111,8 @@ accepted_covariance r n P s given side old = rw (covariance_is r n P s given sid
     a = covariances r n P s given side
 
     go : (c : Check) → first (opening r n P (n * n) old ++ of_given s given side ++ of_answer r n P s given side) ≡ c
-        → Accepted (settle c old (answered (Covariance (intensity s.shrinkage P n (at r n)) d.sweeps d.rotations) (fill (n * n) (nth a) old)))
-        → Usable n (settle c old (answered (Covariance (intensity s.shrinkage P n (at r n)) d.sweeps d.rotations) (fill (n * n) (nth a) old))).slice
+        → Accepted (settle c old (answered (Ok (Covariance (intensity s.shrinkage P n (at r n)) d.sweeps d.rotations)) (fill (n * n) (nth a) old)))
+        → Usable n (settle c old (answered (Ok (Covariance (intensity s.shrinkage P n (at r n)) d.sweeps d.rotations)) (fill (n * n) (nth a) old))).slice
     go (refuses c) e h = absurd (h c refl)
     go passes e h =
         let q = (pass_append (opening r n P (n * n) old ++ of_given s given side) (of_answer r n P s given side) e).1 in

@@ -11,7 +11,7 @@ use Rattle.rules.specs.Order.{opening, by_shape, by_returns}
 use Rattle.rules.specs.Calls.{Answered, settle}
 use Rattle.rules.specs.declared.Refusal.{Refusal}
 use Rattle.rules.specs.declared.Answer.{Answer}
-use Rattle.rules.specs.declared.Answer.TheVariants.{Refused}
+use Rattle.std.specs.Prelude.{Result, Err}
 use Rattle.rules.proofs.Firsts.{first_then}
 use Rattle.rules.proofs.Passed.{pass_cons}
 use Rattle.rules.proofs.Shapes.{shape_passes}
@@ -30,7 +30,7 @@ pass_opening r n P needed slice h =
 
 -- ---- a call
 abbrev pub Accepted : Answered → Type 0
-Accepted w = (c : Refusal) → w.answer ≡ Refused c → ⊥
+Accepted w = (c : Refusal) → w.answer ≡ Err c → ⊥
 
 pub all_pass : (c : Check) (slice : List Float) (w : Answered) → Accepted (settle c slice w) → c ≡ passes
 unfolding settle
@@ -38,7 +38,7 @@ all_pass passes slice w h = refl
 all_pass (refuses c) slice w h = absurd (h c refl)
 
 -- what every refusal has, and the answer where all checks pass, the call's answer has
-pub settle_cases : (P : Answer → Type 0) → ((c : Refusal) → P (Refused c)) → (c : Check) (slice : List Float) (w : Answered) → (c ≡ passes → P w.answer) → P (settle c slice w).answer
+pub settle_cases : (P : Result Answer Refusal → Type 0) → ((c : Refusal) → P (Err c)) → (c : Check) (slice : List Float) (w : Answered) → (c ≡ passes → P w.answer) → P (settle c slice w).answer
 unfolding settle
 settle_cases P refused passes slice w h = h refl
 settle_cases P refused (refuses c) slice w h = refused c

@@ -6,6 +6,7 @@ use lib.Dec.{T}
 use lib.IntN.{pos}
 use lib.ListN.{take}
 use lib.Ieee.{Float, binary64, fits}
+use Rattle.std.specs.Prelude.{Ok}
 use Rattle.leaves.specs.Loops.{fill}
 use Rattle.leaves.specs.Shift.{shift}
 use Rattle.matrix.specs.Jacobi.{Decomposition}
@@ -16,7 +17,7 @@ use Rattle.law.specs.Law.{Alike, All, AtLeast, mean_range, parts, Large}
 use Rattle.law.proofs.Numbers.{times_shift, times_itself, filled_alike}
 
 abbrev pub shrunk_into : ℕ → Shrinking → List Float → Answered
-shrunk_into n w slice = answered (shrunk_by w) (fill n w.mean slice)
+shrunk_into n w slice = answered (Ok (shrunk_by w)) (fill n w.mean slice)
 
 pub large : (n : ℕ) (w : Shrinking) (slice : List Float) {c : Check} → c ≡ passes → Large (parts n (settle c slice (shrunk_into n w slice))) → AtLeast mean_range w.intensity × AtLeast mean_range w.target
 unfolding settle

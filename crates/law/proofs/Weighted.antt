@@ -31,6 +31,7 @@ use Rattle.rules.specs.Calls.{answered, exponentially_weighted_mean}
 use Rattle.rules.specs.declared.Decay.{Decay}
 use Rattle.rules.specs.declared.Refusal.TheVariants.{BadSetting}
 use Rattle.rules.specs.declared.Answer.TheVariants.{Mean}
+use Rattle.std.specs.Prelude.{Ok}
 use Rattle.law.specs.Law.{All, Sized, DecayInRange, Alike, ask, max_power, return_range, parts}
 use Rattle.law.specs.Law as Law
 use Rattle.law.proofs.Bits.{period_bits, period_bits_lem}
@@ -127,7 +128,7 @@ module _ (k : ℕ) (small : k ≤ max_power) (r : List Float) (sizes : All (Size
   unfolding exponentially_weighted_mean
   weighted_law slice slice' e =
       let r' = map (shift (pos k)) r in
-      settled (chained chain) (pos k) n slice slice' (answered Mean (fill n (mean r) slice)) (answered Mean (fill n (mean r') slice'))
+      settled (chained chain) (pos k) n slice slice' (answered (Ok Mean) (fill n (mean r) slice)) (answered (Ok Mean) (fill n (mean r') slice'))
       (λ p p' same. record { refusal = refl; entries = tt; means_and_target = filled_alike k n (mean r) (mean r') slice slice' same; intensity = tt; sweeps_and_rotations = refl })
     where
       chain : Chain ((i : ℕ) → i < n → T (fits binary64 (mean r i)) × (mean (map (shift (pos k)) r) i ≡ shift (pos k) (mean r i))) (weighted_order r n P d slice) (weighted_order (map (shift (pos k)) r) n P d slice')

@@ -1,6 +1,6 @@
 -- Demand 3, the power-of-two law, over the definitions of the five calls: its statement. Each field of the hypotheses is a sentence of the demand, of document 01, "Scaling
 -- ranges", or of document 02, "Paper 1". Of the second only the sentence on two James-Stein decompositions that differ in bits is left out: none do.
-use Rattle.std.specs.Prelude.{ℕ, suc, ◌-◌, ◌*◌, ◌/◌, ◌^◌, ◌≤◌, ◌≡◌, Bool, true, false, not, cond, ◌&&◌, ◌||◌, List, [], ◌∷◌, ◌++◌, ℤ, pos, negsuc, neg_ℤ, nat_abs, ◌+ℤ◌, ◌*ℤ◌, length, take, Float}
+use Rattle.std.specs.Prelude.{ℕ, suc, ◌-◌, ◌*◌, ◌/◌, ◌^◌, ◌≤◌, ◌≡◌, Bool, true, false, not, cond, ◌&&◌, ◌||◌, List, [], ◌∷◌, ◌++◌, ℤ, pos, negsuc, neg_ℤ, nat_abs, ◌+ℤ◌, ◌*ℤ◌, length, take, Float, Result, Ok, Err}
 use Rattle.std.proofs.Math.Option.{Option, none, some}
 use lib.Dec.{T, eqb}
 use Rattle.std.specs.Float.{nan, inf, fin, binary64}
@@ -24,7 +24,8 @@ use Rattle.rules.specs.declared.Regularization.{Regularization}
 use Rattle.rules.specs.declared.Regularization.TheVariants.{Unregularized, Ridge}
 use Rattle.rules.specs.declared.Settings.{Settings}
 use Rattle.rules.specs.declared.Answer.{Answer}
-use Rattle.rules.specs.declared.Answer.TheVariants.{Refused, Covariance, Intensity, Mean, Shrunk}
+use Rattle.rules.specs.declared.Answer.TheVariants.{Covariance, Intensity, Mean, Shrunk}
+use Rattle.rules.specs.declared.Refusal.{Refusal}
 
 -- ---- "Exactly 2^k times" speaks of the numbers themselves, with no rounding
 
@@ -99,12 +100,12 @@ pub record AnswerParts : Type 0 where
   pub intensity : List Float
   pub sweeps_and_rotations : List ℕ
 
-abbrev pub answer_parts : ℕ → Answer → List Float → AnswerParts
-answer_parts n (Refused c) x = record { refusal = some (number c, compared (detail c)); entries = []; means_and_target = []; intensity = []; sweeps_and_rotations = [] }
-answer_parts n (Covariance δ s r) x = record { refusal = none; entries = take (n * n) x; means_and_target = []; intensity = δ ∷ []; sweeps_and_rotations = s ∷ r ∷ [] }
-answer_parts n (Intensity δ) x = record { refusal = none; entries = []; means_and_target = []; intensity = δ ∷ []; sweeps_and_rotations = [] }
-answer_parts n Mean x = record { refusal = none; entries = []; means_and_target = take n x; intensity = []; sweeps_and_rotations = [] }
-answer_parts n (Shrunk α μ₀ s r) x = record { refusal = none; entries = []; means_and_target = μ₀ ∷ take n x; intensity = α ∷ []; sweeps_and_rotations = s ∷ r ∷ [] }
+abbrev pub answer_parts : ℕ → Result Answer Refusal → List Float → AnswerParts
+answer_parts n (Err c) x = record { refusal = some (number c, compared (detail c)); entries = []; means_and_target = []; intensity = []; sweeps_and_rotations = [] }
+answer_parts n (Ok (Covariance δ s r)) x = record { refusal = none; entries = take (n * n) x; means_and_target = []; intensity = δ ∷ []; sweeps_and_rotations = s ∷ r ∷ [] }
+answer_parts n (Ok (Intensity δ)) x = record { refusal = none; entries = []; means_and_target = []; intensity = δ ∷ []; sweeps_and_rotations = [] }
+answer_parts n (Ok Mean) x = record { refusal = none; entries = []; means_and_target = take n x; intensity = []; sweeps_and_rotations = [] }
+answer_parts n (Ok (Shrunk α μ₀ s r)) x = record { refusal = none; entries = []; means_and_target = μ₀ ∷ take n x; intensity = α ∷ []; sweeps_and_rotations = s ∷ r ∷ [] }
 
 abbrev pub parts : ℕ → Answered → AnswerParts
 parts n w = answer_parts n w.answer w.slice

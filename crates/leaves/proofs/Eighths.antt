@@ -18,10 +18,6 @@ eighth s = closest s 8
 pub eighth_error : (s : ℕ) → (eighth s * 8 ≤ s + 4) × (s ≤ eighth s * 8 + 4)
 eighth_error s = let e = closest_error s 8 (lit< tt) in omega arith
 
--- 8 p is nearest to all that is within 3 of it
-pub eighth_is : (p s : ℕ) → 8 * p ≤ s + 3 → s ≤ 8 * p + 3 → eighth s ≡ p
-eighth_is p s a b = let e = eighth_error s in omega arith
-
 -- a number of 56 digits keeps 53 of them
 pub round_56 : (s : ℕ) → 2 ^ 55 ≤ s → s < 2 ^ 56 → round binary64 false s 1 ≡ units binary64 false (eighth s) 1077
 round_56 s lo hi =
@@ -39,13 +35,6 @@ units_value q h = value_same (units binary64 false q 1077) false (q * 2 ^ 1077) 
 
 pub round_value : (s : ℕ) → 2 ^ 55 ≤ s → s < 2 ^ 56 → HasValue (round binary64 false s 1) false (eighth s * 8) 1
 round_value s lo hi = let e = eighth_error s in rw (round_56 s lo hi) (units_value (eighth s) (omega arith))
-
--- a multiple of 8 keeps its digits
-pub eights : (p : ℕ) → (2 ^ 52 ≤ p) × (p < 2 ^ 53) → round binary64 false (8 * p) 1 ≡ units binary64 false p 1077
-eights p d = round_56 (8 * p) (omega arith) (omega arith) ∙ ap (λ (q : ℕ). units binary64 false q 1077) (eighth_is p (8 * p) (omega arith) (omega arith))
-
-pub eights_value : (p : ℕ) → (2 ^ 52 ≤ p) × (p < 2 ^ 53) → HasValue (round binary64 false (8 * p) 1) false (p * 8) 1
-eights_value p d = rw (eights p d) (units_value p (omega arith))
 
 -- ---- the result, from 2 ^ 55 to 2 ^ 56, as it is written
 pub record Rounded (x : Float) : Type 0 where

@@ -8,7 +8,7 @@ use Rattle.leaves.specs.Scaling.{pow2, times, pow2_scaled, cut}
 use Rattle.leaves.specs.Loops.{loop}
 use Rattle.leaves.proofs.Whole.{pos_part, neg_part, minus, same}
 use Rattle.leaves.proofs.Laws.{room→fits, Room, mul_pow2}
-use Rattle.leaves.proofs.Scale.{scaled_once, scaled_exact}
+use Rattle.leaves.proofs.Scale.{scaled_once}
 
 -- ---- k cut to -1022..1023
 pub record Cut (k r : ℤ) : Type 0 where
@@ -75,7 +75,3 @@ scale_step x (negsuc n) h = go (ltb 1021 n) refl h
 pub mul_fin : (s : Bool) (m : ℕ) (e d g : ℤ) → Room (suc m) e → Room (suc m) g → g ≡ e +ℤ d → fin s (suc m) e ⊗ pow2 d ≡ fin s (suc m) g
 unfolding shift
 mul_fin s m e d g r q h = mul_pow2 (fin s (suc m) e) d (room→fits s m e r) (rw (← h) (room→fits s m g q)) ∙ ap (fin s (suc m)) (sym h)
-
-pub scaled_fin : (s : Bool) (m : ℕ) (e g k : ℤ) → Room (suc m) e → Room (suc m) g → g ≡ e +ℤ k → pow2_scaled (fin s (suc m) e) k ≡ fin s (suc m) g
-unfolding shift
-scaled_fin s m e g k r q h = scaled_exact (fin s (suc m) e) k (room→fits s m e r) (rw (← h) (room→fits s m g q)) ∙ ap (fin s (suc m)) (sym h)

@@ -140,29 +140,29 @@ middle_below q h = let f : q * 8 - 4 ≡ 4 * (2 * q - 1) = omega arith in ap (λ
     quadrupled a = omega arith
 
 module _ (m : ℕ) (e : ℤ) (t : T (fits binary64 (fin false (suc m) e))) where
-  abbrev room : Room (suc m) e
+  abbrev pub room : Room (suc m) e
   room = fits→room false m e t
 
-  abbrev k : ℤ
+  abbrev pub k : ℤ
   k = places m e room
 
-  abbrev n : ℕ
+  abbrev pub n : ℕ
   n = radicand (suc m) e
 
-  abbrev q : ℕ
+  abbrev pub q : ℕ
   q = eighth (sticky n)
 
-  abbrev p : ℕ
+  abbrev pub p : ℕ
   p = pos_part k + 1077 - neg_part k
 
-  exponents : pos_part (g m e room) + 56 + neg_part e + (p + p) ≡ 4 + (pos_part e + 1074 + 1074)
+  pub exponents : pos_part (g m e room) + 56 + neg_part e + (p + p) ≡ 4 + (pos_part e + 1074 + 1074)
   unfolding pos_part neg_part
   exponents =
       let h = half_exponent (suc m) e in
       omega (arith, whole m e room, halved m e room, minus h (pos 55), minus (pos 52) h, minus (pos 52 -ℤ h) h, plus e (pos 52 -ℤ h -ℤ h))
 
   -- V is q * 2 ^ p units
-  root_val : Val (sqrt (fin false (suc m) e)) false (q * 2 ^ p)
+  pub root_val : Val (sqrt (fin false (suc m) e)) false (q * 2 ^ p)
   unfolding sqrt U
   root_val =
       let x = round binary64 false (sticky n) 1 in
@@ -188,7 +188,7 @@ module _ (m : ℕ) (e : ℤ) (t : T (fits binary64 (fin false (suc m) e))) where
   odd_times : n ≡ suc m * 2 ^ (pos_part (g m e room) + 56)
   odd_times = radicand_is m e room ∙ mul_assoc (suc m) (2 ^ pos_part (g m e room)) (2 ^ 56) ∙ ap (λ (z : ℕ). suc m * z) (sym (pow-add 2 (pos_part (g m e room)) 56))
 
-  low_side : 4 * ((2 * q - 1) * (2 * q - 1)) < n
+  pub low_side : 4 * ((2 * q - 1) * (2 * q - 1)) < n
   low_side =
       let c = sqrt_near m e t in
       let l : 4 * ((2 * q - 1) * (2 * q - 1)) ≤ n = let f = middle_below q (lt_of_lt_of_le (lit< tt) c.digits.0) in omega arith in
@@ -197,7 +197,7 @@ module _ (m : ℕ) (e : ℤ) (t : T (fits binary64 (fin false (suc m) e))) where
         | inr h ↦ h
       ]
 
-  high_side : n < 4 * ((2 * q + 1) * (2 * q + 1))
+  pub high_side : n < 4 * ((2 * q + 1) * (2 * q + 1))
   high_side =
       let c = sqrt_near m e t in
       let l : n ≤ 4 * ((2 * q + 1) * (2 * q + 1)) = omega arith in

@@ -7,7 +7,7 @@ ghost use Rattle.leaves.specs.Inner as Inner;
 use crate::scaling::pow2_scaled;
 
 // ln 2; and in two parts, of which H has so few digits that its products with whole numbers are exact.
-pub const LN_2: f64 = 0.693147180559945309417232121458;
+pub const LN_2: f64 = std::f64::consts::LN_2;
 
 pub(crate) const H: f64 = 6.93147180369123816490e-01;
 
@@ -19,15 +19,13 @@ fn horner(r: f64, n: u32, d: u32) -> f64
     ensures { result ≡ Exp.horner r d n Numbers.one }
 {
     let mut p = 1.0;
-    let mut k = n;
-    while k > 0 {
+    for k in (1..=n).rev() {
         p = 1.0 + r * p / ((k + d) as f64);
-        k -= 1;
     }
     p
 }
 
-// The largest whole number not above x, for an x of size up to 2^12.
+// The largest whole number not above x, for an x of size up to 2^12. std's floor gives a float, which would be cast after it all the same.
 fn floor(x: f64) -> i32
     requires { Inner.Small x }
     ensures { result ≡ Exp.floor x }
@@ -49,7 +47,7 @@ pub fn exp(y: f64) -> f64
         let r = (y - f * H) - f * L;
         return pow2_scaled(horner(r, 13, 0), k);
     }
-    0.0 / 0.0
+    f64::NAN
 }
 
 // e^y - 1 for y not above 0.

@@ -11,9 +11,7 @@ fn series(z: f64, n: u32, first: f64) -> f64
     ensures { result ≡ Log.series z n first }
 {
     let mut q = first;
-    let mut k = n;
-    while k > 0 {
-        k -= 1;
+    for k in (0..n).rev() {
         q = 1.0 / ((2 * k + 1) as f64) + z * q;
     }
     q
@@ -47,5 +45,5 @@ pub fn ln(x: f64) -> f64
         }
         return ln_of(m, e);
     }
-    0.0 / 0.0
+    f64::NAN
 }

@@ -3,14 +3,14 @@ ghost use Rattle.std.specs.Prelude.{◌≡◌};
 ghost use Rattle.leaves.specs.Numbers as Numbers;
 
 // 2^-52.
-pub const EPSILON: f64 = 2.220446049250313e-16;
+pub const EPSILON: f64 = f64::EPSILON;
 
 // The float with these bits; those of any NaN give a NaN.
 pub fn float(bits: u64) -> f64
     ensures { result ≡ Numbers.float bits }
 {
     if bits % 0x8000000000000000 > 0x7FF0000000000000 {
-        0.0 / 0.0
+        f64::NAN
     } else {
         f64::from_bits(bits)
     }
@@ -19,38 +19,25 @@ pub fn float(bits: u64) -> f64
 pub fn is_finite(x: f64) -> bool
     ensures { result ≡ Numbers.is_finite x }
 {
-    let inf = 1.0 / 0.0;
-    -inf < x && x < inf
+    x.is_finite()
 }
 
+// At -0 it is 0.
 pub fn abs(x: f64) -> f64
     ensures { result ≡ Numbers.abs x }
 {
-    if x == 0.0 {
-        0.0 // at -0 too
-    } else if x < 0.0 {
-        -x
-    } else {
-        x
-    }
+    x.abs()
 }
 
+// 1 with the sign of x, of a zero too.
 pub fn signum(x: f64) -> f64
     ensures { result ≡ Numbers.signum x }
 {
-    if x == 0.0 {
-        // 1 / x is an infinity with the zero's sign
-        if 1.0 / x < 0.0 { -1.0 } else { 1.0 }
-    } else if x < 0.0 {
-        -1.0
-    } else if x > 0.0 {
-        1.0
-    } else {
-        x
-    }
+    x.signum()
 }
 
 // The larger and the smaller of two, the first where they do not differ or one is NaN.
+// std's max and min pass a NaN over, and may return either of -0 and +0, so these four are written out.
 pub fn larger(m: f64, x: f64) -> f64
     ensures { result ≡ Numbers.larger m x }
 {
@@ -78,11 +65,5 @@ pub fn min0(y: f64) -> f64
 pub fn clamp01(x: f64) -> f64
     ensures { result ≡ Numbers.clamp01 x }
 {
-    if x < 0.0 {
-        0.0
-    } else if x > 1.0 {
-        1.0
-    } else {
-        x
-    }
+    x.clamp(0.0, 1.0)
 }

@@ -15,13 +15,7 @@ fn pow2(k: i32) -> f64
 pub fn cut(k: i32) -> i32
     ensures { result ≡ Scaling.cut k }
 {
-    if k < -1022 {
-        -1022
-    } else if k > 1023 {
-        1023
-    } else {
-        k
-    }
+    k.clamp(-1022, 1023)
 }
 
 // x times 2^k, in steps that stay in the normal range.
@@ -41,7 +35,7 @@ pub fn pow2_scaled(x: f64, k: i32) -> f64
 pub fn binary_exponent(x: f64) -> i32
     ensures { result ≡ Scaling.binary_exponent x }
 {
-    if x != x {
+    if x.is_nan() {
         return 1024;
     }
     if x == 0.0 {

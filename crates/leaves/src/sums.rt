@@ -9,10 +9,8 @@ pub fn sum(xs: &[f64]) -> f64
     ensures { result ≡ Loops.sum_to (length xs.now) (Loops.nth xs.now) }
 {
     let mut t = 0.0;
-    let mut i = 0;
-    while i < xs.len() {
-        t = t + xs[i];
-        i += 1;
+    for x in xs {
+        t = t + *x;
     }
     t
 }
@@ -22,10 +20,8 @@ pub fn amax(xs: &[f64]) -> f64
     ensures { result ≡ Loops.amax_to (length xs.now) (Loops.nth xs.now) }
 {
     let mut t = 0.0;
-    let mut i = 0;
-    while i < xs.len() {
-        t = larger(t, abs(xs[i]));
-        i += 1;
+    for x in xs {
+        t = larger(t, abs(*x));
     }
     t
 }

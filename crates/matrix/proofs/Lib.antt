@@ -1,6 +1,7 @@
 -- The laws that the proofs of the matrices share, and the theorems about the decomposition (Sweeps, Rotations, LargerLimit, Vectors, Symmetry).
 -- stored matrices, their sums, and searches through them
 pub mod SumOver
+pub mod Folds
 pub mod Stored
 pub mod FilledRows
 pub mod First

@@ -1,8 +1,9 @@
 -- What only the contracts of inner functions cite: records put together from their parts, layouts of the code, and symmetry to the last bit. Definitions only.
-use Rattle.std.specs.Prelude.{ℕ, suc, ◌+◌, ◌*◌, ◌<◌, ◌≡◌, Bool, cond, List, eqb, set, Float}
+use Rattle.std.specs.Prelude.{ℕ, suc, ◌+◌, ◌*◌, ◌<◌, ◌≡◌, Bool, true, false, cond, List, eqb, set, Float, Option, Some, None}
+use Rattle.std.specs.Float.Ieee.{eq}
 use Rattle.leaves.specs.Numbers.{◌⊕◌, ◌⊖◌, ◌⊗◌, zero⁺}
 use Rattle.matrix.specs.Matrix.{Matrix, at, rows, transpose}
-use Rattle.matrix.specs.Rotation.{State}
+use Rattle.matrix.specs.Rotation.{State, tangent_at, cosine}
 use Rattle.matrix.specs.Jacobi.{Swept, Decomposition}
 
 abbrev pub state : List Float → List Float → ℕ → State
@@ -17,6 +18,10 @@ swept_to done k st = record { done = done; sweeps = k; reached = st }
 
 abbrev pub decomposed : Bool → List Float → List Float → ℕ → ℕ → Decomposition
 decomposed found values vectors k r = record { found = found; values = values; vectors = vectors; sweeps = k; rotations = r }
+
+-- the cosine and the sine of the rotation at p and q, unless the entry there is 0
+unfoldable pub angle_at : ℕ → ℕ → ℕ → List Float → Option (Float × Float)
+angle_at n p q a = elim (eq (at a n p q) zero⁺) [ true ↦ None | false ↦ let t = tangent_at n p q a in Some (cosine t, t ⊗ cosine t) ]
 
 -- the square matrix that is stored column by column, stored row by row
 abbrev pub by_columns : ℕ → List Float → List Float

@@ -1,9 +1,8 @@
--- What only the contracts of inner functions cite: what a search through a matrix answers, as a row and a column. Definitions only.
-use Rattle.std.specs.Prelude.{ℕ}
-use Rattle.std.proofs.Math.Option.{Option, none, some}
-use Rattle.matrix.specs.declared.places.Place.{Place}
-use Rattle.matrix.specs.declared.places.Place.TheVariants.{At, Nowhere}
+-- What only the contracts of inner functions cite: what a search through a matrix answers, as the definitions have it. Definitions only.
+use Rattle.std.specs.Prelude.{Option, Some, None}
+use Rattle.std.proofs.Math.Option as Math
+use Rattle.std.proofs.Math.Option.{some, none}
 
-abbrev pub placed : Place → Option (ℕ × ℕ)
-placed (At i j) = some (i, j)
-placed Nowhere = none
+abbrev pub placed : {A : Type 0} → Option A → Math.Option A
+placed (Some a) = some a
+placed None = none

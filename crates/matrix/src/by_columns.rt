@@ -3,8 +3,7 @@ ghost use Rattle.std.specs.Prelude.{◌≡◌, ℕ, ◌*◌, ◌<◌, length};
 ghost use Rattle.matrix.specs.Rotation as Rotation;
 ghost use Rattle.matrix.specs.Inner.{state, counted, by_columns, Symmetric};
 
-use crate::entries::get;
-use crate::rotation::{tangent_at, turn_rows};
+use crate::rotation::{angle_at, turn_rows};
 use crate::symmetric::turn_symmetric;
 
 // As `rotation::rotate`, with V's columns in v.
@@ -12,14 +11,12 @@ pub(crate) fn rotate(a: &mut [f64], v: &mut [f64], n: usize, p: usize, q: usize)
     requires { (p < q) × (q < n) × (length a.old ≡ n * n) × (length v.old ≡ n * n) × Symmetric n a.old }
     ensures { (k : ℕ) → state a.new (by_columns n v.new) (counted result k) ≡ Rotation.rotate n p q (state a.old (by_columns n v.old) k) }
 {
-    let y = get(a, n, p, q);
-    if y == 0.0 {
-        return false;
+    match angle_at(a, n, p, q) {
+        None => false,
+        Some((c, s)) => {
+            turn_symmetric(a, n, p, q, c, s);
+            turn_rows(v, n, p, q, c, s);
+            true
+        }
     }
-    let t = tangent_at(a, n, p, q);
-    let c = 1.0 / leaves::root::sqrt(t * t + 1.0);
-    let s = t * c;
-    turn_symmetric(a, n, p, q, c, s);
-    turn_rows(v, n, p, q, c, s);
-    true
 }

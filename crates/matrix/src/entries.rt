@@ -4,6 +4,8 @@ ghost use Rattle.leaves.specs.Loops as Loops;
 ghost use Rattle.matrix.specs.Matrix as Matrix;
 ghost use Rattle.matrix.specs.Matrix.{at};
 
+use leaves::numbers::{larger, smaller};
+
 pub(crate) fn get(a: &[f64], n: usize, i: usize, j: usize) -> f64
     requires { (i < n) × (j < n) × (length a.now ≡ n * n) }
     ensures { result ≡ at a.now n i j }
@@ -31,24 +33,12 @@ pub fn largest(values: &[f64]) -> f64
     requires { 0 < length values.now }
     ensures { result ≡ Loops.max_to (length values.now) (Loops.nth values.now) }
 {
-    let mut m = values[0];
-    let mut i = 0;
-    while i < values.len() {
-        m = leaves::numbers::larger(m, values[i]);
-        i += 1;
-    }
-    m
+    values.iter().copied().fold(values[0], larger)
 }
 
 pub fn smallest(values: &[f64]) -> f64
     requires { 0 < length values.now }
     ensures { result ≡ Loops.min_to (length values.now) (Loops.nth values.now) }
 {
-    let mut m = values[0];
-    let mut i = 0;
-    while i < values.len() {
-        m = leaves::numbers::smaller(m, values[i]);
-        i += 1;
-    }
-    m
+    values.iter().copied().fold(values[0], smaller)
 }

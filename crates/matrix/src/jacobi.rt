@@ -16,26 +16,14 @@ use crate::tables;
 
 // ---- sweeps, with V stored column by column in v
 
-fn count(turned: bool, rotations: usize) -> usize
-    requires { rotations < max_side }
-    ensures { result ≡ counted turned rotations }
-{
-    if turned { rotations + 1 } else { rotations }
-}
-
 // Row p of a sweep. The number of rotations made.
 fn sweep_row(a: &mut [f64], v: &mut [f64], n: usize, p: usize) -> usize
     requires { (p < n) × (n ≤ max_side) × (length a.old ≡ n * n) × (length v.old ≡ n * n) × Symmetric n a.old }
     ensures { (k : ℕ) → state a.new (by_columns n v.new) (k + result) ≡ Jacobi.sweep_row n p (state a.old (by_columns n v.old) k) }
 {
-    let from = p + 1;
-    let rest = n - from;
     let mut rotations = 0;
-    let mut j = 0;
-    while j < rest {
-        let turned = rotate(a, v, n, p, from + j);
-        rotations = count(turned, rotations);
-        j += 1;
+    for q in p + 1..n {
+        rotations += usize::from(rotate(a, v, n, p, q));
     }
     rotations
 }
@@ -46,14 +34,13 @@ fn sweep(a: &mut [f64], v: &mut [f64], n: usize) -> usize
     ensures { (k : ℕ) → state a.new (by_columns n v.new) (k + result) ≡ Jacobi.sweep n (state a.old (by_columns n v.old) k) }
 {
     let mut rotations = 0;
-    let mut p = 0;
-    while p < n {
+    for p in 0..n {
         rotations += sweep_row(a, v, n, p);
-        p += 1;
     }
     rotations
 }
 
+// No Option: the rules give the sweeps and rotations also where nothing is found.
 #[derive(Clone, Copy)]
 pub struct Outcome {
     pub found: bool,
@@ -67,10 +54,9 @@ fn sweeping(a: &mut [f64], v: &mut [f64], n: usize, limit: usize, tolerance: f64
     ensures { swept_to result.found result.sweeps (state a.new (by_columns n v.new) result.rotations) ≡ Jacobi.sweeping limit n tolerance (state a.old (by_columns n v.old) 0) }
 {
     let mut rotations = 0;
-    let mut k = 0;
-    while k < limit {
+    for k in 0..limit {
         let s = off_diagonal(a, n);
-        if s != s {
+        if s.is_nan() {
             return Outcome {
                 found: false,
                 sweeps: k,
@@ -85,11 +71,10 @@ fn sweeping(a: &mut [f64], v: &mut [f64], n: usize, limit: usize, tolerance: f64
             };
         }
         rotations += sweep(a, v, n);
-        k += 1;
     }
     Outcome {
         found: false,
-        sweeps: k,
+        sweeps: limit,
         rotations,
     }
 }
@@ -102,15 +87,12 @@ fn start(a: &[f64], n: usize, scale: f64, out: &mut [f64])
     requires { (length a.now ≡ n * n) × (length out.old ≡ n * n) × ((i j : ℕ) → i < n → j < n → T (is_finite (at a.now n i j ⊘ scale))) }
     ensures { out.new ≡ Jacobi.start n scale (at a.now n) }
 {
-    let size = n * n;
-    let mut k = 0;
-    while k < size {
+    for (k, z) in out.iter_mut().enumerate() {
         let i = k / n;
         let j = k % n;
         let x = 0.0 + get(a, n, i, j) / scale;
         let y = 0.0 + get(a, n, j, i) / scale;
-        out[k] = (x + y) * 0.5;
-        k += 1;
+        *z = (x + y) * 0.5;
     }
 }
 
@@ -141,7 +123,7 @@ pub fn unturned(n: usize, found: bool, values: &mut [f64], vectors: &mut [f64]) 
     requires { (length values.old ≡ n) × (length vectors.old ≡ n * n) }
     ensures { decomposed result.found values.new vectors.new result.sweeps result.rotations ≡ Jacobi.unturned n found }
 {
-    tables::put_zeros(values, n);
+    values.fill(0.0);
     tables::put_identity(vectors, n);
     Outcome {
         found,

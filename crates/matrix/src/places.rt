@@ -6,52 +6,34 @@ ghost use Rattle.matrix.specs.Places.{placed};
 
 use crate::entries::get;
 
-#[derive(Clone, Copy)]
-pub enum Place {
-    // row, column
-    At(usize, usize),
-    Nowhere,
-}
-
-// The first entry of an m × n matrix that is NaN or infinite.
-pub fn first_not_finite(a: &[f64], m: usize, n: usize) -> Place
+// The first entry of an m × n matrix that is NaN or infinite, as a row and a column.
+pub fn first_not_finite(a: &[f64], m: usize, n: usize) -> Option<(usize, usize)>
     requires { length a.now ≡ m * n }
     ensures { placed result ≡ Matrix.first_not_finite m n (at a.now n) }
 {
-    let mut k = 0;
-    while k < a.len() {
-        if !leaves::numbers::is_finite(a[k]) {
-            return Place::At(k / n, k % n);
-        }
-        k += 1;
-    }
-    Place::Nowhere
+    let k = a.iter().position(|x| !leaves::numbers::is_finite(*x))?;
+    Some((k / n, k % n))
 }
 
 pub fn all_finite(a: &[f64], m: usize, n: usize) -> bool
     requires { length a.now ≡ m * n }
     ensures { result ≡ Matrix.all_finite m n (at a.now n) }
 {
-    let bad = first_not_finite(a, m, n);
-    match bad {
-        Place::At(_, _) => false,
-        Place::Nowhere => true,
-    }
+    first_not_finite(a, m, n).is_none()
 }
 
 // The first entry that differs from its transpose by more than the tolerance.
-pub fn first_asymmetric(a: &[f64], n: usize, tolerance: f64) -> Place
+// By index: an entry is compared with one that stands elsewhere.
+pub fn first_asymmetric(a: &[f64], n: usize, tolerance: f64) -> Option<(usize, usize)>
     requires { length a.now ≡ n * n }
     ensures { placed result ≡ Matrix.first_asymmetric n tolerance (at a.now n) }
 {
-    let mut k = 0;
-    while k < a.len() {
+    for k in 0..a.len() {
         let i = k / n;
         let j = k % n;
         if tolerance < leaves::numbers::abs(get(a, n, i, j) - get(a, n, j, i)) {
-            return Place::At(i, j);
+            return Some((i, j));
         }
-        k += 1;
     }
-    Place::Nowhere
+    None
 }

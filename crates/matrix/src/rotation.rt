@@ -1,6 +1,7 @@
 // One Jacobi rotation (eigen.rs, `rotate`).
 ghost use Rattle.std.specs.Prelude.{◌≡◌, ℕ, ◌*◌, ◌<◌, length};
 ghost use Rattle.matrix.specs.Rotation as Rotation;
+ghost use Rattle.matrix.specs.Inner as Inner;
 ghost use Rattle.matrix.specs.Inner.{state, counted};
 ghost use Rattle.matrix.specs.Rotation.{turned_both};
 
@@ -17,15 +18,14 @@ fn turn(a: &mut [f64], i: usize, j: usize, c: f64, s: f64)
     a[j] = s * x + c * y;
 }
 
+// Columns and rows stay two functions: with a base and a stride for both, the loop along a row would not be known to be one.
 fn turn_columns(a: &mut [f64], n: usize, p: usize, q: usize, c: f64, s: f64)
     requires { (p < n) × (q < n) × (length a.old ≡ n * n) }
     ensures { a.new ≡ Rotation.turn_columns n p q c s a.old }
 {
-    let mut k = 0;
-    while k < n {
+    for k in 0..n {
         let base = k * n;
         turn(a, base + p, base + q, c, s);
-        k += 1;
     }
 }
 
@@ -35,10 +35,8 @@ pub(crate) fn turn_rows(a: &mut [f64], n: usize, p: usize, q: usize, c: f64, s: 
 {
     let pn = p * n;
     let qn = q * n;
-    let mut k = 0;
-    while k < n {
+    for k in 0..n {
         turn(a, pn + k, qn + k, c, s);
-        k += 1;
     }
 }
 
@@ -65,7 +63,7 @@ fn tangent(tau: f64) -> f64
 }
 
 // The tangent of the rotation at p and q.
-pub(crate) fn tangent_at(a: &[f64], n: usize, p: usize, q: usize) -> f64
+fn tangent_at(a: &[f64], n: usize, p: usize, q: usize) -> f64
     requires { (p < n) × (q < n) × (length a.now ≡ n * n) }
     ensures { result ≡ Rotation.tangent_at n p q a.now }
 {
@@ -75,19 +73,30 @@ pub(crate) fn tangent_at(a: &[f64], n: usize, p: usize, q: usize) -> f64
     tangent((z - x) / (2.0 * y))
 }
 
+// The cosine and the sine of the rotation at p and q; None at an entry 0.
+pub(crate) fn angle_at(a: &[f64], n: usize, p: usize, q: usize) -> Option<(f64, f64)>
+    requires { (p < n) × (q < n) × (length a.now ≡ n * n) }
+    ensures { result ≡ Inner.angle_at n p q a.now }
+{
+    if get(a, n, p, q) == 0.0 {
+        return None;
+    }
+    let t = tangent_at(a, n, p, q);
+    let c = 1.0 / leaves::root::sqrt(t * t + 1.0);
+    Some((c, t * c))
+}
+
 // A ← JᵀAJ and V ← VJ for the rotation J that zeroes entry p, q of A. Nothing is done at an entry 0. Whether it turned.
 pub fn rotate(a: &mut [f64], v: &mut [f64], n: usize, p: usize, q: usize) -> bool
     requires { (p < n) × (q < n) × (length a.old ≡ n * n) × (length v.old ≡ n * n) }
     ensures { (k : ℕ) → state a.new v.new (counted result k) ≡ Rotation.rotate n p q (state a.old v.old k) }
 {
-    let y = get(a, n, p, q);
-    if y == 0.0 {
-        return false;
+    match angle_at(a, n, p, q) {
+        None => false,
+        Some((c, s)) => {
+            turn_both(a, n, p, q, c, s);
+            turn_columns(v, n, p, q, c, s);
+            true
+        }
     }
-    let t = tangent_at(a, n, p, q);
-    let c = 1.0 / leaves::root::sqrt(t * t + 1.0);
-    let s = t * c;
-    turn_both(a, n, p, q, c, s);
-    turn_columns(v, n, p, q, c, s);
-    true
 }

@@ -12,10 +12,8 @@ pub fn trace(a: &[f64], n: usize) -> f64
     ensures { result ≡ Matrix.trace n (at a.now n) }
 {
     let mut s = 0.0;
-    let mut i = 0;
-    while i < n {
+    for i in 0..n {
         s = s + get(a, n, i, i);
-        i += 1;
     }
     s
 }
@@ -34,11 +32,8 @@ pub fn squares(a: &[f64], n: usize) -> f64
     ensures { result ≡ Matrix.squares n (at a.now n) }
 {
     let mut s = 0.0;
-    let mut k = 0;
-    while k < a.len() {
-        let x = a[k];
-        s = s + x * x;
-        k += 1;
+    for x in a {
+        s = s + *x * *x;
     }
     s
 }
@@ -49,11 +44,9 @@ fn off_row(a: &[f64], n: usize, p: usize, sum: f64) -> f64
     ensures { result ≡ sum_row n ltb (squared (at a.now n)) p sum }
 {
     let mut s = sum;
-    let mut q = p + 1;
-    while q < n {
+    for q in p + 1..n {
         let x = get(a, n, p, q);
         s = s + x * x;
-        q += 1;
     }
     s
 }
@@ -64,10 +57,8 @@ pub fn off_diagonal(a: &[f64], n: usize) -> f64
     ensures { result ≡ Jacobi.off_diagonal n (at a.now n) }
 {
     let mut s = 0.0;
-    let mut p = 0;
-    while p < n {
+    for p in 0..n {
         s = off_row(a, n, p, s);
-        p += 1;
     }
     s
 }

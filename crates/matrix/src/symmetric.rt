@@ -27,18 +27,16 @@ fn mirror(a: &mut [f64], n: usize, p: usize, q: usize)
 {
     let pn = p * n;
     let qn = q * n;
-    let mut k = 0;
-    while k < n {
+    for k in 0..n {
         let base = k * n;
         let x = a[pn + k];
         let y = a[qn + k];
         a[base + p] = x;
         a[base + q] = y;
-        k += 1;
     }
 }
 
-// As `rotation::turn_both`.
+// As `rotation::turn_both`, which takes any matrix and so turns the columns too.
 pub(crate) fn turn_symmetric(a: &mut [f64], n: usize, p: usize, q: usize, c: f64, s: f64)
     requires { (p < q) × (q < n) × (length a.old ≡ n * n) × Symmetric n a.old }
     ensures { a.new ≡ turned_both n p q c s a.old }

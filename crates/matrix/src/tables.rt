@@ -11,11 +11,7 @@ pub fn copy(xs: &[f64], out: &mut [f64])
     requires { length xs.now ≡ length out.old }
     ensures { out.new ≡ xs.now }
 {
-    let mut k = 0;
-    while k < out.len() {
-        out[k] = xs[k];
-        k += 1;
-    }
+    out.copy_from_slice(xs);
 }
 
 // The average with the transpose.
@@ -23,13 +19,10 @@ pub fn average(a: &[f64], n: usize, out: &mut [f64])
     requires { (length a.now ≡ n * n) × (length out.old ≡ n * n) }
     ensures { out.new ≡ rows n n (averaged (at a.now n)) }
 {
-    let size = n * n;
-    let mut k = 0;
-    while k < size {
+    for (k, y) in out.iter_mut().enumerate() {
         let i = k / n;
         let j = k % n;
-        out[k] = (get(a, n, i, j) + get(a, n, j, i)) / 2.0;
-        k += 1;
+        *y = (get(a, n, i, j) + get(a, n, j, i)) / 2.0;
     }
 }
 
@@ -38,11 +31,8 @@ pub fn divide(a: &[f64], n: usize, scale: f64, out: &mut [f64])
     requires { (length a.now ≡ n * n) × (length out.old ≡ n * n) }
     ensures { out.new ≡ rows n n (divided (at a.now n) scale) }
 {
-    let size = n * n;
-    let mut k = 0;
-    while k < size {
-        out[k] = a[k] / scale;
-        k += 1;
+    for (k, y) in out.iter_mut().enumerate() {
+        *y = a[k] / scale;
     }
 }
 
@@ -56,11 +46,8 @@ pub fn put_identity(out: &mut [f64], n: usize)
     requires { length out.old ≡ n * n }
     ensures { out.new ≡ rows n n identity }
 {
-    let size = n * n;
-    let mut k = 0;
-    while k < size {
-        out[k] = identity_entry(k / n, k % n);
-        k += 1;
+    for (k, y) in out.iter_mut().enumerate() {
+        *y = identity_entry(k / n, k % n);
     }
 }
 
@@ -69,21 +56,8 @@ pub(crate) fn put_diagonal(a: &[f64], n: usize, scale: f64, out: &mut [f64])
     requires { (length a.now ≡ n * n) × (length out.old ≡ n) }
     ensures { out.new ≡ tab n (λ (i : ℕ). at a.now n i i ⊗ scale) }
 {
-    let mut i = 0;
-    while i < n {
-        out[i] = get(a, n, i, i) * scale;
-        i += 1;
-    }
-}
-
-pub(crate) fn put_zeros(out: &mut [f64], n: usize)
-    requires { length out.old ≡ n }
-    ensures { out.new ≡ tab n (λ (i : ℕ). zero⁺) }
-{
-    let mut i = 0;
-    while i < n {
-        out[i] = 0.0;
-        i += 1;
+    for (i, y) in out.iter_mut().enumerate() {
+        *y = get(a, n, i, i) * scale;
     }
 }
 
@@ -91,11 +65,8 @@ fn put_transpose(a: &[f64], n: usize, out: &mut [f64])
     requires { (length a.now ≡ n * n) × (length out.old ≡ n * n) }
     ensures { out.new ≡ by_columns n a.now }
 {
-    let size = n * n;
-    let mut k = 0;
-    while k < size {
-        out[k] = get(a, n, k % n, k / n);
-        k += 1;
+    for (k, y) in out.iter_mut().enumerate() {
+        *y = get(a, n, k % n, k / n);
     }
 }
 

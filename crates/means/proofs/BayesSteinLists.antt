@@ -3,6 +3,7 @@ use Rattle.std.proofs.Common.{◌≡◌, ℕ, ◌<◌, not, List, ◌∷◌, ℤ
 use mathlib.Core.Option.{Option}
 use lib.IntN.{+ℤ_idr}
 use lib.Ieee.{Float}
+use Rattle.std.specs.Prelude.{Ok}
 use Rattle.leaves.specs.Loops.{tab, nth}
 use Rattle.leaves.specs.Scaling.{binary_exponent, pow2_scaled}
 use Rattle.leaves.proofs.Loops.{tab_ext}
@@ -25,7 +26,7 @@ sizes_stored n limit m e f sizes slice is-sizes =
     let w = bayes_stein n limit m e in
     ap
     (λ (o : Option ℕ). settle (first (when_some o ZeroVariance ∷ when (not (all_finite n n (correlations n m))) Singular ∷ by_decomposition n w.decomposition)) slice
-    (answered (shrunk_by w) (tab n w.mean)))
+    (answered (Ok (shrunk_by w)) (tab n w.mean)))
     (constant_sizes n (at m.covariance n) f sizes is-sizes)
 
 -- from the largest returns, their exponents, the moments over those and the largest returns over them

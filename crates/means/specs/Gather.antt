@@ -1,14 +1,13 @@
 -- What only the contracts of inner functions cite: numbers gathered over one power of two. Definitions only.
-use Rattle.std.specs.Prelude.{◌≡◌, ℕ, ◌≤◌, List, ℤ, unsigned_abs, Float}
+use Rattle.std.specs.Prelude.{◌≡◌, ℕ, ◌≤◌, List, ℤ, Option as Optional, Some, None, unsigned_abs, Float}
 use Rattle.std.proofs.Math.Option.{Option, none, some}
 use Rattle.rules.specs.BayesStein.{or_zero, common_exponent, gathered}
 use Rattle.tables.specs.Exponents.{two_exponents}
-use Rattle.means.specs.declared.gather.Largest.{Largest}
-use Rattle.means.specs.declared.gather.Largest.TheVariants.{Nothing, Exponent}
 
-abbrev pub largest_of : Largest → Option ℤ
-largest_of Nothing = none
-largest_of (Exponent k) = some k
+-- the Option of the definitions
+abbrev pub largest_of : Optional ℤ → Option ℤ
+largest_of None = none
+largest_of (Some k) = some k
 
 -- it is at most a sum of two exponents in size
 abbrev pub WithinTwoExponents : Option ℤ → Type 0

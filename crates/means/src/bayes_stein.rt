@@ -18,11 +18,11 @@ ghost use Rattle.tables.specs.Exponents.{Exponents, two_exponents};
 ghost use Rattle.means.specs.Held.{held};
 ghost use Rattle.means.specs.Stein.{mean_shrinkage, BayesSteinShrinks, bayes_stein_of};
 
-use crate::forms::{ratio, squared_distance};
+use crate::forms::Decomposed;
 use crate::gather::{gather_means, gather_ones};
 use crate::moments::Moments;
 use covariances::sample::{constant_returns, put_volatilities};
-use inputs::checks::{Check, first, when};
+use inputs::checks::when;
 use leaves::scaling::pow2_scaled;
 use matrix::jacobi::{Outcome, decompose};
 use rules::{Answer, Refusal};
@@ -33,10 +33,8 @@ fn put_correlations(covariance: &[f64], volatilities: &[f64], n: usize, out: &mu
     ensures { out.new ≡ rows n n (Sample.correlation_by (nth volatilities.now) (at covariance.now n)) }
 {
     let size = n * n;
-    let mut k = 0;
-    while k < size {
+    for k in 0..size {
         out[k] = covariance[k] / volatilities[k / n] / volatilities[k % n];
-        k += 1;
     }
 }
 
@@ -75,23 +73,21 @@ fn shrinkage_in(
     means: &[f64],
     volatilities: &[f64],
     exponents: &[i32],
-    n: usize,
     periods: f64,
-    values: &[f64],
-    vectors: &[f64],
+    d: &Decomposed<'_>,
     ones: &mut [f64],
     scaled: &mut [f64],
     p: &mut [f64],
     q: &mut [f64],
 ) -> MeanShrinkage
-    requires { (n ≤ max_side) × (length means.now ≡ n) × (length volatilities.now ≡ n) × (length exponents.now ≡ n) × Exponents exponents.now × (length values.now ≡ n) × (length vectors.now ≡ n * n) × (length ones.old ≡ n) × (length scaled.old ≡ n) × (length p.old ≡ n) × (length q.old ≡ n) }
-    ensures { BayesSteinShrinks n means.now volatilities.now exponents.now periods values.now vectors.now result.intensity result.target }
+    requires { (d.now.n ≤ max_side) × (length means.now ≡ d.now.n) × (length volatilities.now ≡ d.now.n) × (length exponents.now ≡ d.now.n) × Exponents exponents.now × (length ones.old ≡ d.now.n) × (length scaled.old ≡ d.now.n) × (length p.old ≡ d.now.n) × (length q.old ≡ d.now.n) }
+    ensures { BayesSteinShrinks d.now.n means.now volatilities.now exponents.now periods d.now.values.now d.now.vectors.now result.intensity result.target }
 {
-    let a = gather_ones(volatilities, exponents, n, ones);
-    let b = gather_means(means, volatilities, n, scaled);
-    let ratio = ratio(values, vectors, n, ones, scaled, p, q);
-    let squared = squared_distance(values, vectors, n, ones, scaled, ratio, p, q);
-    shrinkage_by(n, periods, ratio, squared, a, b)
+    let a = gather_ones(volatilities, exponents, d.n, ones);
+    let b = gather_means(means, volatilities, d.n, scaled);
+    let ratio = d.ratio(ones, scaled, p, q);
+    let squared = d.squared_distance(ones, scaled, ratio, p, q);
+    shrinkage_by(d.n, periods, ratio, squared, a, b)
 }
 
 // The same, in four arrays of the largest size.
@@ -99,14 +95,13 @@ fn shrinkage(
     means: &[f64],
     volatilities: &[f64],
     exponents: &[i32],
-    n: usize,
     periods: f64,
-    values: &[f64],
-    vectors: &[f64],
+    d: &Decomposed<'_>,
 ) -> MeanShrinkage
-    requires { (n ≤ max_side) × (length means.now ≡ n) × (length volatilities.now ≡ n) × (length exponents.now ≡ n) × Exponents exponents.now × (length values.now ≡ n) × (length vectors.now ≡ n * n) }
-    ensures { BayesSteinShrinks n means.now volatilities.now exponents.now periods values.now vectors.now result.intensity result.target }
+    requires { (d.now.n ≤ max_side) × (length means.now ≡ d.now.n) × (length volatilities.now ≡ d.now.n) × (length exponents.now ≡ d.now.n) × Exponents exponents.now }
+    ensures { BayesSteinShrinks d.now.n means.now volatilities.now exponents.now periods d.now.values.now d.now.vectors.now result.intensity result.target }
 {
+    let n = d.n;
     let mut ones = [0.0; matrix::MAX_SIDE];
     let mut scaled = [0.0; matrix::MAX_SIDE];
     let mut p = [0.0; matrix::MAX_SIDE];
@@ -115,10 +110,8 @@ fn shrinkage(
         means,
         volatilities,
         exponents,
-        n,
         periods,
-        values,
-        vectors,
+        d,
         &mut ones[..n],
         &mut scaled[..n],
         &mut p[..n],
@@ -133,26 +126,22 @@ fn correlate(
     sizes: &[f64],
     volatilities: &mut [f64],
     out: &mut [f64],
-) -> Check
+) -> Result<(), Refusal>
     requires { (length covariance.now ≡ n * n) × (length sizes.now ≡ n) × (length volatilities.old ≡ n) × (length out.old ≡ n * n) }
     ensures { (volatilities.new ≡ tab n (volatility (at covariance.now n))) × (out.new ≡ rows n n (Sample.correlation (at covariance.now n))) × (checked result ≡ Refusals.first (by_correlations n (nth sizes.now) (at covariance.now n) (at out.new n))) }
 {
     put_volatilities(covariance, n, volatilities);
     put_correlations(covariance, volatilities, n, out);
-    let constant = constant_returns(volatilities, n, sizes);
-    let finite = matrix::places::all_finite(out, n, n);
-    first(constant, when(!finite, Refusal::Singular))
+    constant_returns(volatilities, n, sizes)?;
+    when(!matrix::places::all_finite(out, n, n), Refusal::Singular)
 }
 
 // Refusal 14 by the decomposition `d`, with these values.
-fn judge(d: Outcome, values: &[f64], n: usize) -> Check
+fn judge(d: Outcome, values: &[f64], n: usize) -> Result<(), Refusal>
     requires { (0 < n) × (length values.now ≡ n) }
     ensures { (vectors : List Float) → checked result ≡ Refusals.first (by_decomposition n (decomposed d.found values.now vectors d.sweeps d.rotations)) }
 {
-    let found = d.found;
-    if !found {
-        return Check::Refuses(Refusal::Singular);
-    }
+    when(!d.found, Refusal::Singular)?;
     when(is_singular(values), Refusal::Singular)
 }
 
@@ -161,10 +150,8 @@ fn put_shrunk(means: &[f64], exponents: &[i32], intensity: f64, target: f64, out
     requires { (length means.now ≡ length out.old) × (length exponents.now ≡ length out.old) × Exponents exponents.now }
     ensures { out.new ≡ tab (length out.old) (λ (i : ℕ). BayesStein.shrunk_mean (mean_shrinkage intensity target) (nth means.now i) (exponent_at exponents.now i)) }
 {
-    let mut i = 0;
-    while i < out.len() {
+    for i in 0..out.len() {
         out[i] = pow2_scaled((1.0 - intensity) * means[i], exponents[i]) + intensity * target;
-        i += 1;
     }
 }
 
@@ -182,36 +169,36 @@ fn shrink_in(
     values: &mut [f64],
     vectors: &mut [f64],
     out: &mut [f64],
-) -> Answer
+) -> Result<Answer, Refusal>
     requires { (0 < n) × (n ≤ max_side) × (limit ≤ max_sweeps) × (length means.now ≡ n) × (length covariance.now ≡ n * n) × (length exponents.now ≡ n) × Exponents exponents.now × (length sizes.now ≡ n) × (length volatilities.old ≡ n) × (length correlations.old ≡ n * n) × (length values.old ≡ n) × (length vectors.old ≡ n * n) × (length out.old ≡ n) }
     ensures { answered result out.new ≡ bayes_stein_of n limit (moments_of means.now covariance.now periods) (exponent_at exponents.now) (nth sizes.now) out.old }
 {
-    let bad = correlate(covariance, n, sizes, volatilities, correlations);
-    if let Check::Refuses(refusal) = bad {
-        return Answer::Refused(refusal);
-    }
+    correlate(covariance, n, sizes, volatilities, correlations)?;
     let d = decompose(correlations, n, limit, values, vectors);
-    let singular = judge(d, values, n);
-    if let Check::Refuses(refusal) = singular {
-        return Answer::Refused(refusal);
-    }
-    let w = shrinkage(means, volatilities, exponents, n, periods, values, vectors);
+    judge(d, values, n)?;
+    let w = shrinkage(
+        means,
+        volatilities,
+        exponents,
+        periods,
+        &Decomposed { values, vectors, n },
+    );
     put_shrunk(means, exponents, w.intensity, w.target, out);
-    Answer::Shrunk(w.intensity, w.target, d.sweeps, d.rotations)
+    Ok(Answer::Shrunk(w.intensity, w.target, d.sweeps, d.rotations))
 }
 
 // The answer from the moments in the units 2^exponents, and the sizes of the largest returns in them.
 pub fn shrink(
     m: Moments,
-    n: usize,
     exponents: &[i32],
     sizes: &[f64],
     limit: usize,
     out: &mut [f64],
-) -> Answer
-    requires { (0 < n) × (n ≤ max_side) × (limit ≤ max_sweeps) × (length exponents.now ≡ n) × Exponents exponents.now × (length sizes.now ≡ n) × (length out.old ≡ n) }
-    ensures { answered result out.new ≡ bayes_stein_of n limit (held n m) (exponent_at exponents.now) (nth sizes.now) out.old }
+) -> Result<Answer, Refusal>
+    requires { (0 < m.n) × (limit ≤ max_sweeps) × (length exponents.now ≡ m.n) × Exponents exponents.now × (length sizes.now ≡ m.n) × (length out.old ≡ m.n) }
+    ensures { answered result out.new ≡ bayes_stein_of m.n limit (held m) (exponent_at exponents.now) (nth sizes.now) out.old }
 {
+    let n = m.n;
     let size = n * n;
     let mean = m.mean;
     let covariance = m.covariance;

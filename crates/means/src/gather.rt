@@ -11,38 +11,14 @@ ghost use Rattle.means.specs.Gather.{largest_of, WithinTwoExponents, Gathered};
 use tables::scales::exponent;
 
 // The largest exponent so far, if there is one.
-#[derive(Drop)]
-enum Largest {
-    Nothing,
-    Exponent(i32),
-}
-
-fn larger(largest: Largest, k: i32) -> Largest
+fn larger(largest: Option<i32>, k: i32) -> Option<i32>
     ensures { largest_of result ≡ BayesStein.larger_z (largest_of largest) k }
 {
-    match largest {
-        Largest::Nothing => Largest::Exponent(k),
-        Largest::Exponent(j) => {
-            if j < k {
-                Largest::Exponent(k)
-            } else {
-                Largest::Exponent(j)
-            }
-        }
-    }
-}
-
-fn or_zero(largest: Largest) -> i32
-    ensures { result ≡ BayesStein.or_zero (largest_of largest) }
-{
-    match largest {
-        Largest::Nothing => 0,
-        Largest::Exponent(k) => k,
-    }
+    Some(k.max(largest.unwrap_or(k)))
 }
 
 // With the exponent of x · 2^-e, unless x is 0.
-fn with_exponent(largest: Largest, x: f64, e: i32) -> Largest
+fn with_exponent(largest: Option<i32>, x: f64, e: i32) -> Option<i32>
     requires { (unsigned_abs e ≤ max_exponent) × WithinTwoExponents (largest_of largest) }
     ensures { (largest_of result ≡ with_exponent (largest_of largest) x (neg_ℤ e)) × WithinTwoExponents (largest_of result) }
 {
@@ -57,13 +33,11 @@ fn common_exponent(xs: &[f64], exponents: &[i32]) -> i32
     requires { (length xs.now ≡ length exponents.now) × Exponents exponents.now }
     ensures { (result ≡ BayesStein.common_exponent (length xs.now) (nth xs.now) (λ (i : ℕ). neg_ℤ (exponent_at exponents.now i))) × (unsigned_abs result ≤ two_exponents) }
 {
-    let mut largest = Largest::Nothing;
-    let mut i = 0;
-    while i < xs.len() {
+    let mut largest = None;
+    for i in 0..xs.len() {
         largest = with_exponent(largest, xs[i], exponents[i]);
-        i += 1;
     }
-    or_zero(largest)
+    largest.unwrap_or(0)
 }
 
 // Each number over its volatility.
@@ -71,10 +45,8 @@ fn divide(xs: &[f64], volatilities: &[f64], out: &mut [f64])
     requires { (length xs.now ≡ length out.old) × (length volatilities.now ≡ length out.old) }
     ensures { out.new ≡ tab (length out.old) (λ (i : ℕ). nth xs.now i ⊘ nth volatilities.now i) }
 {
-    let mut i = 0;
-    while i < out.len() {
+    for i in 0..out.len() {
         out[i] = xs[i] / volatilities[i];
-        i += 1;
     }
 }
 
@@ -83,10 +55,8 @@ pub fn scale_down(exponents: &[i32], e: i32, out: &mut [f64])
     requires { (length exponents.now ≡ length out.old) × Exponents exponents.now × (unsigned_abs e ≤ two_exponents) }
     ensures { out.new ≡ BayesStein.gathered (length out.old) (nth out.old) (λ (i : ℕ). neg_ℤ (exponent_at exponents.now i)) e }
 {
-    let mut i = 0;
-    while i < out.len() {
+    for i in 0..out.len() {
         out[i] = leaves::scaling::pow2_scaled(out[i], -exponents[i] - e);
-        i += 1;
     }
 }
 

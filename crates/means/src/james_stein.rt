@@ -20,10 +20,10 @@ use rules::{Answer, Refusal};
 use tables::scales::exponent;
 
 // The average of the means.
-fn grand_mean(m: Moments, n: usize) -> f64
-    requires { n ≤ max_side }
-    ensures { result ≡ JamesStein.grand_mean n (nth (held n m).mean) }
+fn grand_mean(m: Moments) -> f64
+    ensures { result ≡ JamesStein.grand_mean m.n (nth (held m).mean) }
 {
+    let n = m.n;
     let mean = m.mean;
     leaves::sums::sum(&mean[..n]) / std::num::nearest_u64_to_f64(n as u64)
 }
@@ -33,10 +33,8 @@ fn largest_deviation(means: &[f64], target: f64) -> f64
     ensures { result ≡ JamesStein.largest_deviation (length means.now) (nth means.now) target }
 {
     let mut m = 0.0;
-    let mut i = 0;
-    while i < means.len() {
-        m = leaves::numbers::larger(m, leaves::numbers::abs(means[i] - target));
-        i += 1;
+    for x in means {
+        m = leaves::numbers::larger(m, leaves::numbers::abs(*x - target));
     }
     m
 }
@@ -48,11 +46,9 @@ fn spread(means: &[f64], target: f64, shift: i32) -> f64
 {
     let down = -shift;
     let mut s = 0.0;
-    let mut i = 0;
-    while i < means.len() {
-        let d = pow2_scaled(means[i] - target, down);
+    for x in means {
+        let d = pow2_scaled(*x - target, down);
         s = s + d * d;
-        i += 1;
     }
     s
 }
@@ -76,10 +72,9 @@ fn intensity(
     leaves::numbers::clamp01(pow2_scaled(excess / denominator, -(shift + shift)))
 }
 
-// The intensity, and what came of the decomposition.
-#[derive(Drop)]
-struct MeanShrinkage {
-    found: bool,
+// The intensity, and the sweeps and rotations of the decomposition.
+#[derive(Clone, Copy)]
+struct Found {
     intensity: f64,
     sweeps: usize,
     rotations: usize,
@@ -95,34 +90,35 @@ fn shrinkage(
     limit: usize,
     values: &mut [f64],
     vectors: &mut [f64],
-) -> MeanShrinkage
+) -> Result<Found, Refusal>
     requires { (0 < n) × (n ≤ max_side) × (limit ≤ max_sweeps) × (length means.now ≡ n) × (length covariance.now ≡ n * n) × (length values.old ≡ n) × (length vectors.old ≡ n * n) }
-    ensures { JamesSteinShrinks n limit (moments_of means.now covariance.now periods) target result.found result.intensity result.sweeps result.rotations }
+    ensures { JamesSteinShrinks n limit (moments_of means.now covariance.now periods) target result }
 {
     let largest = largest_deviation(means, target);
     if largest == 0.0 {
-        return MeanShrinkage {
-            found: true,
+        return Ok(Found {
             intensity: 0.0,
             sweeps: 0,
             rotations: 0,
-        };
+        });
     }
     let d = decompose(covariance, n, limit, values, vectors);
-    let alpha = intensity(means, covariance, n, periods, target, largest, values);
-    MeanShrinkage {
-        found: d.found,
-        intensity: alpha,
+    if !d.found {
+        return Err(Refusal::Singular);
+    }
+    Ok(Found {
+        intensity: intensity(means, covariance, n, periods, target, largest, values),
         sweeps: d.sweeps,
         rotations: d.rotations,
-    }
+    })
 }
 
 // `shrinkage` of the moments, in arrays of the largest size.
-fn shrinkage_held(m: Moments, n: usize, target: f64, limit: usize) -> MeanShrinkage
-    requires { (0 < n) × (n ≤ max_side) × (limit ≤ max_sweeps) }
-    ensures { JamesSteinShrinks n limit (held n m) target result.found result.intensity result.sweeps result.rotations }
+fn shrinkage_held(m: Moments, target: f64, limit: usize) -> Result<Found, Refusal>
+    requires { (0 < m.n) × (limit ≤ max_sweeps) }
+    ensures { JamesSteinShrinks m.n limit (held m) target result }
 {
+    let n = m.n;
     let size = n * n;
     let mean = m.mean;
     let covariance = m.covariance;
@@ -140,36 +136,30 @@ fn shrinkage_held(m: Moments, n: usize, target: f64, limit: usize) -> MeanShrink
     )
 }
 
-// The means moved towards the target, out of the unit 2^exponent.
+// The means moved towards the target, out of the unit 2^exponent. Apart from Bayes-Stein's: its operations differ in order, and so in the last bit.
 fn put_shrunk(means: &[f64], intensity: f64, target: f64, exponent: i32, out: &mut [f64])
     requires { length means.now ≡ length out.old }
     ensures { out.new ≡ tab (length out.old) (λ (i : ℕ). pow2_scaled (JamesStein.towards intensity target (nth means.now i)) exponent) }
 {
-    let mut i = 0;
-    while i < out.len() {
+    for i in 0..out.len() {
         let m = means[i];
         out[i] = pow2_scaled(m + intensity * (target - m), exponent);
-        i += 1;
     }
 }
 
 // The answer from the moments in units of 2^exponent.
-pub fn shrink(m: Moments, n: usize, exponent: i32, limit: usize, out: &mut [f64]) -> Answer
-    requires { (0 < n) × (n ≤ max_side) × (limit ≤ max_sweeps) × (length out.old ≡ n) }
-    ensures { answered result out.new ≡ james_stein_of n limit (held n m) exponent out.old }
+pub fn shrink(m: Moments, exponent: i32, limit: usize, out: &mut [f64]) -> Result<Answer, Refusal>
+    requires { (0 < m.n) × (limit ≤ max_sweeps) × (length out.old ≡ m.n) }
+    ensures { answered result out.new ≡ james_stein_of m.n limit (held m) exponent out.old }
 {
-    let target = grand_mean(m, n);
-    let p = shrinkage_held(m, n, target, limit);
-    let found = p.found;
-    if !found {
-        return Answer::Refused(Refusal::Singular);
-    }
+    let target = grand_mean(m);
+    let p = shrinkage_held(m, target, limit)?;
     let mean = m.mean;
-    put_shrunk(&mean[..n], p.intensity, target, exponent, out);
-    Answer::Shrunk(
+    put_shrunk(&mean[..m.n], p.intensity, target, exponent, out);
+    Ok(Answer::Shrunk(
         p.intensity,
         pow2_scaled(target, exponent),
         p.sweeps,
         p.rotations,
-    )
+    ))
 }

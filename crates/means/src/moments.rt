@@ -7,7 +7,6 @@ ghost use Rattle.rules.specs.Sample as Sample;
 ghost use Rattle.rules.specs.Moments.{moments};
 ghost use Rattle.rules.specs.BayesStein.{exponent_at};
 ghost use Rattle.tables.specs.Exponents.{max_exponent, Exponents};
-ghost use Rattle.means.specs.Held.{held};
 
 use covariances::sample::{covariance_in_units, means_in_units};
 use tables::powers::put_units;
@@ -15,9 +14,11 @@ use tables::powers::put_units;
 // Of n assets, the first n numbers of the mean vector and the first n * n of the covariance, row by row.
 #[derive(Clone, Copy)]
 pub struct Moments {
+    pub n: usize,
     pub mean: [f64; matrix::MAX_SIDE],
     pub covariance: [f64; matrix::MAX_SIDE * matrix::MAX_SIDE],
     pub periods: f64,
+    pub ghost few: { n ≤ max_side },
 }
 
 // The means and the covariance, of the returns over their powers of two. `units` is to reckon in.
@@ -38,37 +39,42 @@ fn put_moments(
     covariance_in_units(r, n, periods, units, mean, covariance);
 }
 
-// The moments of the returns, each asset's over its power of two.
-pub fn of_returns(r: &[f64], n: usize, periods: usize, exponents: &[i32]) -> Moments
-    requires { (length r.now ≡ periods * n) × (n ≤ max_side) × (1 ≤ periods) × (length exponents.now ≡ n) × Exponents exponents.now }
-    ensures { held n result ≡ moments periods n (Sample.scaled (exponent_at exponents.now) (at r.now n)) }
-{
-    let mut units = [0.0; 2 * matrix::MAX_SIDE];
-    let mut mean = [0.0; matrix::MAX_SIDE];
-    let mut covariance = [0.0; matrix::MAX_SIDE * matrix::MAX_SIDE];
-    let twice = n + n;
-    let size = n * n;
-    put_moments(
-        r,
-        n,
-        periods,
-        exponents,
-        &mut units[..twice],
-        &mut mean[..n],
-        &mut covariance[..size],
-    );
-    Moments {
-        mean: mean,
-        covariance: covariance,
-        periods: std::num::nearest_u64_to_f64(periods as u64),
-    }
-}
+impl Moments {
+    ghost use Rattle.means.specs.Held.{held};
 
-// All assets' over one power of two.
-pub fn moments_over(r: &[f64], n: usize, periods: usize, exponent: i32) -> Moments
-    requires { (length r.now ≡ periods * n) × (n ≤ max_side) × (1 ≤ periods) × (unsigned_abs exponent ≤ max_exponent) }
-    ensures { held n result ≡ moments periods n (Sample.scaled (λ (i : ℕ). exponent) (at r.now n)) }
-{
-    let exponents = [exponent; matrix::MAX_SIDE];
-    of_returns(r, n, periods, &exponents[..n])
+    // The moments of the returns, each asset's over its power of two.
+    pub fn of_returns(r: &[f64], n: usize, periods: usize, exponents: &[i32]) -> Moments
+        requires { (length r.now ≡ periods * n) × (n ≤ max_side) × (1 ≤ periods) × (length exponents.now ≡ n) × Exponents exponents.now }
+        ensures { (result.n ≡ n) × (held result ≡ moments periods n (Sample.scaled (exponent_at exponents.now) (at r.now n))) }
+    {
+        let mut units = [0.0; 2 * matrix::MAX_SIDE];
+        let mut mean = [0.0; matrix::MAX_SIDE];
+        let mut covariance = [0.0; matrix::MAX_SIDE * matrix::MAX_SIDE];
+        let twice = n + n;
+        let size = n * n;
+        put_moments(
+            r,
+            n,
+            periods,
+            exponents,
+            &mut units[..twice],
+            &mut mean[..n],
+            &mut covariance[..size],
+        );
+        Moments {
+            n,
+            mean,
+            covariance,
+            periods: std::num::nearest_u64_to_f64(periods as u64),
+        }
+    }
+
+    // All assets' over one power of two.
+    pub fn over(r: &[f64], n: usize, periods: usize, exponent: i32) -> Moments
+        requires { (length r.now ≡ periods * n) × (n ≤ max_side) × (1 ≤ periods) × (unsigned_abs exponent ≤ max_exponent) }
+        ensures { (result.n ≡ n) × (held result ≡ moments periods n (Sample.scaled (λ (i : ℕ). exponent) (at r.now n))) }
+    {
+        let exponents = [exponent; matrix::MAX_SIDE];
+        Moments::of_returns(r, n, periods, &exponents[..n])
+    }
 }

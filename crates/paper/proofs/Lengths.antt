@@ -3,7 +3,7 @@
 use mathlib.Core.Path.{◌≡◌, refl, sym, ap, ◌∙◌}
 use mathlib.Core.Bool.{Bool, true, false, cond}
 use mathlib.Core.List.{List, [], ◌∷◌, ◌++◌, map, sum}
-use mathlib.Core.Option.{Option, none, some}
+use Rattle.std.specs.Prelude.{Option, Some, None, Result, Ok, Err}
 use Prim.Native.Nat.{ℕ, zero, suc, ◌+◌, ◌-◌, ◌*◌, ◌/◌, ◌%◌, ◌≤◌, ◌<◌}
 use native.Mathlib.Omega.{arith}
 use lib.ListN.{length, take, drop, replicate, length-append, length-drop, length-replicate}
@@ -13,7 +13,7 @@ use borrow.Author.Tests.{ne_eqb}
 use Rattle.leaves.specs.Numbers.{zero⁺}
 use Rattle.rules.specs.Calls.{adjusted_covariance, exponentially_weighted_mean, james_stein_mean, bayes_stein_mean}
 use Rattle.rules.specs.declared.Answer.{Answer}
-use Rattle.rules.specs.declared.Answer.TheVariants.{Refused, Covariance, Intensity, Mean, Shrunk}
+use Rattle.rules.specs.declared.Refusal.{Refusal}
 use Rattle.rules.specs.declared.Decay.{Decay}
 use Rattle.rules.specs.declared.Settings.{Settings}
 use Rattle.rules.proofs.Opened.{settle_length}
@@ -145,13 +145,10 @@ asked_length BayesStein q r g slice h = bayes_stein_length r q.assets q.periods 
 
 -- ---- what is printed
 
-outcome_entries : (n c : ℕ) (a : Answer) (xs : List Float) → entries (outcome n c a xs) ≤ length xs
+outcome_entries : (n c : ℕ) (a : Result Answer Refusal) (xs : List Float) → entries (outcome n c a xs) ≤ length xs
 unfolding outcome
-outcome_entries n c (Refused r) xs = omega arith
-outcome_entries n c (Covariance δ sweeps rotations) xs = omega arith
-outcome_entries n c (Intensity δ) xs = omega arith
-outcome_entries n c Mean xs = omega arith
-outcome_entries n c (Shrunk α target sweeps rotations) xs = omega arith
+outcome_entries n c (Err r) xs = omega arith
+outcome_entries n c (Ok a) xs = omega arith
 
 answer_entries : (q : Question) (r g : List Float) → q.assets ≤ file_assets → entries (answer_to q r g) ≤ file_assets * file_assets
 unfolding answer_to
@@ -168,8 +165,8 @@ unfolding marking examined
 text_length paper = go (read_question paper) refl
   where
     go : (o : Option Contents) → read_question paper ≡ o → length (outcome_text (examined o)) ≤ max_text
-    go none e = outcome_length (refused malformed_number) (omega arith)
-    go (some c) e = outcome_length _ (answer_entries c.question _ _ (read_beside paper c e).assets_few)
+    go None e = outcome_length (refused malformed_number) (omega arith)
+    go (Some c) e = outcome_length _ (answer_entries c.question _ _ (read_beside paper c e).assets_few)
 
 -- what `mark` leaves at the front of a buffer with room is the whole text, and what stood behind is there still
 pub whole_text : (paper s v : List ℕ) (n : ℕ) → max_text ≤ length s → out v n ≡ write (out s 0) (marking paper) → (take n v ≡ marking paper) × (drop n v ≡ drop n s)
@@ -182,5 +179,5 @@ whole_text paper s v n h e =
     let kept : drop n v ≡ behind = rw (ap buffer w) (drop_at t behind n end) in
     (rw (ap buffer w) (take_at t behind n end), kept ∙ ap (λ (k : ℕ). drop k s) (sym count))
   where
-    place : Out → ℕ
+    place : Out ℕ → ℕ
     place (out v n) = n

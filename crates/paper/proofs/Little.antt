@@ -1,46 +1,41 @@
--- Laws of `little`: a number formed byte by byte, from the last byte to the first. Of len bytes at a place, those from i on are formed. Assumes nothing.
-use mathlib.Core.Path.{◌≡◌, ◌∙◌}
-use mathlib.Core.List.{List}
-use Prim.Native.Nat.{ℕ, zero, suc, ◌+◌, ◌-◌, ◌*◌, ◌^◌, ◌≤◌, ◌<◌}
-use native.Mathlib.Nat.{not-suc-le-zero, sub_self, sub-zero, add-zero, add-suc, pow-suc, pow-le-pow_right, lt_of_lt_of_le}
-use native.Mathlib.Numerals.{sub-one}
+-- Laws of `little`: the number of up to eight bytes, with zeros above them, is what the library makes of the eight. Assumes nothing.
+use mathlib.Core.Path.{◌≡◌, refl, ◌∙◌}
+use mathlib.Core.List.{List, [], ◌∷◌, ◌++◌}
+use Prim.Native.Nat.{ℕ, zero, suc, ◌+◌, ◌*◌, ◌≤◌}
 use native.Mathlib.Omega.{arith}
-use lib.ListN.{length, take, drop, get_or}
-use lib.Seq.{drop-cons}
+use lib.ListN.{length, get_or, drop, drop_of_length-le, length-append, length-drop}
+use Rattle.std.specs.Int.{from_le_bytes, w64}
 use Rattle.paper.specs.Grammar.{little}
 
--- v is formed
-pub record Formed (s : List ℕ) (at len i v : ℕ) : Type 0 where
-  pub few : i ≤ len
-  pub is : v ≡ little (take (len - i) (drop (at + i) s))
-  pub small : v < 256 ^ (len - i)
-
-pub formed_none : (s : List ℕ) (at len : ℕ) → Formed s at len len 0
+byte_more : (bs : List ℕ) (i : ℕ) → little (drop i bs) ≡ get_or bs i 0 + 256 * little (drop (suc i) bs)
 unfolding little
-formed_none s at len = record { few = omega arith; is = rw (sub_self len); small = rw (sub_self len) (omega arith) }
+byte_more [] zero = refl
+byte_more [] (suc i) = refl
+byte_more (b ∷ bs) zero = refl
+byte_more (b ∷ bs) (suc i) = byte_more bs i
 
-one_less : (len j : ℕ) → suc j ≤ len → len - j ≡ suc (len - suc j)
-one_less len j h = omega arith
-
-pub formed_more : (s : List ℕ) (at len i v : ℕ) → 0 < i → at + len ≤ length s → get_or s (at + (i - 1)) 0 < 256 → Formed s at len i v → Formed s at len (i - 1) (v * 256 + get_or s (at + (i - 1)) 0)
+eight : (bs : List ℕ) → length bs ≡ 8 → from_le_bytes w64 bs ≡ little bs
 unfolding little
-formed_more s at len zero v p f g h = absurd (not-suc-le-zero p)
-formed_more s at len (suc j) v p f g h = rw sub-one (record {
-  few = omega arith;
-  is = rw (one_less len j h.few, drop-cons s (at + j) 0 (omega arith), ← add-suc at j, ← h.is) (turn v (get_or s (at + j) 0));
-  small = rw (one_less len j h.few, pow-suc 256 (len - suc j)) (scaled v (get_or s (at + j) 0) (256 ^ (len - suc j)) h.small (rw sub-one at g));
-})
-  where
-    turn : (v b : ℕ) → v * 256 + b ≡ b + 256 * v
-    turn v b = omega arith
+eight bs e =
+    let none : little (drop 8 bs) ≡ 0 = rw (drop_of_length-le bs {i = 8} (omega arith)) in
+    omega (arith, byte_more bs 0, byte_more bs 1, byte_more bs 2, byte_more bs 3, byte_more bs 4, byte_more bs 5, byte_more bs 6, byte_more bs 7)
 
-    scaled : (v b q : ℕ) → v < q → b < 256 → v * 256 + b < q * 256
-    scaled v b q f g = omega arith
+abbrev zeros : List ℕ
+zeros = 0 ∷ 0 ∷ 0 ∷ 0 ∷ 0 ∷ 0 ∷ 0 ∷ 0 ∷ []
 
--- a number of up to 8 bytes
-pub formed_fits : (s : List ℕ) (at len i v : ℕ) → len ≤ 8 → Formed s at len i v → v < 2 ^ 64
-formed_fits s at len i v h f = lt_of_lt_of_le f.small (pow-le-pow_right {n = 256} (omega arith) {i = len - i} {j = 8} (omega arith))
+fewer_zeros : (n : ℕ) (zs : List ℕ) → little zs ≡ 0 → little (drop n zs) ≡ 0
+unfolding little
+fewer_zeros zero zs e = e
+fewer_zeros (suc n) [] e = e
+fewer_zeros (suc n) (z ∷ zs) e = fewer_zeros n zs (omega arith)
 
-pub formed_all : (s : List ℕ) (at len i v : ℕ) → i ≤ 0 → Formed s at len i v → v ≡ little (take len (drop at s))
-formed_all s at len zero v h f = f.is ∙ rw (sub-zero, add-zero)
-formed_all s at len (suc i) v h f = absurd (not-suc-le-zero h)
+zeros_above : (bs zs : List ℕ) → little zs ≡ 0 → little (bs ++ zs) ≡ little bs
+unfolding little
+zeros_above [] zs e = e
+zeros_above (b ∷ bs) zs e = rw (zeros_above bs zs e)
+
+pub padded : (bs : List ℕ) (n : ℕ) → length bs ≡ n → n ≤ 8 → from_le_bytes w64 (bs ++ drop n zeros) ≡ little bs
+unfolding little
+padded bs n e h =
+    let long : length (bs ++ drop n zeros) ≡ 8 = simp (length-append, length-drop) (omega arith) in
+    eight (bs ++ drop n zeros) long ∙ zeros_above bs (drop n zeros) (fewer_zeros n zeros refl)

@@ -1,7 +1,7 @@
 -- Laws of the rules of `specs/Rules.antt`, as the code tests them. Assumes nothing.
 use mathlib.Core.Path.{◌≡◌, refl, sym, ◌∙◌, subst}
 use mathlib.Core.Bool.{Bool, true, false, ◌&&◌, ◌||◌, cond, and-eq-true_iff}
-use mathlib.Core.List.{List, [], ◌∷◌}
+use mathlib.Core.List.{List, [], ◌∷◌, map}
 use mathlib.Core.Logic.{◌⊎◌, inl, inr}
 use Prim.Native.Nat.{ℕ, suc, ◌+◌, ◌*◌, ◌^◌, ◌≤◌, ◌<◌}
 use native.Mathlib.Nat.{add-zero, mul-le-mul, not-suc-le-zero, le_of_suc-le-suc}
@@ -13,27 +13,38 @@ use lib.Dec.{leb, eqb, T, leb→le, eqb→eq}
 use lib.Ieee.Fits.{and_l, and_r}
 use borrow.Author.Tests.{eqb-true}
 use Rattle.paper.specs.declared.format.Outline.{Outline}
+use Rattle.paper.specs.declared.kinds.KindName.{KindName}
+use Rattle.paper.specs.declared.kinds.KindName.TheVariants.{Shape}
+use Rattle.paper.specs.Inner.{byte_of}
 use Rattle.paper.specs.Grammar.{file_assets, file_periods, Sheet}
 use Rattle.paper.specs.Rules.{count, has, value, assets, periods, present, shape_fits, shrinkages, estimates, settings_fit, takes, well_formed, outline, is_question}
 
 -- ---- how many of the listed kinds come: n of those before place i
 
-module _ (o : Outline) (bs : List ℕ) (i n : ℕ) (counted : n + present o (drop i bs) ≡ present o bs) where
-  pub present_yes : i < length bs → has o (get_or bs i 0) ≡ true → n + 1 + present o (drop (i + 1) bs) ≡ present o bs
-  unfolding present
-  present_yes h e =
-      let one : present o (drop i bs) ≡ suc (present o (drop (i + 1) bs)) = rw (add-one, drop-cons bs i 0 h, e) in
-      omega arith
+module _ (o : Outline) (ks : List KindName) (i n : ℕ) where
+  -- of the kinds from place j on
+  abbrev left : ℕ → ℕ
+  left j = present o (map byte_of (drop j ks))
 
-  pub present_no : i < length bs → has o (get_or bs i 0) ≡ false → n + present o (drop (i + 1) bs) ≡ present o bs
-  unfolding present
-  present_no h e =
-      let none : present o (drop i bs) ≡ present o (drop (i + 1) bs) = rw (add-one, drop-cons bs i 0 h, e) in
-      omega arith
+  abbrev all : ℕ
+  all = present o (map byte_of ks)
 
-  pub present_all : length bs ≤ i → n ≡ present o bs
-  unfolding present
-  present_all h = sym (add-zero n) ∙ rw (drop_of_length-le bs h) at counted
+  module _ (counted : n + left i ≡ all) where
+    pub present_yes : i < length ks → has o (byte_of (get_or ks i Shape)) ≡ true → n + 1 + left (i + 1) ≡ all
+    unfolding present
+    present_yes h e =
+        let one : left i ≡ suc (left (i + 1)) = rw (add-one, drop-cons ks i Shape h, e) in
+        omega arith
+
+    pub present_no : i < length ks → has o (byte_of (get_or ks i Shape)) ≡ false → n + left (i + 1) ≡ all
+    unfolding present
+    present_no h e =
+        let none : left i ≡ left (i + 1) = rw (add-one, drop-cons ks i Shape h, e) in
+        omega arith
+
+    pub present_all : length ks ≤ i → n ≡ all
+    unfolding present
+    present_all h = sym (add-zero n) ∙ rw (drop_of_length-le ks h) at counted
 
 -- ---- T × n and n × n fit
 

@@ -6,8 +6,8 @@ use Prim.Native.Nat.{ℕ, zero, suc, ◌+◌, ◌-◌, ◌≤◌, ◌<◌}
 use native.Mathlib.Nat.{zero-add, add_assoc, add-sub_cancel_left}
 use native.Mathlib.Numerals.{add-one}
 use native.Mathlib.Omega.{arith}
-use lib.ListN.{length, get_or, take, drop, length-map, length-append, take-append-drop, get_or-map}
-use lib.Seq.{take-suc, drop-drop, take-append_seam, drop-append_seam, take_at}
+use lib.ListN.{length, get_or, take, drop, length-map, length-append, take-append-drop, length-drop, get_or-map}
+use lib.Seq.{take-suc, drop-drop, take-append_seam, drop-append_seam, take_at, length-take-le}
 use lib.Ieee.{Float}
 use Rattle.leaves.specs.Numbers.{float}
 use Rattle.leaves.specs.Loops.{tab, fill}
@@ -60,15 +60,9 @@ pub floats_filled : (l : List ℕ) (d₀ d : List Float) → d ≡ fill (length 
 unfolding fill
 floats_filled l d₀ d g = rw (g, tab_map float l) (take_at (map float l) (drop (length l) d₀) (length l) (length-map l float))
 
--- a copy, number by number
-pub fill_front : (l old : List ℕ) → fill (length l) (λ i. get_or l i 0) old ≡ front l old
-unfolding fill
-fill_front l old = ap (λ (t : List ℕ). t ++ drop (length l) old) (tab_self l)
-  where
-    tab_self : (l : List ℕ) → tab (length l) (λ i. get_or l i 0) ≡ l
-    tab_self l = sym (tab_is 0 l (length l) (λ i. get_or l i 0) refl (λ k h. refl))
-
--- from the call that copies the numbers from place `from` up to from + n
-pub kind_copied : (cs ns : List ℕ) (p from n : ℕ) (d₀ d : List ℕ) → from ≡ total (take p cs) → n ≡ get_or cs p 0 → d ≡ front (take (from + n - from) (drop from ns)) d₀
-    → d ≡ front (get_or (split cs ns) p []) d₀
-kind_copied cs ns p from n d₀ d e f g = rw (piece cs ns p, ← e, ← f) (g ∙ rw (add-sub_cancel_left from n))
+-- from the call that copies the numbers of the kind at place p, which begin at place `from`
+pub kind_copied : (cs ns : List ℕ) (p from : ℕ) (d : List ℕ) → from ≡ total (take p cs) → from + get_or cs p 0 ≤ length ns
+    → take (from + get_or cs p 0 - from) (drop from ns) ++ drop (get_or cs p 0) d ≡ front (get_or (split cs ns) p []) d
+kind_copied cs ns p from d e h =
+    let n = get_or cs p 0 in
+    rw (piece cs ns p, ← e, add-sub_cancel_left from n, length-take-le n (drop from ns) (rw length-drop (omega arith)))

@@ -3,7 +3,7 @@ use mathlib.Core.Path.{◌≡◌, refl, sym, ◌∙◌, subst}
 use mathlib.Core.Bool.{Bool, true, false, not, cond}
 use mathlib.Core.List.{List, []}
 use mathlib.Core.Logic.{◌⊎◌, inl, inr}
-use mathlib.Core.Option.{none, some, some-injective, none-ne-some}
+use Rattle.std.specs.Prelude.{Some, None}
 use Prim.Native.Nat.{ℕ, ◌*◌, ◌≤◌}
 use native.Mathlib.Nat.{mul-le-mul}
 use native.Mathlib.Omega.{arith}
@@ -77,19 +77,19 @@ pub record ReadAs (file : List ℕ) (c : Contents) : Type 0 where
   pub is_question_lem : is_question (sheet kinds file) ≡ true
   pub contents_are : contents_in (sheet kinds file).lists ≡ c
 
-pub read_as : (file : List ℕ) (c : Contents) → read_question file ≡ some c → ReadAs file c
+pub read_as : (file : List ℕ) (c : Contents) → read_question file ≡ Some c → ReadAs file c
 unfolding read_question said read_paper
 read_as file c e = go (is_question (sheet kinds file)) refl e
   where
-    go : (b : Bool) → is_question (sheet kinds file) ≡ b → said (cond b (question (sheet kinds file).lists) malformed) ≡ some c → ReadAs file c
-    go true w f = record { is_question_lem = w; contents_are = some-injective _ _ f }
-    go false w f = absurd (none-ne-some c f)
+    go : (b : Bool) → is_question (sheet kinds file) ≡ b → said (cond b (question (sheet kinds file).lists) malformed) ≡ Some c → ReadAs file c
+    go true w f = record { is_question_lem = w; contents_are = cc }
+    go false w f = cc
 
-pub is_read : (file : List ℕ) → is_question (sheet kinds file) ≡ true → read_question file ≡ some (contents_in (sheet kinds file).lists)
+pub is_read : (file : List ℕ) → is_question (sheet kinds file) ≡ true → read_question file ≡ Some (contents_in (sheet kinds file).lists)
 unfolding read_question said read_paper
 is_read file e = rw e
 
-pub not_read : (file : List ℕ) → is_question (sheet kinds file) ≡ false → read_question file ≡ none
+pub not_read : (file : List ℕ) → is_question (sheet kinds file) ≡ false → read_question file ≡ None
 unfolding read_question said read_paper
 not_read file e = rw e
 
@@ -113,7 +113,7 @@ beside lists r = record {
   given_room = rw (← count_is lists 9) (given_few (outline lists) r);
 }
 
-pub read_beside : (file : List ℕ) (c : Contents) → read_question file ≡ some c → Beside c
+pub read_beside : (file : List ℕ) (c : Contents) → read_question file ≡ Some c → Beside c
 read_beside file c e =
     let r = read_as file c e in
     subst Beside r.contents_are (beside _ (ruled _ (well_formed_lem (sheet kinds file) r.is_question_lem)))

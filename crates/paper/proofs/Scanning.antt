@@ -17,16 +17,16 @@ use Rattle.paper.specs.Inner.{max_records, missing, TookIs, ScannedIs, buffer, t
 use Rattle.paper.proofs.Writes.{onward, ended, drop_next}
 
 -- Of the file w, the kinds ks are left from a place on; o is written so far, of o₀ at first, and cs and fs are the counts and the first bodies so far.
-pub record Going (s : List ℕ) (w : Sheet) (o₀ : Out) (ks : List Kind) (at : ℕ) (o : Out) (cs fs : List ℕ) : Type 0 where
+pub record Going (s : List ℕ) (w : Sheet) (o₀ : Out ℕ) (ks : List Kind) (at : ℕ) (o : Out ℕ) (cs fs : List ℕ) : Type 0 where
   pub numbers : write o (flatten (sheet ks (drop at s)).lists) ≡ write o₀ (flatten w.lists)
   pub rest : (sheet ks (drop at s)).rest ≡ w.rest
   pub counts : cs ++ map length (sheet ks (drop at s)).lists ≡ map length w.lists
   pub firsts : fs ++ map first_of (sheet ks (drop at s)).lists ≡ map first_of w.lists
 
-pub going_all : (s : List ℕ) (o : Out) → Going s (sheet kinds s) o kinds 0 o [] []
+pub going_all : (s : List ℕ) (o : Out ℕ) → Going s (sheet kinds s) o kinds 0 o [] []
 going_all s o = record { numbers = refl; rest = refl; counts = refl; firsts = refl }
 
-going_more : (s : List ℕ) (w : Sheet) (o₀ : Out) (k : Kind) (ks : List Kind) (at : ℕ) (cs fs v : List ℕ) (i : ℕ) (v' : List ℕ) (r : Took) (f : ℕ)
+going_more : (s : List ℕ) (w : Sheet) (o₀ : Out ℕ) (k : Kind) (ks : List Kind) (at : ℕ) (cs fs v : List ℕ) (i : ℕ) (v' : List ℕ) (r : Took) (f : ℕ)
     → Going s w o₀ (k ∷ ks) at (out v i) cs fs → TookIs s (taken k k.most (drop at s)) v i v' r → f ≡ first_of (taken k k.most (drop at s)).bodies
     → Going s w o₀ ks r.at (out v' r.next) (cs ++ (r.count ∷ [])) (fs ++ (f ∷ []))
 unfolding sheet flatten
@@ -40,7 +40,7 @@ going_more s w o₀ k ks at cs fs v i v' r f g x e =
     }
 
 -- a turn of the code's loop, which stores the count and the first body of kind i
-pub going_turn : (s : List ℕ) (w : Sheet) (o₀ : Out) (i at : ℕ) (v : List ℕ) (n : ℕ) (v' : List ℕ) (r : Took) (counts firsts : List ℕ) (f : ℕ) (k : Kind)
+pub going_turn : (s : List ℕ) (w : Sheet) (o₀ : Out ℕ) (i at : ℕ) (v : List ℕ) (n : ℕ) (v' : List ℕ) (r : Took) (counts firsts : List ℕ) (f : ℕ) (k : Kind)
     → i < length kinds → i < length counts → i < length firsts → Going s w o₀ (drop i kinds) at (out v n) (take i counts) (take i firsts)
     → k ≡ get_or kinds i missing → TookIs s (taken k k.most (drop at s)) v n v' r → f ≡ first_of (taken k k.most (drop at s)).bodies
     → Going s w o₀ (drop (i + 1) kinds) r.at (out v' r.next) (take (i + 1) (set counts i r.count)) (take (i + 1) (set firsts i f))

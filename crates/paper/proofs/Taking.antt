@@ -61,15 +61,15 @@ pub first_no : (k : Kind) (m : ℕ) (bs : List ℕ) → starts k bs ≡ false �
 first_no k m bs e = rw (taken_stop k m bs e)
 
 -- Of the records w, those from a place on are left, m at most; so many are taken, and o is written so far, of o₀ at first.
-pub record Left (s : List ℕ) (w : Taken) (o₀ : Out) (k : Kind) (m at count : ℕ) (o : Out) : Type 0 where
+pub record Left (s : List ℕ) (w : Taken) (o₀ : Out ℕ) (k : Kind) (m at count : ℕ) (o : Out ℕ) : Type 0 where
   pub numbers : write o (taken k m (drop at s)).bodies ≡ write o₀ w.bodies
   pub rest : (taken k m (drop at s)).rest ≡ w.rest
   pub counted : count + length (taken k m (drop at s)).bodies ≡ length w.bodies
 
-pub left_all : (s : List ℕ) (o : Out) (k : Kind) (m at : ℕ) → Left s (taken k m (drop at s)) o k (m - 0) at 0 o
+pub left_all : (s : List ℕ) (o : Out ℕ) (k : Kind) (m at : ℕ) → Left s (taken k m (drop at s)) o k (m - 0) at 0 o
 left_all s o k m at = rw sub-zero (record { numbers = refl; rest = refl; counted = zero-add _ })
 
-pub left_more : (s : List ℕ) (w : Taken) (o₀ : Out) (k : Kind) (m at count : ℕ) (o p : Out) → Left s w o₀ k (m - count) at count o → count < m → starts k (drop at s) ≡ true
+pub left_more : (s : List ℕ) (w : Taken) (o₀ : Out ℕ) (k : Kind) (m at count : ℕ) (o p : Out ℕ) → Left s w o₀ k (m - count) at count o → count < m → starts k (drop at s) ≡ true
     → (v : ℕ) → v ≡ little (take k.body (drop (at + 1) s)) → p ≡ write o (v ∷ []) → Left s w o₀ k (m - (count + 1)) (at + (k.body + 1)) (count + 1) p
 left_more s w o₀ k m at count o p h l e v f g =
     let after = taken k (m - (count + 1)) (drop (at + (k.body + 1)) s) in

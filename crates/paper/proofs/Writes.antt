@@ -15,42 +15,42 @@ use Rattle.paper.specs.Text.{Out, out, put, write, Counts}
 
 -- ---- one text after another
 
-pub write_none : (o : Out) → o ≡ write o []
+pub write_none : (o : Out ℕ) → o ≡ write o []
 unfolding write
 write_none o = refl
 
-write_append : (o : Out) (t u : List ℕ) → write o (t ++ u) ≡ write (write o t) u
+write_append : (o : Out ℕ) (t u : List ℕ) → write o (t ++ u) ≡ write (write o t) u
 unfolding write
 write_append o [] u = refl
 write_append o (b ∷ t) u = write_append (put o b) t u
 
 -- what two calls leave behind, one after the other
-pub then : (o : Out) {p q : Out} (t u : List ℕ) → p ≡ write o t → q ≡ write p u → q ≡ write o (t ++ u)
-then o {p} {q} t u e f = f ∙ ap (λ (x : Out). write x u) e ∙ sym (write_append o t u)
+pub then : (o : Out ℕ) {p q : Out ℕ} (t u : List ℕ) → p ≡ write o t → q ≡ write p u → q ≡ write o (t ++ u)
+then o {p} {q} t u e f = f ∙ ap (λ (x : Out ℕ). write x u) e ∙ sym (write_append o t u)
 
 -- the same, where the first ends in a byte of its own
-pub then_after : (o : Out) {p q : Out} (t : List ℕ) (b : ℕ) (u : List ℕ) → p ≡ write o (t ++ (b ∷ [])) → q ≡ write p u → q ≡ write o (t ++ (b ∷ u))
+pub then_after : (o : Out ℕ) {p q : Out ℕ} (t : List ℕ) (b : ℕ) (u : List ℕ) → p ≡ write o (t ++ (b ∷ [])) → q ≡ write p u → q ≡ write o (t ++ (b ∷ u))
 then_after o t b u e f = then o (t ++ (b ∷ [])) u e f ∙ ap (write o) (append_snoc t b u)
 
 -- a turn of a loop that writes: of the text w that was left, t is written and u is left
-pub onward : (o : Out) {p : Out} (t u w : List ℕ) → p ≡ write o t → w ≡ t ++ u → write p u ≡ write o w
+pub onward : (o : Out ℕ) {p : Out ℕ} (t u w : List ℕ) → p ≡ write o t → w ≡ t ++ u → write p u ≡ write o w
 onward o {p} t u w e f = then o {q = write p u} t u e refl ∙ ap (write o) (sym f)
 
 -- the end of such a loop: nothing is left
-pub ended : (o p : Out) (w : List ℕ) → w ≡ [] → write p w ≡ o → p ≡ o
+pub ended : (o p : Out ℕ) (w : List ℕ) → w ≡ [] → write p w ≡ o → p ≡ o
 ended o p w e f = write_none p ∙ ap (write p) (sym e) ∙ f
 
 -- what such a loop has left of a list before a turn, where it goes one by one
 pub drop_next : {A : Type 0} (l : List A) (i : ℕ) (d : A) → i < length l → drop i l ≡ get_or l i d ∷ drop (i + 1) l
 drop_next l i d h = rw add-one (drop-cons l i d h)
 
--- ---- one byte
+-- ---- one element
 
-pub put_in : (s : List ℕ) (i b : ℕ) → i < length s → out (set s i b) (i + 1) ≡ write (out s i) (b ∷ [])
+pub put_in : {A : Type 0} (s : List A) (i : ℕ) (b : A) → i < length s → out (set s i b) (i + 1) ≡ write (out s i) (b ∷ [])
 unfolding write put
 put_in s i b h = rw (lt-ltb i (length s) h)
 
-pub put_full : (s : List ℕ) (i b : ℕ) → length s ≤ i → out s i ≡ write (out s i) (b ∷ [])
+pub put_full : {A : Type 0} (s : List A) (i : ℕ) (b : A) → length s ≤ i → out s i ≡ write (out s i) (b ∷ [])
 unfolding write put
 put_full s i b h = rw (le-ltb i (length s) h, set_out s i b h)
 
@@ -72,10 +72,10 @@ write_room t s i h = write_sets t s i h ∙ ap (λ (l : List ℕ). out l (i + le
 
 -- ---- a place within the buffer stays within it
 
-abbrev Within : Out → Type 0
+abbrev Within : Out ℕ → Type 0
 Within (out s i) = i ≤ length s
 
-put_within : (o : Out) (b : ℕ) → Within o → Within (put o b)
+put_within : (o : Out ℕ) (b : ℕ) → Within o → Within (put o b)
 unfolding put
 put_within (out s i) b h = rw length-set (go (ltb i (length s)) refl)
   where
@@ -83,7 +83,7 @@ put_within (out s i) b h = rw length-set (go (ltb i (length s)) refl)
     go true e = omega (arith, ltb-true i (length s) e)
     go false e = h
 
-write_within : (o : Out) (t : List ℕ) → Within o → Within (write o t)
+write_within : (o : Out ℕ) (t : List ℕ) → Within o → Within (write o t)
 unfolding write
 write_within o [] h = h
 write_within o (b ∷ t) h = write_within (put o b) t (put_within o b h)

@@ -1,10 +1,10 @@
 -- Document 01, "The exam program", the output: what is printed of an answer. Definitions only.
-use Rattle.std.specs.Prelude.{ℕ, suc, ◌/◌, ◌%◌, List, [], ◌∷◌, ◌++◌, Float}
+use Rattle.std.specs.Prelude.{ℕ, suc, ◌/◌, ◌%◌, List, [], ◌∷◌, ◌++◌, Float, Result, Ok, Err}
 use Rattle.std.specs.Float.{binary64}
 use Rattle.std.specs.Float.Ieee.{to_bits}
 use Rattle.rules.specs.Refusals.{number}
 use Rattle.rules.specs.declared.Answer.{Answer}
-use Rattle.rules.specs.declared.Answer.TheVariants.{Refused, Covariance, Intensity, Mean, Shrunk}
+use Rattle.rules.specs.declared.Refusal.{Refusal}
 use Rattle.paper.specs.Text.{line_feed, space, digits, decimal}
 use Rattle.paper.specs.Screen.{screen_text}
 
@@ -31,12 +31,9 @@ pub data Outcome : Type 0 where
   ok : ℕ → ℕ → List Float → Outcome
 
 -- what the engine returned, as n rows of c columns, with its answer slice
-unfoldable pub outcome : ℕ → ℕ → Answer → List Float → Outcome
-outcome n c (Refused r) xs = refused (number r)
-outcome n c (Covariance δ sweeps rotations) xs = ok n c xs
-outcome n c (Intensity δ) xs = ok n c xs
-outcome n c Mean xs = ok n c xs
-outcome n c (Shrunk α target sweeps rotations) xs = ok n c xs
+unfoldable pub outcome : ℕ → ℕ → Result Answer Refusal → List Float → Outcome
+outcome n c (Err r) xs = refused (number r)
+outcome n c (Ok a) xs = ok n c xs
 
 -- `refused N`, or `ok n c` and the lines
 unfoldable pub outcome_text : Outcome → List ℕ

@@ -1,7 +1,6 @@
 -- Document 01, "The exam program", with document 02, "Paper 1", kind 12, as a whole: from the bytes of a question file to the bytes that are printed.
 -- A prime marks what the engine takes. Definitions only.
-use Rattle.std.specs.Prelude.{ℕ, ◌*◌, List, map, replicate, Float}
-use Rattle.std.proofs.Math.Option.{Option, none, some}
+use Rattle.std.specs.Prelude.{ℕ, ◌*◌, List, map, replicate, Float, Option, Some, None}
 use Rattle.leaves.specs.Numbers.{zero⁺, float}
 use Rattle.matrix.specs.Limits.{max_sweeps}
 use Rattle.rules.specs.Calls.{Answered, adjusted_covariance, exponentially_weighted_mean, james_stein_mean, bayes_stein_mean}
@@ -20,8 +19,6 @@ use Rattle.paper.specs.declared.question.ShrinkageBits.{ShrinkageBits}
 use Rattle.paper.specs.declared.question.ShrinkageBits.TheVariants.{Unshrunk, Fixed, LedoitWolf}
 use Rattle.paper.specs.declared.question.RegularizationBits.{RegularizationBits}
 use Rattle.paper.specs.declared.question.RegularizationBits.TheVariants.{Unregularized, Ridge}
-use Rattle.paper.specs.declared.question.Limit.{Limit}
-use Rattle.paper.specs.declared.question.Limit.TheVariants.{Missing, Sweeps}
 use Rattle.paper.specs.declared.question.Asked.{Asked}
 use Rattle.paper.specs.declared.question.Asked.TheVariants.{Covariance, WeightedMean, JamesStein, BayesStein}
 use Rattle.paper.specs.declared.question.Question.{Question}
@@ -57,9 +54,9 @@ regularization_of Unregularized = Unregularized'
 regularization_of (Ridge bits) = Ridge' (float bits)
 
 -- "Without 10 the limit is 100", the largest
-abbrev pub limit_of : Limit → ℕ
-limit_of Missing = max_sweeps
-limit_of (Sweeps limit) = limit
+abbrev pub limit_of : Option ℕ → ℕ
+limit_of None = max_sweeps
+limit_of (Some limit) = limit
 
 unfoldable pub settings_of : Question → Settings
 settings_of q = record { estimate = estimate_of q.estimate; shrinkage = shrinkage_of q.shrinkage; regularization = regularization_of q.regularization; limit = limit_of q.limit }
@@ -100,8 +97,8 @@ answer_of c = answer_to c.question (map float c.returns) (map float c.given)
 -- ---- the whole
 
 unfoldable pub examined : Option Contents → Outcome
-examined none = refused malformed_number
-examined (some c) = answer_of c
+examined None = refused malformed_number
+examined (Some c) = answer_of c
 
 unfoldable pub marking : List ℕ → List ℕ
 marking paper = outcome_text (examined (read_question paper))

@@ -1,7 +1,6 @@
 -- Document 02, "Paper 5. Question authors write files": the question record, which stands between the reader and the marking; what a file says in its terms; and
 -- a file read into lent slices. A number is its 64 bits, so that a NaN keeps its own. The returns and the given entries stand beside the record. Definitions only.
-use Rattle.std.specs.Prelude.{ℕ, ◌*◌, Bool, true, false, ◌&&◌, cond, List, [], ◌++◌, length, get_or, drop, leb, eqb}
-use Rattle.std.proofs.Math.Option.{Option, none, some}
+use Rattle.std.specs.Prelude.{ℕ, ◌*◌, Bool, true, false, ◌&&◌, cond, List, [], ◌++◌, length, get_or, drop, leb, eqb, Option, Some, None, Result, Ok, Err}
 use Rattle.rules.specs.Settings.{target_of}
 use Rattle.paper.specs.declared.format.Outline.{Outline}
 use Rattle.paper.specs.declared.question.EstimateBits.{EstimateBits}
@@ -10,13 +9,11 @@ use Rattle.paper.specs.declared.question.ShrinkageBits.{ShrinkageBits}
 use Rattle.paper.specs.declared.question.ShrinkageBits.TheVariants.{Unshrunk, Fixed, LedoitWolf}
 use Rattle.paper.specs.declared.question.RegularizationBits.{RegularizationBits}
 use Rattle.paper.specs.declared.question.RegularizationBits.TheVariants.{Unregularized, Ridge}
-use Rattle.paper.specs.declared.question.Limit.{Limit}
-use Rattle.paper.specs.declared.question.Limit.TheVariants.{Missing, Sweeps}
 use Rattle.paper.specs.declared.question.Asked.{Asked}
 use Rattle.paper.specs.declared.question.Asked.TheVariants.{Covariance, WeightedMean, JamesStein, BayesStein}
 use Rattle.paper.specs.declared.question.Question.{Question}
-use Rattle.paper.specs.declared.reading.Read.{Read}
-use Rattle.paper.specs.declared.reading.Read.TheVariants.{Malformed, TooShort, Found}
+use Rattle.paper.specs.declared.reading.ReadError.{ReadError}
+use Rattle.paper.specs.declared.reading.ReadError.TheVariants.{Malformed, TooShort}
 use Rattle.paper.specs.Grammar.{kinds, place_in}
 use Rattle.paper.specs.Rules.{outline, has, value, assets, periods, Reading, malformed, question, read_paper}
 
@@ -45,8 +42,8 @@ shrinkage_in o = cond (has o 4) (Fixed (value o 4)) (cond (has o 5) (LedoitWolf 
 unfoldable pub regularization_in : Outline → RegularizationBits
 regularization_in o = cond (has o 3) (Ridge (value o 3)) Unregularized
 
-unfoldable pub limit_in : Outline → Limit
-limit_in o = cond (has o 10) (Sweeps (value o 10)) Missing
+unfoldable pub limit_in : Outline → Option ℕ
+limit_in o = cond (has o 10) (Some (value o 10)) None
 
 unfoldable pub asked_of : ℕ → Asked
 asked_of number = cond (eqb number 0) Covariance (cond (eqb number 1) WeightedMean (cond (eqb number 2) JamesStein BayesStein))
@@ -70,8 +67,8 @@ unfoldable pub contents_in : List (List ℕ) → Contents
 contents_in lists = contents (question_in (outline lists)) (of_kind lists 2) (of_kind lists 9)
 
 unfoldable pub said : Reading → Option Contents
-said malformed = none
-said (question lists) = some (contents_in lists)
+said malformed = None
+said (question lists) = Some (contents_in lists)
 
 -- nothing where the file is no question
 unfoldable pub read_question : List ℕ → Option Contents
@@ -97,11 +94,11 @@ abbrev pub front : List ℕ → List ℕ → List ℕ
 front xs slice = xs ++ drop (length xs) slice
 
 pub record Into : Type 0 where
-  pub read : Read
+  pub read : Result Question ReadError
   pub returns : List ℕ
   pub given : List ℕ
 
-abbrev pub into : Read → List ℕ → List ℕ → Into
+abbrev pub into : Result Question ReadError → List ℕ → List ℕ → Into
 into read returns given = record { read = read; returns = returns; given = given }
 
 -- both slices are long enough
@@ -110,5 +107,5 @@ room c returns given = leb (length c.returns) (length returns) && leb (length c.
 
 -- nothing is written where the file is no question, nor where a slice is too short
 unfoldable pub read_into : Option Contents → List ℕ → List ℕ → Into
-read_into none returns given = into Malformed returns given
-read_into (some c) returns given = cond (room c returns given) (into (Found c.question) (front c.returns returns) (front c.given given)) (into TooShort returns given)
+read_into None returns given = into (Err Malformed) returns given
+read_into (Some c) returns given = cond (room c returns given) (into (Ok c.question) (front c.returns returns) (front c.given given)) (into (Err TooShort) returns given)

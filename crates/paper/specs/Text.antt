@@ -44,16 +44,16 @@ decimal n = unpadded (digits 10 max_digits n)
 
 -- ---- a lent buffer
 
--- a buffer, and the place in it of the next byte
-pub data Out : Type 0 where
-  out : List ℕ → ℕ → Out
+-- a buffer, and the place in it of the next byte or number
+pub data Out (A : Type 0) : Type 0 where
+  out : List A → ℕ → Out A
 
--- one byte more; a full buffer takes nothing
-unfoldable pub put : Out → ℕ → Out
+-- one more; a full buffer takes nothing
+unfoldable pub put : {A : Type 0} → Out A → A → Out A
 put (out s i) b = out (set s i b) (cond (ltb i (length s)) (i + 1) i)
 
--- a text, byte by byte
-unfoldable pub write : Out → List ℕ → Out
+-- a text, byte by byte, or numbers, one by one
+unfoldable pub write : {A : Type 0} → Out A → List A → Out A
 write o [] = o
 write o (b ∷ t) = write (put o b) t
 

@@ -7,8 +7,7 @@ ghost use Rattle.paper.specs.Answer as Answers;
 
 use crate::screen::put_screen;
 use crate::text::{put, put_decimal, put_digits, put_text};
-use rules::Answer;
-use rules::refusals::number;
+use rules::{Answer, Refusal};
 
 // The bits of x, those of one NaN for every NaN.
 fn bits(x: f64) -> u64
@@ -39,15 +38,21 @@ fn put_line(i: usize, j: usize, x: f64, out: &mut [u8], at: usize) -> usize
     put(out, d, b'\n')
 }
 
-fn put_lines(columns: usize, xs: &[f64], out: &mut [u8], from: usize) -> usize
-    requires { columns ≡ 0 → length xs.now ≡ 0 }
-    ensures { into out.new result ≡ write (into out.old from) (Answers.lines_text columns 0 xs.now) }
+// An answer's numbers, row by row.
+#[derive(Clone, Copy)]
+pub(crate) struct Entries<'a> {
+    pub rows: usize,
+    pub columns: usize,
+    pub numbers: &'a [f64],
+    pub ghost none_without_columns: { columns ≡ 0 → length numbers.now ≡ 0 },
+}
+
+fn put_lines(e: &Entries, out: &mut [u8], from: usize) -> usize
+    ensures { into out.new result ≡ write (into out.old from) (Answers.lines_text e.now.columns 0 e.now.numbers.now) }
 {
     let mut at = from;
-    let mut k = 0;
-    while k < xs.len() {
-        at = put_line(k / columns, k % columns, xs[k], out, at);
-        k += 1;
+    for (k, &x) in e.numbers.iter().enumerate() {
+        at = put_line(k / e.columns, k % e.columns, x, out, at);
     }
     at
 }
@@ -59,30 +64,26 @@ pub(crate) fn put_refused(number: u64, out: &mut [u8], at: usize) -> usize
     put_decimal(number, b'\n', out, a)
 }
 
-fn put_ok(rows: usize, columns: usize, xs: &[f64], out: &mut [u8], at: usize) -> usize
-    requires { columns ≡ 0 → length xs.now ≡ 0 }
-    ensures { into out.new result ≡ write (into out.old at) (Answers.outcome_text (Answers.ok rows columns xs.now)) }
+fn put_ok(e: &Entries, out: &mut [u8], at: usize) -> usize
+    ensures { into out.new result ≡ write (into out.old at) (Answers.outcome_text (Answers.ok e.now.rows e.now.columns e.now.numbers.now)) }
 {
     let a = put_text(b"ok ", out, at);
-    let b = put_decimal(rows as u64, b' ', out, a);
-    let c = put_decimal(columns as u64, b'\n', out, b);
-    put_lines(columns, xs, out, c)
+    let b = put_decimal(e.rows as u64, b' ', out, a);
+    let c = put_decimal(e.columns as u64, b'\n', out, b);
+    put_lines(e, out, c)
 }
 
-// The engine's answer, with the answer slice.
+// What the engine returned, with the answer slice.
 pub(crate) fn put_answer(
-    answer: Answer,
-    rows: usize,
-    columns: usize,
-    xs: &[f64],
+    answer: Result<Answer, Refusal>,
+    e: &Entries,
     out: &mut [u8],
     at: usize,
 ) -> usize
-    requires { columns ≡ 0 → length xs.now ≡ 0 }
-    ensures { into out.new result ≡ write (into out.old at) (Answers.outcome_text (Answers.outcome rows columns answer xs.now)) }
+    ensures { into out.new result ≡ write (into out.old at) (Answers.outcome_text (Answers.outcome e.now.rows e.now.columns answer e.now.numbers.now)) }
 {
     match answer {
-        Answer::Refused(r) => put_refused(number(r) as u64, out, at),
-        _ => put_ok(rows, columns, xs, out, at),
+        Ok(_) => put_ok(e, out, at),
+        Err(r) => put_refused(r.number() as u64, out, at),
     }
 }

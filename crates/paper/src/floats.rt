@@ -10,9 +10,7 @@ pub(crate) fn fill_floats(bits: &[u64], to: &mut [f64])
     requires { length bits.now ≤ length to.old }
     ensures { to.new ≡ fill (length bits.now) (λ (i : ℕ). Numbers.float (get_or bits.now i 0)) to.old }
 {
-    let mut i = 0;
-    while i < bits.len() {
-        to[i] = float(bits[i]);
-        i += 1;
+    for (i, &b) in bits.iter().enumerate() {
+        to[i] = float(b);
     }
 }

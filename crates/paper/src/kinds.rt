@@ -1,7 +1,7 @@
 // The kinds of record that a question file has, in the order of the file.
 ghost use Rattle.std.specs.Prelude.{◌≡◌, ◌<◌, length, get_or};
 ghost use Rattle.paper.specs.Grammar as Grammar;
-ghost use Rattle.paper.specs.Inner.{missing};
+ghost use Rattle.paper.specs.Inner.{missing, byte_of};
 
 // The most assets and periods of a file.
 pub const FILE_ASSETS: usize = 8;
@@ -18,6 +18,23 @@ pub const KINDS: usize = 12;
 
 pub(crate) const RECORDS: usize = RETURNS + ENTRIES + KINDS - 2;
 
+// A kind by name; `byte_of` of the definitions is its byte.
+#[derive(Clone, Copy)]
+pub(crate) enum KindName {
+    Shape,
+    Return,
+    Regularization,
+    FixedShrinkage,
+    Target,
+    HalfLife,
+    Semi,
+    SemiThreshold,
+    GivenEntry,
+    SweepLimit,
+    DecayFactor,
+    Question,
+}
+
 // A kind's byte, the length of its body, and how many records of it a file may have.
 #[derive(Clone, Copy)]
 pub struct Kind {
@@ -26,34 +43,34 @@ pub struct Kind {
     pub most: usize,
 }
 
-const BYTES: [u8; KINDS] = [1, 2, 3, 4, 5, 6, 7, 8, 9, 10, 12, 11];
-
-const BODIES: [usize; KINDS] = [4, 8, 8, 8, 1, 8, 0, 8, 8, 1, 8, 1];
-
-const MOSTS: [usize; KINDS] = [1, RETURNS, 1, 1, 1, 1, 1, 1, ENTRIES, 1, 1, 1];
+// Of each kind the byte, the length of the body and how many records, in the order of the file.
+const TABLE: [(u8, usize, usize); KINDS] = [
+    (1, 4, 1),
+    (2, 8, RETURNS),
+    (3, 8, 1),
+    (4, 8, 1),
+    (5, 1, 1),
+    (6, 8, 1),
+    (7, 0, 1),
+    (8, 8, 1),
+    (9, 8, ENTRIES),
+    (10, 1, 1),
+    (12, 8, 1),
+    (11, 1, 1),
+];
 
 pub fn kind_at(i: usize) -> Kind
     requires { i < length Grammar.kinds }
     ensures { result ≡ get_or Grammar.kinds i missing }
 {
-    Kind {
-        byte: BYTES[i],
-        body: BODIES[i],
-        most: MOSTS[i],
-    }
+    let (byte, body, most) = TABLE[i];
+    Kind { byte, body, most }
 }
 
-// Where the kind of a byte stands; behind all others where there is no such kind.
-pub(crate) fn place(byte: u8) -> usize
-    ensures { result ≡ Grammar.place_in Grammar.kinds byte }
+// Where a kind stands in the file.
+pub(crate) fn place(kind: KindName) -> usize
+    ensures is_place { result ≡ Grammar.place_in Grammar.kinds (byte_of kind) }
+    ensures inside { result < KINDS }
 {
-    let mut i = 0;
-    while i < KINDS {
-        let k = kind_at(i);
-        if k.byte == byte {
-            return i;
-        }
-        i += 1;
-    }
-    i
+    kind as usize
 }

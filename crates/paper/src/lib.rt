@@ -21,7 +21,7 @@ use crate::answer::put_refused;
 use crate::kinds::{ENTRIES, RETURNS};
 use crate::marking::examine;
 use crate::question::given_count;
-use crate::reading::{Read, read_question};
+use crate::reading::read_question;
 
 // Bytes that are always enough for what is printed, as `mark_whole` has it.
 pub const TEXT: usize = 8192;
@@ -38,13 +38,12 @@ pub fn mark(paper: &[u8], out: &mut [u8]) -> usize
     let mut returns = [0u64; RETURNS];
     let mut given = [0u64; ENTRIES];
     match read_question(paper, &mut returns, &mut given) {
-        Read::Found(q) => {
+        Ok(q) => {
             let t = q.periods * q.assets;
             let g = given_count(q);
             examine(q, &returns[..t], &given[..g], out)
         }
-        Read::Malformed => put_refused(MALFORMED, out, 0),
-        Read::TooShort => put_refused(MALFORMED, out, 0),
+        Err(_) => put_refused(MALFORMED, out, 0),
     }
 }
 

@@ -4,6 +4,7 @@ ghost use Rattle.paper.specs.Grammar.{file_assets};
 ghost use Rattle.paper.specs.Question as Questions;
 
 use crate::format::{Outline, assets, has, periods, value};
+use crate::kinds::KindName;
 use rules::Target;
 use rules::targets::target;
 
@@ -31,13 +32,6 @@ pub enum RegularizationBits {
     Ridge(u64),
 }
 
-// A missing limit is marked as the largest one, and is written as missing.
-#[derive(Clone, Copy)]
-pub enum Limit {
-    Missing,
-    Sweeps(usize),
-}
-
 // What is asked for.
 #[derive(Clone, Copy)]
 pub enum Asked {
@@ -47,7 +41,7 @@ pub enum Asked {
     BayesStein,
 }
 
-// The returns and the given entries stand in slices beside it.
+// The returns and the given entries stand in slices beside it. A missing limit is marked as the largest one, and is written as missing.
 #[derive(Clone, Copy)]
 pub struct Question {
     pub assets: usize,
@@ -55,115 +49,106 @@ pub struct Question {
     pub estimate: EstimateBits,
     pub shrinkage: ShrinkageBits,
     pub regularization: RegularizationBits,
-    pub limit: Limit,
+    pub limit: Option<usize>,
     pub asked: Asked,
 }
 
+#[tactic(auto, unfolding(crate::specs::Question::estimate_in))]
 fn estimate_in(o: Outline) -> EstimateBits
     ensures { result ≡ Questions.estimate_in o }
 {
-    if has(o, 6) {
-        return EstimateBits::HalfLife(value(o, 6));
+    if has(o, KindName::HalfLife) {
+        return EstimateBits::HalfLife(value(o, KindName::HalfLife));
     }
-    if has(o, 12) {
-        return EstimateBits::Lambda(value(o, 12));
+    if has(o, KindName::DecayFactor) {
+        return EstimateBits::Lambda(value(o, KindName::DecayFactor));
     }
-    if has(o, 7) {
+    if has(o, KindName::Semi) {
         return EstimateBits::Semi;
     }
-    if has(o, 8) {
-        return EstimateBits::SemiBelow(value(o, 8));
+    if has(o, KindName::SemiThreshold) {
+        return EstimateBits::SemiBelow(value(o, KindName::SemiThreshold));
     }
-    if has(o, 9) {
+    if has(o, KindName::GivenEntry) {
         return EstimateBits::Given;
     }
     EstimateBits::Sample
 }
 
+#[tactic(auto, unfolding(crate::specs::Question::shrinkage_in))]
 fn shrinkage_in(o: Outline) -> ShrinkageBits
     ensures { result ≡ Questions.shrinkage_in o }
 {
-    if has(o, 4) {
-        return ShrinkageBits::Fixed(value(o, 4));
+    if has(o, KindName::FixedShrinkage) {
+        return ShrinkageBits::Fixed(value(o, KindName::FixedShrinkage));
     }
-    if has(o, 5) {
-        return ShrinkageBits::LedoitWolf(target(value(o, 5)));
+    if has(o, KindName::Target) {
+        return ShrinkageBits::LedoitWolf(target(value(o, KindName::Target)));
     }
     ShrinkageBits::Unshrunk
 }
 
+#[tactic(auto, unfolding(crate::specs::Question::regularization_in))]
 fn regularization_in(o: Outline) -> RegularizationBits
     ensures { result ≡ Questions.regularization_in o }
 {
-    if has(o, 3) {
-        return RegularizationBits::Ridge(value(o, 3));
+    if has(o, KindName::Regularization) {
+        return RegularizationBits::Ridge(value(o, KindName::Regularization));
     }
     RegularizationBits::Unregularized
 }
 
-fn limit_in(o: Outline) -> Limit
+#[tactic(auto, unfolding(crate::specs::Question::limit_in))]
+fn limit_in(o: Outline) -> Option<usize>
     ensures { result ≡ Questions.limit_in o }
 {
-    if has(o, 10) {
-        return Limit::Sweeps(value(o, 10) as usize);
+    if has(o, KindName::SweepLimit) {
+        return Some(value(o, KindName::SweepLimit) as usize);
     }
-    Limit::Missing
+    None
 }
 
-// What a question's number stands for.
+// What a question's number stands for. Not a TryFrom: the rules have tested the number.
+#[tactic(auto, unfolding(crate::specs::Question::asked_of))]
 pub fn asked_of(number: u64) -> Asked
     ensures { result ≡ Questions.asked_of number }
 {
-    if number == 0 {
-        return Asked::Covariance;
+    match number {
+        0 => Asked::Covariance,
+        1 => Asked::WeightedMean,
+        2 => Asked::JamesStein,
+        _ => Asked::BayesStein,
     }
-    if number == 1 {
-        return Asked::WeightedMean;
-    }
-    if number == 2 {
-        return Asked::JamesStein;
-    }
-    Asked::BayesStein
 }
 
+#[tactic(auto, unfolding(crate::specs::Question::question_in))]
 pub(crate) fn question_in(o: Outline) -> Question
     ensures { result ≡ Questions.question_in o }
 {
-    let estimate = estimate_in(o);
-    let shrinkage = shrinkage_in(o);
-    let regularization = regularization_in(o);
-    let limit = limit_in(o);
     Question {
         assets: assets(o) as usize,
         periods: periods(o) as usize,
-        estimate,
-        shrinkage,
-        regularization,
-        limit,
-        asked: asked_of(value(o, 11)),
+        estimate: estimate_in(o),
+        shrinkage: shrinkage_in(o),
+        regularization: regularization_in(o),
+        limit: limit_in(o),
+        asked: asked_of(value(o, KindName::Question)),
     }
 }
 
 pub fn is_given(estimate: EstimateBits) -> bool
     ensures { result ≡ Questions.is_given estimate }
 {
-    match estimate {
-        EstimateBits::Sample => false,
-        EstimateBits::Given => true,
-        EstimateBits::HalfLife(_) => false,
-        EstimateBits::Lambda(_) => false,
-        EstimateBits::Semi => false,
-        EstimateBits::SemiBelow(_) => false,
-    }
+    matches!(estimate, EstimateBits::Given)
 }
 
 // How many given entries stand beside a record.
+#[tactic(auto, unfolding(crate::specs::Question::given_count))]
 pub fn given_count(q: Question) -> usize
     requires { q.assets ≤ file_assets }
     ensures { result ≡ Questions.given_count q }
 {
-    let estimate = q.estimate;
-    if is_given(estimate) {
+    if is_given(q.estimate) {
         q.assets * q.assets
     } else {
         0

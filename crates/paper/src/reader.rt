@@ -1,6 +1,5 @@
 // The question file: bytes to numbers.
-ghost use Rattle.std.specs.Prelude.{◌≡◌, [], ◌∷◌, ◌+◌, ◌<◌, ◌≤◌, length, take, drop};
-ghost use Rattle.paper.specs.Text.{out as into, write};
+ghost use Rattle.std.specs.Prelude.{◌≡◌, ◌+◌, ◌<◌, ◌≤◌, length, take, drop};
 ghost use Rattle.paper.specs.Grammar as Grammar;
 ghost use Rattle.paper.specs.Grammar.{taken, kinds, sheet};
 ghost use Rattle.paper.specs.Rules.{first_of};
@@ -8,25 +7,16 @@ ghost use Rattle.paper.specs.Inner.{TookIs, ScannedIs, ReadIs};
 
 use crate::format::{Outline, well_formed};
 use crate::kinds::{KINDS, Kind, RECORDS, kind_at};
-
-fn wide(b: u8) -> u64
-    ensures { result ≡ b }
-{
-    b as u64
-}
+use crate::text::put;
 
 // The little-endian number of len bytes at a place.
 fn number(file: &[u8], at: usize, len: usize) -> u64
     requires { (len ≤ 8) × (at + len ≤ length file.now) }
     ensures { result ≡ Grammar.little (take len (drop at file.now)) }
 {
-    let mut v = 0;
-    let mut i = len;
-    while i > 0 {
-        i -= 1;
-        v = v * 256 + wide(file[at + i]);
-    }
-    v
+    let mut bytes = [0u8; 8];
+    bytes[..len].copy_from_slice(&file[at..at + len]);
+    u64::from_le_bytes(bytes)
 }
 
 // Whether a record of kind k stands at a place, body and all.
@@ -34,11 +24,7 @@ fn starts(file: &[u8], at: usize, k: Kind) -> bool
     requires { at ≤ length file.now }
     ensures { result ≡ Grammar.starts k (drop at file.now) }
 {
-    if k.body < file.len() - at {
-        file[at] == k.byte
-    } else {
-        false
-    }
+    k.body < file.len() - at && file[at] == k.byte
 }
 
 // The first body of the records of kind k that stand at a place, 0 where there is none.
@@ -50,17 +36,6 @@ fn first(file: &[u8], at: usize, k: Kind) -> u64
         number(file, at + 1, k.body)
     } else {
         0
-    }
-}
-
-fn put_number(out: &mut [u64], at: usize, v: u64) -> usize
-    ensures { into out.new result ≡ write (into out.old at) (v ∷ []) }
-{
-    if at < out.len() {
-        out[at] = v;
-        at + 1
-    } else {
-        at
     }
 }
 
@@ -79,17 +54,18 @@ fn take_kind(file: &[u8], from: usize, k: Kind, numbers: &mut [u64], to: usize) 
 {
     let mut at = from;
     let mut next = to;
-    let mut count = 0;
-    while count < k.most {
-        if starts(file, at, k) {
-            next = put_number(numbers, next, number(file, at + 1, k.body));
-            count += 1;
-            at += k.body + 1;
-        } else {
+    for count in 0..k.most {
+        if !starts(file, at, k) {
             return Took { at, next, count };
         }
+        next = put(numbers, next, number(file, at + 1, k.body));
+        at += k.body + 1;
     }
-    Took { at, next, count }
+    Took {
+        at,
+        next,
+        count: k.most,
+    }
 }
 
 // The place after the records of all kinds, and the outline of what was read.
@@ -106,38 +82,27 @@ fn scan(file: &[u8], numbers: &mut [u64]) -> Scanned
     let mut firsts = [0u64; KINDS];
     let mut at = 0;
     let mut next = 0;
-    let mut i = 0;
-    while i < KINDS {
+    for i in 0..KINDS {
         let k = kind_at(i);
         firsts[i] = first(file, at, k);
         let t = take_kind(file, at, k, numbers, next);
         counts[i] = t.count as u64;
         at = t.at;
         next = t.next;
-        i += 1;
     }
     let outline = Outline { counts, firsts };
     Scanned { end: at, outline }
 }
 
-// Whether a file is a question, and its outline.
-#[derive(Drop)]
-pub(crate) struct Parsed {
-    pub ok: bool,
-    pub outline: Outline,
-}
-
-// Reads a file. The bodies go to the front of the numbers, in the order of the file.
-pub(crate) fn read(file: &[u8], numbers: &mut [u64; RECORDS]) -> Parsed
+// The outline of a file that is a question. The bodies go to the front of the numbers, in the order of the file.
+pub(crate) fn read(file: &[u8], numbers: &mut [u64; RECORDS]) -> Option<Outline>
     ensures { ReadIs file.now numbers.old numbers.new result }
 {
     let s = scan(file, numbers);
-    let end = s.end;
     let outline = s.outline;
-    let ok = if end == file.len() {
-        well_formed(outline)
+    if s.end == file.len() && well_formed(outline) {
+        Some(outline)
     } else {
-        false
-    };
-    Parsed { ok, outline }
+        None
+    }
 }

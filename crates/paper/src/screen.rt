@@ -5,6 +5,7 @@ ghost use Rattle.paper.specs.Screen as Screen;
 
 use crate::text::{put, put_decimal, put_digits, put_text};
 
+// Not an `Option`: `big` is a text that is shown.
 #[derive(Drop)]
 pub(crate) enum Shown {
     Big,

@@ -2,7 +2,7 @@
 ghost use Rattle.std.specs.Prelude.{◌≡◌};
 ghost use Rattle.paper.specs.Marking as Marking;
 
-use crate::question::{EstimateBits, Limit, Question, RegularizationBits, ShrinkageBits};
+use crate::question::{EstimateBits, Question, RegularizationBits, ShrinkageBits};
 use leaves::numbers::float;
 use rules::{Decay, Estimate, Regularization, Settings, Shrinkage};
 
@@ -13,10 +13,7 @@ pub(crate) fn decay(estimate: EstimateBits) -> Decay
     match estimate {
         EstimateBits::HalfLife(bits) => Decay::HalfLife(float(bits)),
         EstimateBits::Lambda(bits) => Decay::Lambda(float(bits)),
-        EstimateBits::Sample => Decay::Lambda(0.0),
-        EstimateBits::Given => Decay::Lambda(0.0),
-        EstimateBits::Semi => Decay::Lambda(0.0),
-        EstimateBits::SemiBelow(_) => Decay::Lambda(0.0),
+        _ => Decay::Lambda(0.0),
     }
 }
 
@@ -52,26 +49,20 @@ fn regularization(regularization: RegularizationBits) -> Regularization
     }
 }
 
-pub(crate) fn limit(limit: Limit) -> usize
+pub(crate) fn limit(limit: Option<usize>) -> usize
     ensures { result ≡ Marking.limit_of limit }
 {
-    match limit {
-        Limit::Missing => matrix::MAX_SWEEPS,
-        Limit::Sweeps(limit) => limit,
-    }
+    limit.unwrap_or(matrix::MAX_SWEEPS)
 }
 
+#[tactic(auto, unfolding(crate::specs::Marking::settings_of))]
 pub(crate) fn settings(q: Question) -> Settings
     ensures { result ≡ Marking.settings_of q }
 {
-    let e = q.estimate;
-    let s = q.shrinkage;
-    let r = q.regularization;
-    let l = q.limit;
     Settings {
-        estimate: estimate(e),
-        shrinkage: shrinkage(s),
-        regularization: regularization(r),
-        limit: limit(l),
+        estimate: estimate(q.estimate),
+        shrinkage: shrinkage(q.shrinkage),
+        regularization: regularization(q.regularization),
+        limit: limit(q.limit),
     }
 }

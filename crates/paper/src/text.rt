@@ -1,4 +1,5 @@
 // Text in a lent buffer. Each function writes at a place and answers the next place; a full buffer takes nothing more.
+// Not methods of a struct over the buffer: each would have to promise besides that it keeps the reference.
 ghost use Rattle.std.specs.Prelude.{◌≡◌, [], ◌∷◌, ◌++◌, ◌<◌, ◌≤◌, length, drop};
 ghost use Rattle.paper.specs.Text as Text;
 ghost use Rattle.paper.specs.Text.{out as into, write};
@@ -6,11 +7,11 @@ ghost use Rattle.paper.specs.Text.{out as into, write};
 // No number of 64 bits has more decimal digits: the definitions' `max_digits`.
 const DIGITS: usize = 20;
 
-pub fn put(out: &mut [u8], at: usize, b: u8) -> usize
-    ensures { into out.new result ≡ write (into out.old at) (b ∷ []) }
+pub fn put<T: Copy>(out: &mut [T], at: usize, x: T) -> usize
+    ensures { into out.new result ≡ write (into out.old at) (x ∷ []) }
 {
     if at < out.len() {
-        out[at] = b;
+        out[at] = x;
         at + 1
     } else {
         at
@@ -21,14 +22,14 @@ pub(crate) fn put_text(text: &[u8], out: &mut [u8], from: usize) -> usize
     ensures { into out.new result ≡ write (into out.old from) text.now }
 {
     let mut at = from;
-    let mut i = 0;
-    while i < text.len() {
-        at = put(out, at, text[i]);
-        i += 1;
+    for &b in text {
+        at = put(out, at, b);
     }
     at
 }
 
+// `char::from_digit` has the letters of lower case.
+#[tactic(auto, unfolding(crate::specs::Text::glyph))]
 fn glyph(d: u64) -> u8
     requires { d < 16 }
     ensures { result ≡ Text.glyph d }
@@ -46,9 +47,7 @@ fn fill_digits(base: u64, n: u64, text: &mut [u8])
     ensures { text.new ≡ Text.digits base (length text.old) n }
 {
     let mut rest = n;
-    let mut i = text.len();
-    while i > 0 {
-        i -= 1;
+    for i in (0..text.len()).rev() {
         text[i] = glyph(rest % base);
         rest /= base;
     }
@@ -58,14 +57,13 @@ fn fill_digits(base: u64, n: u64, text: &mut [u8])
 fn significant(text: &[u8]) -> usize
     ensures { (result ≤ length text.now) × (drop result text.now ≡ Text.unpadded text.now) }
 {
-    let mut i = 0;
-    while i + 1 < text.len() {
+    let last = text.len().saturating_sub(1);
+    for i in 0..last {
         if text[i] != b'0' {
             return i;
         }
-        i += 1;
     }
-    i
+    last
 }
 
 // The last k digits of n.

@@ -1,54 +1,18 @@
--- Refusals 1 to 4 of the prices: what they answer, test by test, and what holds of the shape and the lengths where they pass, by the answer k that the code
--- has of them, or of all checks. Assumes nothing.
+-- Refusals 1 to 4 of the prices: what holds of the shape and the lengths where they pass, by the answer k that the code has of them, or of all checks. Assumes nothing.
 use mathlib.Core.Path.{◌≡◌, refl, sym, ◌∙◌}
-use mathlib.Core.Logic.{◌≢◌}
 use mathlib.Core.Bool.{not, ◌||◌}
 use mathlib.Mathlib.Data.Bool.Basic.{or-eq-false-eq-eq-false-and-eq-false}
 use mathlib.Core.List.{List, ◌++◌}
 use Prim.Native.Nat.{ℕ, ◌-◌, ◌*◌, ◌≤◌, ◌<◌}
 use native.Mathlib.Omega.{arith}
-use borrow.Author.Tests.{eq-eqb, ne_eqb, lt-ltb, le-ltb, eqb-true, eqb-false, ltb-false, not-false}
+use borrow.Author.Tests.{eqb-true, eqb-false, ltb-false, not-false}
 use lib.Dec.{eqb, ltb}
 use Rattle.matrix.specs.Limits.{max_side}
-use Rattle.rules.specs.Refusals.{Check, passes, refuses, when, first}
+use Rattle.rules.specs.Refusals.{Check, passes, first}
 use Rattle.rules.specs.Prices.{min_price_rows, max_price_rows, by_price_shape}
-use Rattle.rules.specs.declared.Refusal.TheVariants.{NoAssets, TooLarge, TooFewPeriods, WrongLength}
-use Rattle.rules.proofs.Firsts.{first_alone, first_then}
+use Rattle.rules.proofs.Firsts.{first_then}
 use Rattle.rules.proofs.Passed.{pass_cons, first_passes}
 
--- ---- test by test
-module _ (l n R room : ℕ) where
-  pub no_assets : n ≡ 0 → refuses NoAssets ≡ first (by_price_shape l n R room)
-  unfolding first
-  no_assets e = rw (eq-eqb n 0 e)
-
-  module _ (any : n ≢ 0) where
-    pub too_wide : max_side < n → refuses TooLarge ≡ first (by_price_shape l n R room)
-    unfolding first
-    too_wide h = rw (ne_eqb n 0 any, lt-ltb max_side n h)
-
-    module _ (narrow : n ≤ max_side) where
-      pub too_long : max_price_rows < R → refuses TooLarge ≡ first (by_price_shape l n R room)
-      unfolding first
-      too_long h = rw (ne_eqb n 0 any, le-ltb max_side n narrow, lt-ltb max_price_rows R h)
-
-      module _ (short : R ≤ max_price_rows) where
-        pub too_few : R < min_price_rows → refuses (TooFewPeriods R) ≡ first (by_price_shape l n R room)
-        unfolding first
-        too_few h = rw (ne_eqb n 0 any, le-ltb max_side n narrow, le-ltb max_price_rows R short, lt-ltb R min_price_rows h)
-
-        module _ (enough : min_price_rows ≤ R) where
-          pub wrong_length : l ≢ R * n → refuses WrongLength ≡ first (by_price_shape l n R room)
-          unfolding first
-          wrong_length h = rw (ne_eqb n 0 any, le-ltb max_side n narrow, le-ltb max_price_rows R short, le-ltb R min_price_rows enough, ne_eqb l (R * n) h)
-
-          pub by_room : {k : Check} → l ≡ R * n → k ≡ when (ltb room ((R - 1) * n)) WrongLength → k ≡ first (by_price_shape l n R room)
-          unfolding first
-          by_room h e =
-              rw (ne_eqb n 0 any, le-ltb max_side n narrow, le-ltb max_price_rows R short, le-ltb R min_price_rows enough, eq-eqb l (R * n) h)
-              (e ∙ first_alone (when (ltb room ((R - 1) * n)) WrongLength))
-
--- ---- where they pass
 pub record Priced (length n R room : ℕ) : Type 0 where
   pub some : 0 < n
   pub small : n ≤ max_side

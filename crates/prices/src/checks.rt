@@ -8,54 +8,54 @@ ghost use Rattle.inputs.specs.Checks.{checked};
 
 use crate::ordinary::all_ordinary;
 use crate::returns::return_at;
-use inputs::checks::{Check, first};
 use inputs::entries::check_finite;
 use rules::Refusal;
 
-// The first price that is zero or negative.
-fn check_positive(prices: &[f64], rows: usize, n: usize) -> Check
-    requires { length prices.now ≡ rows * n }
-    ensures { checked result ≡ non_positive rows n (at prices.now n) }
-{
-    let mut k = 0;
-    while k < prices.len() {
-        if prices[k] <= 0.0 {
-            let row = k / n;
-            let column = k % n;
-            return Check::Refuses(Refusal::NonPositivePrice(row, column));
-        }
-        k += 1;
-    }
-    Check::Passes
+// The prices of all assets in the first row, then those in the second, and so on.
+#[derive(Clone, Copy)]
+pub(crate) struct PriceTable<'a> {
+    pub numbers: &'a [f64],
+    pub rows: usize,
+    pub assets: usize,
+    pub ghost whole: { length numbers.now ≡ rows * assets },
+    pub ghost some: { 0 < rows },
 }
 
-// The first return that is not finite, at its row and column among the returns.
-fn check_returns(prices: &[f64], rows: usize, n: usize) -> Check
-    requires { (0 < rows) × (length prices.now ≡ rows * n) }
-    ensures { checked result ≡ not_finite (rows - 1) n (simple_returns (at prices.now n)) }
-{
-    let size = prices.len() - n;
-    let mut k = 0;
-    while k < size {
-        if !leaves::numbers::is_finite(return_at(prices, n, k)) {
-            let row = k / n;
-            let column = k % n;
-            return Check::Refuses(Refusal::NotFinite(row, column));
+impl<'a> PriceTable<'a> {
+    // The first price that is zero or negative.
+    fn check_positive(&self) -> Result<(), Refusal>
+        ensures { checked result ≡ non_positive self.now.rows self.now.assets (at self.now.numbers.now self.now.assets) }
+    {
+        match self.numbers.iter().position(|price| *price <= 0.0) {
+            Some(k) => Err(Refusal::NonPositivePrice(k / self.assets, k % self.assets)),
+            None => Ok(()),
         }
-        k += 1;
     }
-    Check::Passes
-}
 
-// Where all prices are ordinary, one look at them is enough, and no return is computed for it.
-pub(crate) fn check_prices(prices: &[f64], rows: usize, n: usize) -> Check
-    requires { (0 < rows) × (length prices.now ≡ rows * n) }
-    ensures { checked result ≡ Refusals.first (by_prices rows n (at prices.now n)) }
-{
-    if all_ordinary(prices) {
-        return Check::Passes;
+    // The first return that is not finite, at its row and column among the returns.
+    // By index: a return is of two prices, one row apart.
+    fn check_returns(&self) -> Result<(), Refusal>
+        ensures { checked result ≡ not_finite (self.now.rows - 1) self.now.assets (simple_returns (at self.now.numbers.now self.now.assets)) }
+    {
+        let n = self.assets;
+        let size = self.numbers.len() - n;
+        for k in 0..size {
+            if !leaves::numbers::is_finite(return_at(self.numbers, n, k)) {
+                return Err(Refusal::NotFinite(k / n, k % n));
+            }
+        }
+        Ok(())
     }
-    let finite = check_finite(prices, rows, n);
-    let priced = first(finite, check_positive(prices, rows, n));
-    first(priced, check_returns(prices, rows, n))
+
+    // Where all prices are ordinary, one look at them is enough, and no return is computed for it.
+    pub(crate) fn check(&self) -> Result<(), Refusal>
+        ensures { checked result ≡ Refusals.first (by_prices self.now.rows self.now.assets (at self.now.numbers.now self.now.assets)) }
+    {
+        if all_ordinary(self.numbers) {
+            return Ok(());
+        }
+        check_finite(self.numbers, self.rows, self.assets)?;
+        self.check_positive()?;
+        self.check_returns()
+    }
 }

@@ -2,6 +2,7 @@
 ghost use Rattle.std.specs.Prelude.{◌≡◌};
 ghost use Rattle.prices.specs.Ordinary as Ordinary;
 
+#[tactic(auto, unfolding(crate::specs::Ordinary::ordinary))]
 fn is_ordinary(x: f64) -> bool
     ensures { result ≡ Ordinary.ordinary x }
 {
@@ -11,12 +12,5 @@ fn is_ordinary(x: f64) -> bool
 pub(crate) fn all_ordinary(prices: &[f64]) -> bool
     ensures { result ≡ Ordinary.all_ordinary prices.now }
 {
-    let mut k = 0;
-    while k < prices.len() {
-        if !is_ordinary(prices[k]) {
-            return false;
-        }
-        k += 1;
-    }
-    true
+    prices.iter().all(|price| is_ordinary(*price))
 }

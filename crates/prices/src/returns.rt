@@ -3,6 +3,7 @@ ghost use Rattle.std.specs.Prelude.{◌≡◌, ◌+◌, ◌<◌, length};
 ghost use Rattle.leaves.specs.Loops.{tab};
 ghost use Rattle.prices.specs.Stored.{return_at};
 
+#[tactic(auto, unfolding(crate::specs::Stored::return_at))]
 pub(crate) fn return_at(prices: &[f64], n: usize, k: usize) -> f64
     requires { k + n < length prices.now }
     ensures { result ≡ return_at prices.now n k }
@@ -14,9 +15,7 @@ pub(crate) fn write_returns(prices: &[f64], n: usize, out: &mut [f64])
     requires { length prices.now ≡ length out.old + n }
     ensures { out.new ≡ tab (length out.old) (return_at prices.now n) }
 {
-    let mut k = 0;
-    while k < out.len() {
+    for k in 0..out.len() {
         out[k] = return_at(prices, n, k);
-        k += 1;
     }
 }

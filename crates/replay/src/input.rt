@@ -3,17 +3,11 @@ ghost use Rattle.std.specs.Prelude.{◌≤◌, IfOk};
 
 use std::io;
 use std::io::Read;
+use streams::read_full;
 
 fn word(reader: &mut impl Read) -> io::Result<u64> {
     let mut b = [0u8; 8];
-    let mut done = 0;
-    while done < 8 {
-        let n = reader.read(&mut b[done..])?;
-        if n == 0 {
-            break;
-        }
-        done += n;
-    }
+    read_full(reader, &mut b)?;
     Ok(u64::from_le_bytes(b))
 }
 
@@ -27,16 +21,14 @@ pub(crate) fn whole(reader: &mut impl Read) -> io::Result<usize> {
 
 // A call's number, a kind or the number of a stored refusal: all are below 99, which stands for anything larger.
 pub(crate) fn kind(reader: &mut impl Read) -> io::Result<u32> {
-    let k = word(reader)?;
-    Ok(if k < 99 { k as u32 } else { 99 })
+    Ok(word(reader)?.min(99) as u32)
 }
 
 // A count of numbers that there is room for.
 pub(crate) fn length(reader: &mut impl Read, most: usize) -> io::Result<usize>
     ensures { IfOk result (λ n. n ≤ most) }
 {
-    let n = whole(reader)?;
-    Ok(if n < most { n } else { most })
+    Ok(whole(reader)?.min(most))
 }
 
 pub(crate) fn fill(reader: &mut impl Read, out: &mut [f64]) -> io::Result<()> {

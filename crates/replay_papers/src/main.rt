@@ -2,16 +2,8 @@
 // another. What must be printed is what the comparison copy answers.
 #![tactic(auto)]
 
-ghost use Rattle.std.specs.Prelude.{◌<◌, ◌≤◌, length, IfOk};
-
 use std::io;
-use std::io::Read;
-
-fn wide(b: u8) -> usize
-    ensures { result < 256 }
-{
-    b as usize
-}
+use streams::read_full;
 
 fn mark(rt: &impl Print, paper: &[u8]) -> io::Result<()> {
     let mut text = [0u8; paper::TEXT];
@@ -21,33 +13,16 @@ fn mark(rt: &impl Print, paper: &[u8]) -> io::Result<()> {
 
 // Stops where a paper is not there whole.
 fn mark_all(rt: &impl Print, papers: &[u8]) -> io::Result<()> {
-    let mut at = 0;
-    while papers.len() - at >= 2 {
-        let length = wide(papers[at]) + 256 * wide(papers[at + 1]);
-        let from = at + 2;
-        if length > papers.len() - from {
+    let mut rest = papers;
+    while let Some((length, behind)) = rest.split_first_chunk::<2>() {
+        let length = usize::from(u16::from_le_bytes(*length));
+        let Some((paper, later)) = behind.split_at_checked(length) else {
             break;
-        }
-        let end = from + length;
-        mark(rt, &papers[from..end])?;
-        at = end;
+        };
+        mark(rt, paper)?;
+        rest = later;
     }
     Ok(())
-}
-
-// Reads until the buffer is full or the input ends. Answers how many bytes stand at the buffer's start.
-fn read_full(reader: &mut impl Read, buffer: &mut [u8]) -> io::Result<usize>
-    ensures { IfOk result (λ n. n ≤ length buffer.new) }
-{
-    let mut done = 0;
-    while done < buffer.len() {
-        let n = reader.read(&mut buffer[done..])?;
-        if n == 0 {
-            break;
-        }
-        done += n;
-    }
-    Ok(done)
 }
 
 // A read or a write that fails ends the program with its error.

@@ -13,6 +13,7 @@ use Rattle.rules.specs.Adjusted.{decomposition_of, intensity, base_of, adjusted_
 use Rattle.rules.specs.Order.{by_shape, by_returns, opening, of_given, of_settings, adjusted_order}
 use Rattle.rules.specs.Calls.{adjusted_with, adjusted_returns, adjusted_covariance}
 use Rattle.rules.specs.declared.Settings.{Settings}
+use Rattle.std.specs.Prelude.{Ok}
 use Rattle.rules.specs.declared.Answer.TheVariants.{Covariance}
 use Rattle.rules.proofs.Opened.{settle_then, answer_of}
 
@@ -31,6 +32,6 @@ module _ (r : List Float) (n T : ℕ) (s : Settings) (given : List Float) (side 
   of_answer = of_settings s asked T n side (at r n) (at estimated n) (at covariances n)
 
   pub adjusted_is : (slice : List Float) → let d = decomposition_of s given side in
-      adjusted_covariance r n T s given side slice ≡ answer_of r n T (n * n) (of_given s given side ++ of_answer) (Covariance asked d.sweeps d.rotations) (nth covariances) slice
+      adjusted_covariance r n T s given side slice ≡ answer_of r n T (n * n) (of_given s given side ++ of_answer) (Ok (Covariance asked d.sweeps d.rotations)) (nth covariances) slice
   unfolding adjusted_covariance adjusted_returns adjusted_with adjusted_order opening
   adjusted_is slice = settle_then (by_shape (length r) n T (n * n) (length slice)) (by_returns T n (at r n) ++ of_given s given side ++ of_answer) slice _

@@ -1,7 +1,6 @@
--- Laws of the calls' opening, 1 to 6: the checks of the returns by the stored covariance, and what a call answers, by the answers that the code has of its checks. A call looks only at as much of the answer
--- slice as its answer fills, and leaves it as long as it was. Assumes nothing.
+-- Laws of the calls' opening, 1 to 6: what a call answers, by the answers that the code has of its checks. A call looks only at as much of the answer slice as its
+-- answer fills, and leaves it as long as it was. Assumes nothing.
 use mathlib.Core.Path.{◌≡◌, refl, sym, ap, ◌∙◌}
-use mathlib.Core.Bool.{Bool, not}
 use mathlib.Core.List.{List, [], ◌∷◌, ◌++◌}
 use Prim.Native.Nat.{ℕ, ◌≤◌}
 use native.Mathlib.Omega.{arith}
@@ -10,33 +9,21 @@ use lib.Seq.{length-take-le}
 use lib.Ieee.{Float}
 use Rattle.leaves.specs.Loops.{tab, fill}
 use Rattle.leaves.proofs.Fill.{length_fill, fill_whole}
-use Rattle.matrix.specs.Matrix.{Matrix, at, rows, all_finite}
-use Rattle.matrix.proofs.Alike.{finite_alike}
-use Rattle.matrix.proofs.OfStored.{at_stored}
-use Rattle.rules.specs.Refusals.{Check, passes, refuses, when, first}
-use Rattle.rules.specs.Sample.{covariance}
-use Rattle.rules.specs.Order.{not_finite, opening, by_shape, by_returns}
+use Rattle.matrix.specs.Matrix.{at}
+use Rattle.rules.specs.Refusals.{Check, passes, refuses, first}
+use Rattle.rules.specs.Order.{opening, by_shape, by_returns}
 use Rattle.rules.specs.Shapes.{Shaped}
+use Rattle.std.specs.Prelude.{Result, Err}
 use Rattle.rules.specs.Calls.{Answered, answered, settle}
 use Rattle.rules.specs.declared.Refusal.{Refusal}
-use Rattle.rules.specs.declared.Refusal.TheVariants.{CovarianceNotFinite}
 use Rattle.rules.specs.declared.Answer.{Answer}
-use Rattle.rules.specs.declared.Answer.TheVariants.{Refused}
 use Rattle.rules.proofs.Shapes.{opened}
-use Rattle.rules.proofs.Firsts.{first_then, first_with}
-
--- ---- the checks of the returns
-
-pub returns_checked : (T n : ℕ) (x : Matrix) {l : List Float} {ok : Bool} {entries finite k : Check} → l ≡ rows n n (covariance T x) → ok ≡ all_finite n n (at l n) → entries ≡ not_finite T n x
-    → finite ≡ when (not ok) CovarianceNotFinite → k ≡ first (entries ∷ finite ∷ []) → k ≡ first (by_returns T n x)
-returns_checked T n x {l = l} e e' ee ef ek =
-    let same = e' ∙ finite_alike n n (at l n) (covariance T x) (at_stored n (covariance T x) e) in
-    ek ∙ (λ t. first (ee t ∷ (ef ∙ ap (λ (b : Bool). when (not b) CovarianceNotFinite) same) t ∷ []))
+use Rattle.rules.proofs.Firsts.{first_then}
 
 -- ---- by the first check that refuses
 
 module _ (slice : List Float) (accepted : Answered) {k : Check} where
-  pub settle_refused : {c : Refusal} → refuses c ≡ k → answered (Refused c) slice ≡ settle k slice accepted
+  pub settle_refused : {c : Refusal} → refuses c ≡ k → answered (Err c) slice ≡ settle k slice accepted
   unfolding settle
   settle_refused e = ap (λ (k : Check). settle k slice accepted) e
 
@@ -54,13 +41,13 @@ settle_then (refuses c ∷ xs) ys slice accepted = refl
 -- ---- the answer of m numbers
 
 -- it leaves the slice as long as it was
-pub settle_length : (k : Check) (a : Answer) (m : ℕ) (f : ℕ → Float) (slice : List Float) → (k ≡ passes → m ≤ length slice) → length (settle k slice (answered a (fill m f slice))).slice ≡ length slice
+pub settle_length : (k : Check) (a : Result Answer Refusal) (m : ℕ) (f : ℕ → Float) (slice : List Float) → (k ≡ passes → m ≤ length slice) → length (settle k slice (answered a (fill m f slice))).slice ≡ length slice
 unfolding settle
 settle_length passes a m f slice room = length_fill f m slice (room refl)
 settle_length (refuses c) a m f slice room = refl
 
 -- in a slice of just as many, and in a longer one
-settle_part : (k : Check) (a b : Answer) (m : ℕ) (f : ℕ → Float) (slice p : List Float) → m ≤ length slice
+settle_part : (k : Check) (a b : Result Answer Refusal) (m : ℕ) (f : ℕ → Float) (slice p : List Float) → m ≤ length slice
     → answered b p ≡ settle k (take m slice) (answered a (fill m f (take m slice))) → answered b (p ++ drop m slice) ≡ settle k slice (answered a (fill m f slice))
 unfolding settle fill
 settle_part passes a b m f slice p fits e =
@@ -68,18 +55,18 @@ settle_part passes a b m f slice p fits e =
     ap (λ (x : Answered). answered x.answer (x.slice ++ drop m slice)) e
     ∙ ap (λ (l : List Float). answered a (l ++ drop m slice)) (fill_whole f m (take m slice) (omega arith))
 settle_part (refuses c) a b m f slice p fits e =
-    ap (λ (x : Answered). answered x.answer (x.slice ++ drop m slice)) e ∙ ap (answered (Refused c)) (take-append-drop m slice)
+    ap (λ (x : Answered). answered x.answer (x.slice ++ drop m slice)) e ∙ ap (answered (Err c)) (take-append-drop m slice)
 
 -- what a call answers whose further checks are `rest`, and whose answer is `a` with the numbers f
-abbrev pub answer_of : List Float → ℕ → ℕ → ℕ → List Check → Answer → (ℕ → Float) → List Float → Answered
+abbrev pub answer_of : List Float → ℕ → ℕ → ℕ → List Check → Result Answer Refusal → (ℕ → Float) → List Float → Answered
 answer_of r n T m rest a f slice = settle (first (opening r n T m slice ++ rest)) slice (answered a (fill m f slice))
 
-module _ (r : List Float) (n T m : ℕ) (slice : List Float) (rest : List Check) (a : Answer) (f : ℕ → Float) where
-  pub shape_refuses : {c : Refusal} → refuses c ≡ first (by_shape (length r) n T m (length slice)) → answered (Refused c) slice ≡ answer_of r n T m rest a f slice
+module _ (r : List Float) (n T m : ℕ) (slice : List Float) (rest : List Check) (a : Result Answer Refusal) (f : ℕ → Float) where
+  pub shape_refuses : {c : Refusal} → refuses c ≡ first (by_shape (length r) n T m (length slice)) → answered (Err c) slice ≡ answer_of r n T m rest a f slice
   unfolding first opening
   shape_refuses e = settle_refused _ _ (first_then (by_shape (length r) n T m (length slice)) (by_returns T n (at r n) ++ rest) e)
 
-  pub shape_fits_lem : {b : Answer} {p : List Float} → Shaped (length r) n T → m ≤ length slice → answered b p ≡ answer_of r n T m rest a f (take m slice) → answered b (p ++ drop m slice) ≡ answer_of r n T m rest a f slice
+  pub shape_fits_lem : {b : Result Answer Refusal} {p : List Float} → Shaped (length r) n T → m ≤ length slice → answered b p ≡ answer_of r n T m rest a f (take m slice) → answered b (p ++ drop m slice) ≡ answer_of r n T m rest a f slice
   shape_fits_lem {b} {p} shape fits e =
       let long = length-take-le m slice fits in
       let k = first (by_returns T n (at r n) ++ rest) in
@@ -92,18 +79,3 @@ module _ (r : List Float) (n T m : ℕ) (slice : List Float) (rest : List Check)
   shaped {k} shape long e =
       ap (λ (k : Check). settle k slice (answered a (tab m f))) (e ∙ sym (opened r n T m slice rest shape (omega arith)))
       ∙ ap (λ (l : List Float). settle (first (opening r n T m slice ++ rest)) slice (answered a l)) (sym (fill_whole f m slice (omega arith)))
-
--- ---- after the shape: the checks of the returns and of one setting, as the code joins them, then `rest`
-
-module _ (r : List Float) (n T m : ℕ) (slice : List Float) (shape : Shaped (length r) n T) (long : length slice ≡ m) {k opens own setting : Check}
-    (is-opens : opens ≡ first (by_returns T n (at r n))) (is-own : own ≡ setting) (is-k : k ≡ first (opens ∷ own ∷ [])) (rest : List Check) (a : Answer) (f : ℕ → Float) where
-  settled : settle (first (k ∷ rest)) slice (answered a (tab m f)) ≡ answer_of r n T m (setting ∷ rest) a f slice
-  settled = shaped r n T m slice (setting ∷ rest) a f shape long (first_with (by_returns T n (at r n)) rest is-opens is-own is-k)
-
-  pub setting_refused : {c : Refusal} → k ≡ refuses c → answered (Refused c) slice ≡ answer_of r n T m (setting ∷ rest) a f slice
-  unfolding first
-  setting_refused h = settle_refused _ _ (ap (λ (k : Check). first (k ∷ rest)) (sym h)) ∙ settled
-
-  pub setting_accepted : k ≡ passes → settle (first rest) slice (answered a (tab m f)) ≡ answer_of r n T m (setting ∷ rest) a f slice
-  unfolding first
-  setting_accepted h = ap (λ (k : Check). settle (first (k ∷ rest)) slice (answered a (tab m f))) (sym h) ∙ settled

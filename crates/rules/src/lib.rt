@@ -1,7 +1,7 @@
 // The records of documents 01 and 02 that cross a call, and the limits of periods.
 #![tactic(auto)]
 
-pub mod refusals;
+mod refusals;
 pub mod targets;
 
 // The fewest and the most periods of a return matrix: the definitions' `min_periods` and `max_periods`.
@@ -57,15 +57,15 @@ pub struct Settings {
     pub limit: usize,
 }
 
-// The setting that refusal 7 names.
+// The setting that refusal 7 names, by its number.
 #[derive(Clone, Copy)]
 pub enum Field {
-    RegularizationField,
-    ShrinkageField,
-    HalfLifeField,
-    ThresholdField,
-    SweepLimitField,
-    DecayFactorField,
+    RegularizationField = 1,
+    ShrinkageField = 2,
+    HalfLifeField = 3,
+    ThresholdField = 4,
+    SweepLimitField = 5,
+    DecayFactorField = 6,
 }
 
 // Each with what is returned with it: a count of periods, a row and a column, a setting, a column, a side, an eigenvalue.
@@ -98,9 +98,9 @@ pub enum Detail {
     Value(f64),
 }
 
+// What a call that refuses nothing returns, beside the numbers in its slice.
 #[derive(Clone, Copy)]
 pub enum Answer {
-    Refused(Refusal),
     // intensity, sweeps, rotations
     Covariance(f64, usize, usize),
     Intensity(f64),

@@ -1,19 +1,26 @@
 -- Laws of the tables of sums of `specs/Rows.antt`: a row added to one row of a table, to the table, period after period. Assumes nothing.
-use Rattle.std.proofs.Common.{◌≡◌, ℕ, ◌+◌, ◌-◌, ◌*◌, ◌<◌, ◌≤◌, cond, eqb, leb, List, length, take, drop, sym, refl, ap, ◌∙◌, subst, arith, length-drop, length-take, eq-eqb, ne_eqb, le-leb}
+use Rattle.std.proofs.Common.{◌≡◌, ℕ, zero, suc, ◌+◌, ◌-◌, ◌*◌, ◌<◌, ◌≤◌, cond, eqb, leb, List, length, take, drop, sym, refl, ap, ◌∙◌, subst, arith, length-drop, length-take, eq-eqb, ne_eqb, le-leb}
 use lib.Ieee.{Float}
 use borrow.Author.Tests.{lt-leb}
 use Rattle.leaves.specs.Numbers.{◌⊕◌, ◌⊖◌, ◌⊗◌, zero⁺}
 use Rattle.leaves.specs.Loops.{loop, sum_to, tab, nth}
-use Rattle.leaves.proofs.Loops.{loop_more, loop_ext}
+use Rattle.leaves.proofs.Loops.{loop_ext, loop_still}
 use Rattle.leaves.proofs.Cells.{row}
 use Rattle.leaves.proofs.Lists.{nth_stored, tab_long}
 use Rattle.matrix.specs.Matrix.{Matrix, at, rows}
 use Rattle.matrix.proofs.Stored.{rows_ext}
 use Rattle.matrix.proofs.ByRows.{part_nth, replaced, row_replaced}
 use Rattle.matrix.proofs.OfStored.{rows_then}
-use Rattle.tables.specs.Rows.{factor, joined, summand, first_column, plus, summed, Sized}
+use Rattle.tables.specs.Rows.{factor, joined, summand, first_column, plus, plus_all, summed, Sized}
 use Rattle.tables.specs.declared.tables.Term.{Term}
 use Rattle.tables.specs.declared.tables.Term.TheVariants.{Product, Variation, Covariation}
+
+-- ---- loops
+
+loop_both : {S : Type 0} (f : ℕ → S → S) (a b : ℕ) (s : S) → loop (a + b) f s ≡ loop b (λ k. f (a + k)) (loop a f s)
+unfolding loop
+loop_both f a zero s = let e : a + 0 ≡ a = omega arith in ap (λ (j : ℕ). loop j f s) e
+loop_both f a (suc b) s = let e : a + suc b ≡ suc (a + b) = omega arith in ap (λ (j : ℕ). loop j f s) e ∙ ap (f (a + b)) (loop_both f a b s)
 
 -- ---- what of s is read
 
@@ -51,9 +58,9 @@ module _ (term : Term) (n i a m from : ℕ) (l : List Float) (len : length l ≡
   part_count : length (take m (drop a l)) ≡ n - from
   part_count = simp (length-take, length-drop) (omega (arith, row i n n hi))
 
-  -- of a row y, and of s
-  pub part_of : (y : List Float) → length y ≡ n → length (take (length y - from) (drop from y)) ≡ length (take m (drop a l))
-  part_of y h = simp (length-take, length-drop) (omega (arith, row i n n hi))
+  -- a row of most numbers, and s, reach as far
+  pub part_room : (most : ℕ) → n ≤ most → from + length (take m (drop a l)) ≤ most
+  part_room most h = omega (arith, part_count, low)
 
   pub part_sized : (s : List Float) → Sized term (n * n) s → Sized term (a + length (take m (drop a l))) s
   part_sized s z = sized_less term s (n * n) (a + length (take m (drop a l))) z (omega (arith, part_count, row i n n hi, low))
@@ -78,58 +85,47 @@ module _ (term : Term) (n i a m from : ℕ) (l : List Float) (len : length l ≡
           ∙ ap (g i (from + (q - from))) (part_nth a m l (q - from) (omega arith))
           ∙ (λ k. g i (q' k) (nth l (p k)))
 
-  module _ (s d : List Float) (x : Float) where
+  module _ (s : List Float) (y : ℕ → Float) (x : Float) where
     -- what the code adds to number k of the part
     added : ℕ → Float → Float
-    added k v = v ⊕ joined term x (nth (take (length d - from) (drop from d)) k) (nth s (a + k))
+    added k v = v ⊕ joined term x (y (from + k)) (nth s (a + k))
 
-    left : (q : ℕ) (v : Float) → q < from → plus term (at s n) (nth d) i q v ≡ v
-    left q v h = plus_left term (at s n) (nth d) i v q (subst (λ (b : ℕ). q < b) ef h)
+    left : (q : ℕ) (v : Float) → q < from → plus term (at s n) y i q v ≡ v
+    left q v h = plus_left term (at s n) y i v q (subst (λ (b : ℕ). q < b) ef h)
 
-    module _ (ld : length d ≡ n) (ex : x ≡ factor term (at s n) (nth d) i) where
-      added_plus : (k : ℕ) (v : Float) → from + k < n → added k v ≡ plus term (at s n) (nth d) i (from + k) v
-      unfolding added
-      added_plus k v h =
-          let e : a + k ≡ i * n + (from + k) = omega arith in
-          (λ t. v ⊕ joined term (ex t) (part_nth from (length d - from) d k (omega arith) t) (nth s (e t)))
-          ∙ sym (plus_kept term (at s n) (nth d) i v (from + k) (subst (λ (b : ℕ). b ≤ from + k) ef (omega arith)))
+    added_plus : x ≡ factor term (at s n) y i → (k : ℕ) (v : Float) → from + k < n → added k v ≡ plus term (at s n) y i (from + k) v
+    unfolding added
+    added_plus ex k v h =
+        let e : a + k ≡ i * n + (from + k) = omega arith in
+        (λ t. v ⊕ joined term (ex t) (y (from + k)) (nth s (e t)))
+        ∙ sym (plus_kept term (at s n) y i v (from + k) (subst (λ (b : ℕ). b ≤ from + k) ef (omega arith)))
 
-      pub row_added : (ys : List Float) → ys ≡ tab (length (take m (drop a l))) (λ k. nth (take m (drop a l)) k ⊕ joined term x (nth (take (length d - from) (drop from d)) k) (nth s (a + k)))
-          → replaced a m l ys ≡ rows n n (λ p q. cond (eqb p i) (plus term (at s n) (nth d) p q (at l n p q)) (at l n p q))
-      unfolding added
-      row_added ys e = replaced_by ys (plus term (at s n) (nth d)) added e left added_plus
-
-  -- two rows
-  pub row_added_two : (s d d' : List Float) (x x' : Float) → length d ≡ n → length d' ≡ n → x ≡ factor term (at s n) (nth d) i → x' ≡ factor term (at s n) (nth d') i
-      → (ys : List Float)
-      → ys ≡ tab (length (take m (drop a l))) (λ k. nth (take m (drop a l)) k ⊕ joined term x (nth (take (length d - from) (drop from d)) k) (nth s (a + k)) ⊕ joined term x' (nth (take (length d' - from) (drop from d')) k) (nth s (a + k)))
-      → replaced a m l ys ≡ rows n n (λ p q. cond (eqb p i) (plus term (at s n) (nth d') p q (plus term (at s n) (nth d) p q (at l n p q))) (at l n p q))
+  -- K rows
+  pub rows_added : (K : ℕ) (s : List Float) (y : Matrix) (x : List Float) → x ≡ tab K (λ j. factor term (at s n) (y j) i)
+      → (ys : List Float) → ys ≡ tab (length (take m (drop a l))) (λ k. loop K (λ j v. v ⊕ joined term (nth x j) (y j (from + k)) (nth s (a + k))) (nth (take m (drop a l)) k))
+      → replaced a m l ys ≡ rows n n (λ p q. cond (eqb p i) (plus_all K term (at s n) y p q (at l n p q)) (at l n p q))
   unfolding added
-  row_added_two s d d' x x' ld ld' ex ex' ys e =
-      replaced_by ys (λ p q v. plus term (at s n) (nth d') p q (plus term (at s n) (nth d) p q v)) (λ k v. added s d' x' k (added s d x k v)) e
-      (λ q v h. ap (plus term (at s n) (nth d') i q) (left s d x q v h) ∙ left s d' x' q v h)
-      (λ k v h. added_plus s d' x' ld' ex' k (added s d x k v) h ∙ ap (plus term (at s n) (nth d') i (from + k)) (added_plus s d x ld ex k v h))
+  rows_added K s y x ex ys e =
+      replaced_by ys (λ p q. plus_all K term (at s n) y p q) (λ k. loop K (λ j. added s (y j) (nth x j) k)) e
+      (λ q v h. loop_still _ K v (λ j hj w. left s (y j) (nth x j) q w h))
+      (λ k v h. loop_ext K _ _ v (λ j hj w. added_plus s (y j) (nth x j) (nth_stored K _ ex j hj) k w h))
 
--- ---- a row that is stored
+-- ---- rows that are stored
 
-module _ (term : Term) (s : Matrix) (n : ℕ) (d : List Float) (y : ℕ → Float) (e : d ≡ tab n y) where
-  factor_stored : (t : Term) (i : ℕ) → i < n → factor t s (nth d) i ≡ factor t s y i
+module _ (term : Term) (s : Matrix) (n : ℕ) (d y : ℕ → Float) (e : (k : ℕ) → k < n → d k ≡ y k) where
+  factor_alike : (t : Term) (i : ℕ) → i < n → factor t s d i ≡ factor t s y i
   unfolding factor
-  factor_stored Product i h = nth_stored n y e i h
-  factor_stored Variation i h = nth_stored n y e i h
-  factor_stored Covariation i h = ap (λ (x : Float). (x ⊗ x ⊖ s i i) ⊗ x) (nth_stored n y e i h)
+  factor_alike Product i h = e i h
+  factor_alike Variation i h = e i h
+  factor_alike Covariation i h = ap (λ (x : Float). (x ⊗ x ⊖ s i i) ⊗ x) (e i h)
 
-  plus_stored : (i j : ℕ) (v : Float) → i < n → j < n → plus term s (nth d) i j v ≡ plus term s y i j v
+  plus_alike : (i j : ℕ) (v : Float) → i < n → j < n → plus term s d i j v ≡ plus term s y i j v
   unfolding plus
-  plus_stored i j v hi hj t = cond (leb (first_column term i) j) (v ⊕ joined term (factor_stored term i hi t) (nth_stored n y e j hj t) (s i j)) v
+  plus_alike i j v hi hj t = cond (leb (first_column term i) j) (v ⊕ joined term (factor_alike term i hi t) (e j hj t) (s i j)) v
 
-  pub period_added : (l : List Float) → rows n n (λ p q. plus term s (nth d) p q (at l n p q)) ≡ rows n n (λ p q. plus term s y p q (at l n p q))
-  period_added l = rows_ext n n _ _ (λ p q hp hq. plus_stored p q (at l n p q) hp hq)
-
-pub periods_added : (term : Term) (s : Matrix) (n : ℕ) (d d' : List Float) (y y' : ℕ → Float) → d ≡ tab n y → d' ≡ tab n y' → (l : List Float)
-    → rows n n (λ p q. plus term s (nth d') p q (plus term s (nth d) p q (at l n p q))) ≡ rows n n (λ p q. plus term s y' p q (plus term s y p q (at l n p q)))
-periods_added term s n d d' y y' e e' l =
-    rows_ext n n _ _ (λ p q hp hq. plus_stored term s n d' y' e' p q (plus term s (nth d) p q (at l n p q)) hp hq ∙ ap (plus term s y' p q) (plus_stored term s n d y e p q (at l n p q) hp hq))
+pub periods_added : (K : ℕ) (term : Term) (s : Matrix) (n : ℕ) (d y : Matrix) → ((j : ℕ) → j < K → (k : ℕ) → k < n → d j k ≡ y j k) → (l : List Float) {next : List Float}
+    → next ≡ rows n n (λ p q. plus_all K term s d p q (at l n p q)) → next ≡ rows n n (λ p q. plus_all K term s y p q (at l n p q))
+periods_added K term s n d y e l e' = e' ∙ rows_ext n n _ _ (λ p q hp hq. loop_ext K _ _ _ (λ j hj v. plus_alike term s n (d j) (y j) (e j hj) p q v hp hq))
 
 -- ---- period after period: F t changes each entry in period t
 
@@ -138,17 +134,11 @@ module _ (n : ℕ) (F : ℕ → ℕ → ℕ → Float → Float) where
   unfolding rows loop
   summed_none m out em e = e ∙ ap (λ (m : ℕ). tab m (λ k. zero⁺)) em
 
-  pub summed_more : (t : ℕ) (out next : List Float) → out ≡ summed n F t → next ≡ rows n n (λ p q. F t p q (at out n p q)) → next ≡ summed n F (t + 1)
-  summed_more t out next e e' =
-      e' ∙ rows_then out n (λ p q. loop t (λ t. F t p q) zero⁺) (F t) e
-      ∙ rows_ext n n _ (λ p q. loop (t + 1) (λ t. F t p q) zero⁺) (λ p q hp hq. sym (loop_more (λ t. F t p q) t zero⁺))
-
-  -- two periods, with the table between them
-  pub summed_two : (t : ℕ) (out next : List Float) → out ≡ summed n F t → next ≡ rows n n (λ p q. F (t + 1) p q (F t p q (at out n p q))) → next ≡ summed n F (t + 2)
-  summed_two t out next e e' =
-      let middle = rows n n (λ p q. F t p q (at out n p q)) in
-      let k : t + 1 + 1 ≡ t + 2 = omega arith in
-      summed_more (t + 1) middle next (summed_more t out middle e refl) (e' ∙ sym (rows_then middle n (λ p q. F t p q (at out n p q)) (F (t + 1)) refl)) ∙ ap (summed n F) k
+  -- K periods
+  pub summed_more : (K t : ℕ) (out next : List Float) → out ≡ summed n F t → next ≡ rows n n (λ p q. loop K (λ j. F (t + j) p q) (at out n p q)) → next ≡ summed n F (t + K)
+  summed_more K t out next e e' =
+      e' ∙ rows_then out n (λ p q. loop t (λ t. F t p q) zero⁺) (λ p q. loop K (λ j. F (t + j) p q)) e
+      ∙ rows_ext n n _ (λ p q. loop (t + K) (λ t. F t p q) zero⁺) (λ p q hp hq. sym (loop_both (λ t. F t p q) t K zero⁺))
 
 -- a column that is summed up has its whole sum
 pub whole_sum : (term : Term) (s : Matrix) (z : Matrix) (T i j : ℕ) → first_column term i ≤ j → loop T (λ t. plus term s (z t) i j) zero⁺ ≡ sum_to T (λ t. summand term s (z t) i j)

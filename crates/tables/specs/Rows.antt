@@ -1,12 +1,14 @@
 -- What only the contracts of inner functions cite: how a period's row of numbers is formed from its returns, and what it adds to a
 -- table of sums. Definitions only.
-use Rattle.std.specs.Prelude.{ℕ, ◌+◌, ◌-◌, ◌%◌, ◌≤◌, cond, List, [], length, ◌==◌, nat_le, nat_lt, Float}
+use Rattle.std.specs.Prelude.{ℕ, ◌+◌, ◌-◌, ◌%◌, ◌≤◌, cond, List, [], length, slice_index_or, ◌==◌, nat_le, nat_lt, Float}
 use Rattle.leaves.specs.Numbers.{◌⊕◌, ◌⊖◌, ◌⊗◌, zero⁺, min0}
 use Rattle.leaves.specs.Loops.{loop, nth}
 use Rattle.matrix.specs.Matrix.{Matrix, at, rows}
 use Rattle.rules.specs.LedoitWolf.{distance²}
 use Rattle.tables.specs.declared.rows.Row.{Row}
 use Rattle.tables.specs.declared.rows.Row.TheVariants.{Plain, Weighted, Deviation, Shortfall, WeightedDeviation, Scaled}
+use Rattle.tables.specs.declared.returns.Returns.{Returns}
+use Rattle.tables.specs.declared.returns.Rows.{Rows}
 use Rattle.tables.specs.declared.tables.Term.{Term}
 use Rattle.tables.specs.declared.tables.Term.TheVariants.{Product, Variation, Covariation}
 
@@ -27,9 +29,21 @@ formed Shortfall x c w = min0 (x ⊖ c)
 formed WeightedDeviation x c w = (x ⊖ c) ⊗ w
 formed (Scaled near far) x c w = (x ⊖ c) ⊗ near ⊗ far
 
+-- each asset's return in each period
+abbrev pub return_at : Returns → Matrix
+return_at r = at r.numbers.now r.assets
+
+-- number j of row i, of rows in arrays
+abbrev pub stored : List (List Float) → Matrix
+stored d i j = nth (slice_index_or d i []) j
+
 -- the rows of all periods
 unfoldable pub rows_of : Row → ℕ → List Float → List Float → List Float → Matrix → Matrix
 rows_of row n units centers weights x t i = formed row (in_units n units x t i) (nth centers i) (nth weights t)
+
+-- those of stored returns
+abbrev pub matrix_of : Rows → Matrix
+matrix_of z = rows_of z.row z.returns.assets z.units.now z.centers.now z.weights.now (return_at z.returns)
 
 -- those of the stored returns r less the centers
 abbrev pub centered : Row → ℕ → List Float → List Float → Matrix
@@ -64,6 +78,10 @@ first_column Covariation i = 0
 -- entry i j with the row y's summand added
 unfoldable pub plus : Term → Matrix → (ℕ → Float) → ℕ → ℕ → Float → Float
 plus term s y i j v = cond (nat_le (first_column term i) j) (v ⊕ summand term s y i j) v
+
+-- entry i j with the summands of K rows added, the first row's first
+abbrev pub plus_all : ℕ → Term → Matrix → Matrix → ℕ → ℕ → Float → Float
+plus_all K term s y i j = loop K (λ t. plus term s (y t) i j)
 
 -- the table after T periods, of which F t changes each entry in period t
 abbrev pub summed : ℕ → (ℕ → ℕ → ℕ → Float → Float) → ℕ → List Float

@@ -1,86 +1,40 @@
 // Sums and largest sizes of the columns of a matrix's rows, with the period outermost.
-ghost use Rattle.std.specs.Prelude.{◌≡◌, ℕ, ◌*◌, ◌<◌, ◌≤◌, length};
-ghost use Rattle.leaves.specs.Numbers.{◌⊕◌, abs, larger};
-ghost use Rattle.leaves.specs.Loops.{sum_to, amax_to, tab, nth};
-ghost use Rattle.matrix.specs.Limits.{max_side};
-ghost use Rattle.matrix.specs.Matrix.{at};
-ghost use Rattle.tables.specs.Rows.{rows_of, centered};
+ghost use Rattle.std.specs.Prelude.{◌≡◌, ℕ, length, Float};
+ghost use Rattle.leaves.specs.Numbers.{zero⁺};
+ghost use Rattle.leaves.specs.Loops.{loop, sum_to, amax_to, tab};
+ghost use Rattle.tables.specs.Rows.{matrix_of};
 
-use crate::rows::{Row, form};
+use crate::returns::Rows;
 use crate::vectors;
+use leaves::numbers::{abs, larger};
 
-// The sums, with the row of period t added.
-fn add_period(
-    row: Row,
-    r: &[f64],
-    n: usize,
-    periods: usize,
-    t: usize,
-    units: &[f64],
-    centers: &[f64],
-    weights: &[f64],
-    out: &mut [f64],
-)
-    requires { (length r.now ≡ periods * n) × (n ≤ max_side) × (t < periods) × (length centers.now ≡ n) × (length out.old ≡ n) }
-    ensures { out.new ≡ tab n (λ (i : ℕ). nth out.old i ⊕ rows_of row n units.now centers.now weights.now (at r.now n) t i) }
+// Each column folded by f from +0 on, the first period first.
+fn fold<F: Fn(f64, f64) -> f64>(z: &Rows, f: F, out: &mut [f64])
+    requires { F.IsAlwaysCallable f × (length out.old ≡ z.now.returns.assets) }
+    ensures { (g : Float → Float → Float) → ((v x y : Float) → F.post f v x y → y ≡ g v x) → out.new ≡ tab z.now.returns.assets (λ (i : ℕ). loop z.now.returns.periods (λ (t : ℕ) (v : Float). g v (matrix_of z.now t i)) zero⁺) }
 {
-    let mut buffer = [0.0; matrix::MAX_SIDE];
-    let d = &mut buffer[..n];
-    form(row, r, n, periods, t, units, centers, weights, d);
-    vectors::add(d, out);
-}
-
-// The largest sizes, with the row of period t looked at.
-fn raise_period(
-    row: Row,
-    r: &[f64],
-    n: usize,
-    periods: usize,
-    t: usize,
-    centers: &[f64],
-    out: &mut [f64],
-)
-    requires { (length r.now ≡ periods * n) × (n ≤ max_side) × (t < periods) × (length centers.now ≡ n) × (length out.old ≡ n) }
-    ensures { out.new ≡ tab n (λ (i : ℕ). larger (nth out.old i) (abs (centered row n centers.now r.now t i))) }
-{
-    let none = [0.0; 0];
-    let mut buffer = [0.0; matrix::MAX_SIDE];
-    let d = &mut buffer[..n];
-    form(row, r, n, periods, t, &none, centers, &none, d);
-    vectors::raise(d, out);
+    let mut d = [0.0; matrix::MAX_SIDE];
+    vectors::fill(0.0, out);
+    for t in 0..z.returns.periods {
+        z.form(t, &mut d);
+        for k in 0..out.len() {
+            out[k] = f(out[k], d[k]);
+        }
+    }
 }
 
 // Each column's sum.
-pub fn sum(
-    row: Row,
-    r: &[f64],
-    n: usize,
-    periods: usize,
-    units: &[f64],
-    centers: &[f64],
-    weights: &[f64],
-    out: &mut [f64],
-)
-    requires { (length r.now ≡ periods * n) × (n ≤ max_side) × (length centers.now ≡ n) × (length out.old ≡ n) }
-    ensures { out.new ≡ tab n (λ (i : ℕ). sum_to periods (λ (t : ℕ). rows_of row n units.now centers.now weights.now (at r.now n) t i)) }
+pub fn sum(z: &Rows, out: &mut [f64])
+    requires { length out.old ≡ z.now.returns.assets }
+    ensures { out.new ≡ tab z.now.returns.assets (λ (i : ℕ). sum_to z.now.returns.periods (λ (t : ℕ). matrix_of z.now t i)) }
 {
-    vectors::fill(0.0, out);
-    let mut t = 0;
-    while t < periods {
-        add_period(row, r, n, periods, t, units, centers, weights, out);
-        t += 1;
-    }
+    fold(z, |s, x| s + x, out);
 }
 
 // Each column's largest number in size.
-pub fn amax(row: Row, r: &[f64], n: usize, periods: usize, centers: &[f64], out: &mut [f64])
-    requires { (length r.now ≡ periods * n) × (n ≤ max_side) × (length centers.now ≡ n) × (length out.old ≡ n) }
-    ensures { out.new ≡ tab n (λ (i : ℕ). amax_to periods (λ (t : ℕ). centered row n centers.now r.now t i)) }
+pub fn amax(z: &Rows, out: &mut [f64])
+    requires { length out.old ≡ z.now.returns.assets }
+    ensures { out.new ≡ tab z.now.returns.assets (λ (i : ℕ). amax_to z.now.returns.periods (λ (t : ℕ). matrix_of z.now t i)) }
 {
-    vectors::fill(0.0, out);
-    let mut t = 0;
-    while t < periods {
-        raise_period(row, r, n, periods, t, centers, out);
-        t += 1;
-    }
+    fold(z, |m, x| larger(m, abs(x)), out);
 }

@@ -1,101 +1,40 @@
 // The products of the columns of a matrix's rows, and the variations of Ledoit and Wolf (covariance.rs, `ledoit_wolf`).
-ghost use Rattle.std.specs.Prelude.{◌≡◌, ◌*◌, ◌≤◌, length};
-ghost use Rattle.matrix.specs.Limits.{max_side};
+ghost use Rattle.std.specs.Prelude.{◌≡◌, ◌*◌, length};
 ghost use Rattle.matrix.specs.Matrix.{at, rows};
 ghost use Rattle.matrix.specs.Inner.{Symmetric};
 ghost use Rattle.rules.specs.Sample as Sample;
 ghost use Rattle.rules.specs.LedoitWolf as LedoitWolf;
-ghost use Rattle.tables.specs.Rows.{rows_of, centered};
+ghost use Rattle.tables.specs.Rows.{matrix_of};
 
-use crate::rows::Row;
+use crate::returns::Rows;
 use crate::tables::Term;
 use crate::{tables, vectors};
 
 // The products of the columns, summed up.
-pub fn gram(
-    row: Row,
-    r: &[f64],
-    n: usize,
-    periods: usize,
-    units: &[f64],
-    centers: &[f64],
-    weights: &[f64],
-    out: &mut [f64],
-)
-    requires { (length r.now ≡ periods * n) × (n ≤ max_side) × (length centers.now ≡ n) × (length out.old ≡ n * n) }
-    ensures { out.new ≡ rows n n (Sample.gram periods (rows_of row n units.now centers.now weights.now (at r.now n))) }
+pub fn gram(z: &Rows, out: &mut [f64])
+    requires { length out.old ≡ z.now.returns.assets * z.now.returns.assets }
+    ensures { out.new ≡ rows z.now.returns.assets z.now.returns.assets (Sample.gram z.now.returns.periods (matrix_of z.now)) }
 {
     let none = [0.0; 0];
-    tables::sum(
-        Term::Product,
-        row,
-        r,
-        n,
-        periods,
-        units,
-        centers,
-        weights,
-        &none,
-        out,
-    );
-    tables::mirror(n, out);
+    tables::sum(Term::Product, z, &none, out);
+    tables::mirror(z.returns.assets, out);
 }
 
 // π, from the second moments s.
-pub fn variation(
-    row: Row,
-    r: &[f64],
-    n: usize,
-    periods: usize,
-    centers: &[f64],
-    s: &[f64],
-    out: &mut [f64],
-)
-    requires { (length r.now ≡ periods * n) × (n ≤ max_side) × (length centers.now ≡ n) × (length s.now ≡ n * n) × Symmetric n s.now × (length out.old ≡ n * n) }
-    ensures { out.new ≡ rows n n (LedoitWolf.variation periods (centered row n centers.now r.now) (at s.now n)) }
+pub fn variation(z: &Rows, s: &[f64], out: &mut [f64])
+    requires { (length s.now ≡ z.now.returns.assets * z.now.returns.assets) × Symmetric z.now.returns.assets s.now × (length out.old ≡ z.now.returns.assets * z.now.returns.assets) }
+    ensures { out.new ≡ rows z.now.returns.assets z.now.returns.assets (LedoitWolf.variation z.now.returns.periods (matrix_of z.now) (at s.now z.now.returns.assets)) }
 {
-    let none = [0.0; 0];
-    tables::sum(
-        Term::Variation,
-        row,
-        r,
-        n,
-        periods,
-        &none,
-        centers,
-        &none,
-        s,
-        out,
-    );
-    tables::mirror(n, out);
-    vectors::divide(std::num::nearest_u64_to_f64(periods as u64), out);
+    tables::sum(Term::Variation, z, s, out);
+    tables::mirror(z.returns.assets, out);
+    vectors::divide(std::num::nearest_u64_to_f64(z.returns.periods as u64), out);
 }
 
 // θ, from the second moments s.
-pub fn covariation(
-    row: Row,
-    r: &[f64],
-    n: usize,
-    periods: usize,
-    centers: &[f64],
-    s: &[f64],
-    out: &mut [f64],
-)
-    requires { (length r.now ≡ periods * n) × (n ≤ max_side) × (length centers.now ≡ n) × (length s.now ≡ n * n) × (length out.old ≡ n * n) }
-    ensures { out.new ≡ rows n n (LedoitWolf.covariation periods (centered row n centers.now r.now) (at s.now n)) }
+pub fn covariation(z: &Rows, s: &[f64], out: &mut [f64])
+    requires { (length s.now ≡ z.now.returns.assets * z.now.returns.assets) × (length out.old ≡ z.now.returns.assets * z.now.returns.assets) }
+    ensures { out.new ≡ rows z.now.returns.assets z.now.returns.assets (LedoitWolf.covariation z.now.returns.periods (matrix_of z.now) (at s.now z.now.returns.assets)) }
 {
-    let none = [0.0; 0];
-    tables::sum(
-        Term::Covariation,
-        row,
-        r,
-        n,
-        periods,
-        &none,
-        centers,
-        &none,
-        s,
-        out,
-    );
-    vectors::divide(std::num::nearest_u64_to_f64(periods as u64), out);
+    tables::sum(Term::Covariation, z, s, out);
+    vectors::divide(std::num::nearest_u64_to_f64(z.returns.periods as u64), out);
 }

@@ -4,6 +4,7 @@
 pub mod columns;
 pub mod gram;
 pub mod powers;
+pub mod returns;
 pub mod rows;
 pub mod scales;
 mod tables;

@@ -28,11 +28,9 @@ pub fn put_units(exponents: &[i32], n: usize, out: &mut [f64])
     requires { (length exponents.now ≡ n) × Exponents exponents.now × (length out.old ≡ n + n) }
     ensures { (length out.new ≡ n + n) × Units n exponents.now out.new }
 {
-    let mut i = 0;
-    while i < n {
+    for i in 0..n {
         let f = factors(-exponents[i]);
         out[i] = f.near;
         out[n + i] = f.far;
-        i += 1;
     }
 }

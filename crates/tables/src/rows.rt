@@ -1,13 +1,12 @@
 // A period's row of numbers, formed from its returns. The sums of the estimators differ in their rows and in what a row adds.
-ghost use Rattle.std.specs.Prelude.{◌≡◌, ℕ, ◌+◌, ◌*◌, ◌<◌, ◌≤◌, length};
+ghost use Rattle.std.specs.Prelude.{◌≡◌, ℕ, ◌+◌, ◌≤◌, length};
 ghost use Rattle.leaves.specs.Numbers.{◌⊗◌};
 ghost use Rattle.leaves.specs.Loops.{tab, nth};
 ghost use Rattle.matrix.specs.Limits.{max_side};
-ghost use Rattle.matrix.specs.Matrix.{at};
-ghost use Rattle.tables.specs.Rows.{in_unit, formed, rows_of};
+ghost use Rattle.tables.specs.Rows.{in_unit, formed};
 
 // The return itself, or its period's weight times it; or the return less its column's center: as it is, its part below 0, times its period's
-// weight, or times a power of two as two factors.
+// weight, or times a power of two as two factors. An enum and not a closure: it is data of the definitions, which are by its cases.
 #[derive(Clone, Copy)]
 pub enum Row {
     Plain,
@@ -35,10 +34,8 @@ fn entries(row: Row, xs: &[f64], centers: &[f64], w: f64, out: &mut [f64])
     requires { (length xs.now ≡ length out.old) × (length centers.now ≡ length out.old) }
     ensures { out.new ≡ tab (length out.old) (λ (k : ℕ). formed row (nth xs.now k) (nth centers.now k) w) }
 {
-    let mut k = 0;
-    while k < out.len() {
+    for k in 0..out.len() {
         out[k] = entry(row, xs[k], centers[k], w);
-        k += 1;
     }
 }
 
@@ -48,15 +45,14 @@ fn to_units(xs: &[f64], units: &[f64], out: &mut [f64])
     ensures { out.new ≡ tab (length out.old) (λ (k : ℕ). nth xs.now k ⊗ nth units.now k ⊗ nth units.now (length out.old + k)) }
 {
     let n = out.len();
-    let mut k = 0;
-    while k < n {
+    for k in 0..n {
         out[k] = xs[k] * units[k] * units[n + k];
-        k += 1;
     }
 }
 
 // A row's numbers, each in its column's unit first where there are units.
-fn numbers(row: Row, xs: &[f64], units: &[f64], centers: &[f64], w: f64, out: &mut [f64])
+#[tactic(auto, using(matrix::proofs::Lent::lent))]
+pub(crate) fn numbers(row: Row, xs: &[f64], units: &[f64], centers: &[f64], w: f64, out: &mut [f64])
     requires { (length out.old ≤ max_side) × (length xs.now ≡ length out.old) × (length centers.now ≡ length out.old) }
     ensures { out.new ≡ tab (length out.old) (λ (k : ℕ). formed row (in_unit (length out.old) units.now k (nth xs.now k)) (nth centers.now k) w) }
 {
@@ -69,35 +65,4 @@ fn numbers(row: Row, xs: &[f64], units: &[f64], centers: &[f64], w: f64, out: &m
     } else {
         entries(row, xs, centers, w, out);
     }
-}
-
-// Period t's weight; NaN where there is none.
-fn weight(weights: &[f64], t: usize) -> f64
-    ensures { result ≡ nth weights.now t }
-{
-    if t < weights.len() {
-        weights[t]
-    } else {
-        0.0 / 0.0
-    }
-}
-
-// The row of period t.
-pub(crate) fn form(
-    row: Row,
-    r: &[f64],
-    n: usize,
-    periods: usize,
-    t: usize,
-    units: &[f64],
-    centers: &[f64],
-    weights: &[f64],
-    out: &mut [f64],
-)
-    requires { (length r.now ≡ periods * n) × (n ≤ max_side) × (t < periods) × (length centers.now ≡ n) × (length out.old ≡ n) }
-    ensures { out.new ≡ tab n (rows_of row n units.now centers.now weights.now (at r.now n) t) }
-{
-    let base = t * n;
-    let w = weight(weights, t);
-    numbers(row, &r[base..base + n], units, centers, w, out);
 }

@@ -17,10 +17,8 @@ pub fn put_exponents(xs: &[f64], out: &mut [i32])
     requires { length xs.now ≡ length out.old }
     ensures { (out.new ≡ tab (length out.old) (λ (k : ℕ). binary_exponent (nth xs.now k))) × Exponents out.new }
 {
-    let mut k = 0;
-    while k < out.len() {
+    for k in 0..out.len() {
         out[k] = exponent(xs[k]);
-        k += 1;
     }
 }
 
@@ -29,9 +27,7 @@ pub fn scale_back(exponents: &[i32], out: &mut [f64])
     requires { (length exponents.now ≡ length out.old) × Exponents exponents.now }
     ensures { out.new ≡ tab (length out.old) (λ (k : ℕ). pow2_scaled (nth out.old k) (exponent_at exponents.now k)) }
 {
-    let mut k = 0;
-    while k < out.len() {
+    for k in 0..out.len() {
         out[k] = leaves::scaling::pow2_scaled(out[k], exponents[k]);
-        k += 1;
     }
 }

@@ -20,8 +20,7 @@ use Rattle.paper.specs.declared.question.ShrinkageBits.{ShrinkageBits}
 use Rattle.paper.specs.declared.question.ShrinkageBits.TheVariants.{Unshrunk, Fixed, LedoitWolf}
 use Rattle.paper.specs.declared.question.RegularizationBits.{RegularizationBits}
 use Rattle.paper.specs.declared.question.RegularizationBits.TheVariants.{Unregularized, Ridge}
-use Rattle.paper.specs.declared.question.Limit.{Limit}
-use Rattle.paper.specs.declared.question.Limit.TheVariants.{Missing, Sweeps}
+use Rattle.std.specs.Prelude.{Option, Some, None}
 use Rattle.paper.specs.declared.question.Asked.{Asked}
 use Rattle.paper.specs.declared.question.Asked.TheVariants.{Covariance, WeightedMean, JamesStein, BayesStein}
 use Rattle.paper.specs.Grammar.{file_assets, file_periods, kinds, place_in, sheet}
@@ -51,9 +50,9 @@ regularization_back : (r : RegularizationBits) → cond (comes (ridge r)) (Ridge
 regularization_back Unregularized = refl
 regularization_back (Ridge bits) = refl
 
-limit_back : (l : Limit) → cond (comes (sweeps l)) (Sweeps (first_of (sweeps l))) Missing ≡ l
-limit_back Missing = refl
-limit_back (Sweeps limit) = refl
+limit_back : (l : Option ℕ) → cond (comes (sweeps l)) (Some (first_of (sweeps l))) None ≡ l
+limit_back None = refl
+limit_back (Some limit) = refl
 
 shrinkage_back : (s : ShrinkageBits) →
     cond (comes (fixed s)) (Fixed (first_of (fixed s))) (cond (comes (target s)) (LedoitWolf (target_of (first_of (target s)))) Unshrunk) ≡ s
@@ -238,7 +237,7 @@ module _ (lists : List (List ℕ)) (k : Kept lists) where
   unfolding limit_in
   limit_body = go (has (outline lists) 10) refl
     where
-      go : (t : Bool) → has (outline lists) 10 ≡ t → sweeps (cond t (Sweeps (value (outline lists) 10)) Missing) ≡ of_kind lists 10
+      go : (t : Bool) → has (outline lists) 10 ≡ t → sweeps (cond t (Some (value (outline lists) 10)) None) ≡ of_kind lists 10
       go true h = the_one lists 10 k.one_limit h
       go false h = no_one lists 10 h
 
@@ -332,7 +331,7 @@ said_limit : (lists : List (List ℕ)) → Kept lists → T (limit_kept (limit_i
 unfolding limit_in
 said_limit lists k = go (has (outline lists) 10)
   where
-    go : (t : Bool) → T (limit_kept (cond t (Sweeps (value (outline lists) 10)) Missing))
+    go : (t : Bool) → T (limit_kept (cond t (Some (value (outline lists) 10)) None))
     go true = le→leb (value (outline lists) 10) 255 (rw (value_is lists 10) k.limit_byte)
     go false = tt
 

@@ -13,8 +13,7 @@ use Rattle.paper.specs.declared.question.EstimateBits.{EstimateBits}
 use Rattle.paper.specs.declared.question.EstimateBits.TheVariants.{Sample, Given, HalfLife, Lambda, Semi, SemiBelow}
 use Rattle.paper.specs.declared.question.ShrinkageBits.{ShrinkageBits}
 use Rattle.paper.specs.declared.question.ShrinkageBits.TheVariants.{Unshrunk, Fixed, LedoitWolf}
-use Rattle.paper.specs.declared.question.Limit.{Limit}
-use Rattle.paper.specs.declared.question.Limit.TheVariants.{Missing, Sweeps}
+use Rattle.std.specs.Prelude.{Option, Some, None}
 use Rattle.paper.specs.declared.question.Asked.{Asked}
 use Rattle.paper.specs.declared.question.Asked.TheVariants.{Covariance, WeightedMean, JamesStein, BayesStein}
 use Rattle.paper.specs.Grammar.{file_assets, file_periods, kinds, place_in}
@@ -55,9 +54,9 @@ semi_below_lem (Lambda b) = tt
 semi_below_lem Semi = tt
 semi_below_lem (SemiBelow b) = tt
 
-sweeps_below : (l : Limit) → T (limit_kept l) → T (below 256 (sweeps l))
-sweeps_below Missing t = tt
-sweeps_below (Sweeps l) t = let h : l ≤ 255 = leb→le l 255 t in one_below 256 l (omega arith)
+sweeps_below : (l : Option ℕ) → T (limit_kept l) → T (below 256 (sweeps l))
+sweeps_below None t = tt
+sweeps_below (Some l) t = let h : l ≤ 255 = leb→le l 255 t in one_below 256 l (omega arith)
 
 asked_below : (a : Asked) → asked_number a < 256
 asked_below Covariance = omega arith

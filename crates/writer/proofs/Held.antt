@@ -16,8 +16,7 @@ use Rattle.paper.specs.declared.question.ShrinkageBits.{ShrinkageBits}
 use Rattle.paper.specs.declared.question.ShrinkageBits.TheVariants.{Unshrunk, Fixed, LedoitWolf}
 use Rattle.paper.specs.declared.question.RegularizationBits.{RegularizationBits}
 use Rattle.paper.specs.declared.question.RegularizationBits.TheVariants.{Unregularized, Ridge}
-use Rattle.paper.specs.declared.question.Limit.{Limit}
-use Rattle.paper.specs.declared.question.Limit.TheVariants.{Missing, Sweeps}
+use Rattle.std.specs.Prelude.{Option, Some, None}
 use Rattle.paper.specs.Grammar.{file_assets, file_periods, kinds}
 use Rattle.paper.specs.Inner.{missing}
 use Rattle.paper.specs.Rules.{first_of, outline}
@@ -130,9 +129,9 @@ factor_again (Lambda b) = refl
 factor_again Semi = refl
 factor_again (SemiBelow b) = refl
 
-sweeps_again : (l : Limit) → again (sweeps l) ≡ sweeps l
-sweeps_again Missing = refl
-sweeps_again (Sweeps l) = refl
+sweeps_again : (l : Option ℕ) → again (sweeps l) ≡ sweeps l
+sweeps_again None = refl
+sweeps_again (Some l) = refl
 
 -- ---- all kinds
 
@@ -171,9 +170,9 @@ one_estimate (Lambda b) = omega arith
 one_estimate Semi = omega arith
 one_estimate (SemiBelow b) = omega arith
 
-pub one_limit : (l : Limit) → length (sweeps l) ≤ 1
-one_limit Missing = omega arith
-one_limit (Sweeps l) = omega arith
+pub one_limit : (l : Option ℕ) → length (sweeps l) ≤ 1
+one_limit None = omega arith
+one_limit (Some l) = omega arith
 
 pub length_few : (c : Contents) → length c.returns ≤ file_periods * file_assets → length c.given ≤ file_assets * file_assets → length_of kinds (map length (bodies c)) < 2 ^ 64
 unfolding length_of kinds bodies

@@ -39,7 +39,7 @@ pub records_none : (k : Kind) (i : ℕ) (vs : List ℕ) → length vs ≤ i → 
 unfolding records
 records_none k i vs h = rw (drop_of_length-le vs h)
 
-pub records_empty : (k : Kind) (o : Out) (vs : List ℕ) → vs ≡ [] → o ≡ write o (records k vs)
+pub records_empty : (k : Kind) (o : Out ℕ) (vs : List ℕ) → vs ≡ [] → o ≡ write o (records k vs)
 unfolding records
 records_empty k o vs e = rw e (write_none o)
 

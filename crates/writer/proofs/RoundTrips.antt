@@ -4,7 +4,7 @@ use mathlib.Core.Path.{◌≡◌, refl, sym, ap, ◌∙◌, subst}
 use mathlib.Core.Bool.{true, and-eq-true_iff}
 use mathlib.Core.List.{List, [], ◌∷◌, ◌++◌, append-nil}
 use mathlib.Core.Logic.{◌↔◌}
-use mathlib.Core.Option.{some}
+use Rattle.std.specs.Prelude.{Some}
 use Prim.Native.Nat.{ℕ, suc, ◌+◌, ◌≤◌, ◌<◌}
 use native.Mathlib.Omega.{arith}
 use lib.ListN.{length}
@@ -38,12 +38,12 @@ module _ (c : Contents) (keeps : keeps_format c ≡ true) where
   unfolding keeps_format
   meets_rules = ((and-eq-true_iff (record_kept c.question c.given) _).0 keeps).1
 
-  pub read_written : Words c → read_question (file c) ≡ some c
+  pub read_written : Words c → read_question (file c) ≡ Some c
   unfolding file is_question
   read_written w =
       let s : sheet kinds (file c) ≡ record { lists = bodies c; rest = [] } = sheet_forth kinds (bodies c) (fits c w keeps) in
       let q : is_question (sheet kinds (file c)) ≡ true = rw s meets_rules in
-      is_read (file c) q ∙ ap some (ap (λ (x : Sheet). contents_in x.lists) s ∙ contents_back c keeps)
+      is_read (file c) q ∙ ap Some (ap (λ (x : Sheet). contents_in x.lists) s ∙ contents_back c keeps)
 
 -- ---- writing what was read
 
@@ -83,7 +83,7 @@ module _ (bs : List ℕ) (bytes : T (are_bytes bs)) where
         limit_byte = first_below 255 (of_kind (sheet kinds bs).lists 10) w10.1;
       }
 
-  module _ (c : Contents) (read : read_question bs ≡ some c) where
+  module _ (c : Contents) (read : read_question bs ≡ Some c) where
     rules_met : well_formed (outline (sheet kinds bs).lists) ≡ true
     rules_met = well_formed_lem (sheet kinds bs) (read_as bs c read).is_question_lem
 
@@ -108,7 +108,7 @@ module _ (bs : List ℕ) (bytes : T (are_bytes bs)) where
 pub record Source (c : Contents) : Type 0 where
   pub source : List ℕ
   pub bytes : T (are_bytes source)
-  pub reads : read_question source ≡ some c
+  pub reads : read_question source ≡ Some c
 
 pub written_exactly : (c : Contents) → Words c → (keeps_format c ≡ true) ↔ Source c
 unfolding file kinds

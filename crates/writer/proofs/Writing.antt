@@ -2,6 +2,7 @@
 use mathlib.Core.Path.{◌≡◌, sym, ap, ◌∙◌}
 use mathlib.Core.Bool.{true, false}
 use mathlib.Core.List.{List}
+use Rattle.std.specs.Prelude.{Ok, Err}
 use Prim.Native.Nat.{ℕ, ◌*◌, ◌^◌, ◌≤◌, ◌<◌}
 use native.Mathlib.Nat.{zero-add}
 use native.Mathlib.Omega.{arith}
@@ -17,7 +18,7 @@ use Rattle.paper.specs.Inner.{buffer}
 use Rattle.paper.proofs.Writes.{write_room}
 use Rattle.paper.proofs.Outlines.{Ruled, ruled}
 use Rattle.paper.proofs.Questions.{returns_few, given_few}
-use Rattle.writer.specs.declared.calls.Written.TheVariants.{BreaksFormat, TooShort, Bytes}
+use Rattle.writer.specs.declared.calls.WriteError.TheVariants.{BreaksFormat, TooShort}
 use Rattle.writer.specs.Bodies.{bodies}
 use Rattle.writer.specs.Files.{file_of, file, length_of, smallest_length}
 use Rattle.writer.specs.Writer.{record_kept, keeps_format, left, written}
@@ -29,12 +30,12 @@ module _ (q : Question) (returns given s : List ℕ) where
   abbrev c : Contents
   c = contents q returns given
 
-  pub broken_record : record_kept q given ≡ false → left BreaksFormat s ≡ written c s
+  pub broken_record : record_kept q given ≡ false → left (Err BreaksFormat) s ≡ written c s
   unfolding written keeps_format
   broken_record e = rw e
 
   module _ (kept : record_kept q given ≡ true) (o : Outline) (eo : o ≡ outline (bodies c)) where
-    pub broken_rules : well_formed o ≡ false → left BreaksFormat s ≡ written c s
+    pub broken_rules : well_formed o ≡ false → left (Err BreaksFormat) s ≡ written c s
     unfolding written keeps_format
     broken_rules e = rw (kept, ← eo, e)
 
@@ -71,14 +72,14 @@ module _ (q : Question) (returns given s : List ℕ) where
       file_long = file_length kinds (bodies c)
 
       module _ (n : ℕ) (en : n ≡ length_of kinds o.counts) where
-        pub too_short : length s < n → left TooShort s ≡ written c s
+        pub too_short : length s < n → left (Err TooShort) s ≡ written c s
         unfolding written
         too_short h = rw (keeps, ← length_is, ← en, lt-leb _ _ h)
 
-        pub all_written : n ≤ length s → (v : List ℕ) (r : ℕ) → out v r ≡ write (out s 0) (file_of kinds (held o returns given)) → left (Bytes n) v ≡ written c s
+        pub all_written : n ≤ length s → (v : List ℕ) (r : ℕ) → out v r ≡ write (out s 0) (file_of kinds (held o returns given)) → left (Ok n) v ≡ written c s
         unfolding written
         all_written h v r e =
             let t = file c in
             let long : length t ≡ n = file_long ∙ sym length_is ∙ sym en in
             let stands : v ≡ front t s = ap buffer (e ∙ ap (write (out s 0)) is_file ∙ write_room t s 0 (omega arith)) ∙ rw (zero-add (length t)) in
-            rw (keeps, ← length_is, ← en, le-leb _ _ h) (ap (left (Bytes n)) stands)
+            rw (keeps, ← length_is, ← en, le-leb _ _ h) (ap (left (Ok n)) stands)

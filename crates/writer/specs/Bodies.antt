@@ -1,6 +1,6 @@
 -- Document 02, "Paper 5. Question authors write files": what stands in a question's file, as the bodies of each kind in the order of the file. A kind that does not come
 -- has none. Definitions only.
-use Rattle.std.specs.Prelude.{ℕ, ◌+◌, ◌*◌, List, [], ◌∷◌}
+use Rattle.std.specs.Prelude.{ℕ, ◌+◌, ◌*◌, List, [], ◌∷◌, Option, Some, None}
 use Rattle.rules.specs.declared.Target.TheVariants.{ConstantVariance, ConstantCorrelation}
 use Rattle.paper.specs.declared.question.EstimateBits.{EstimateBits}
 use Rattle.paper.specs.declared.question.EstimateBits.TheVariants.{Sample, Given, HalfLife, Lambda, Semi, SemiBelow}
@@ -8,8 +8,6 @@ use Rattle.paper.specs.declared.question.ShrinkageBits.{ShrinkageBits}
 use Rattle.paper.specs.declared.question.ShrinkageBits.TheVariants.{Unshrunk, Fixed, LedoitWolf}
 use Rattle.paper.specs.declared.question.RegularizationBits.{RegularizationBits}
 use Rattle.paper.specs.declared.question.RegularizationBits.TheVariants.{Unregularized, Ridge}
-use Rattle.paper.specs.declared.question.Limit.{Limit}
-use Rattle.paper.specs.declared.question.Limit.TheVariants.{Missing, Sweeps}
 use Rattle.paper.specs.declared.question.Asked.{Asked}
 use Rattle.paper.specs.declared.question.Asked.TheVariants.{Covariance, WeightedMean, JamesStein, BayesStein}
 use Rattle.paper.specs.Question.{Contents}
@@ -64,9 +62,9 @@ factor (Lambda bits) = bits ∷ []
 factor Semi = []
 factor (SemiBelow bits) = []
 
-abbrev pub sweeps : Limit → List ℕ
-sweeps Missing = []
-sweeps (Sweeps limit) = limit ∷ []
+abbrev pub sweeps : Option ℕ → List ℕ
+sweeps None = []
+sweeps (Some limit) = limit ∷ []
 
 abbrev pub asked_number : Asked → ℕ
 asked_number Covariance = 0

@@ -1,14 +1,9 @@
 -- What only the contracts of inner functions cite: the bodies of each kind, as the code holds them. A kind other than the returns' and the given entries' comes once at
 -- most. Definitions only.
-use Rattle.std.specs.Prelude.{cond, List, [], ◌∷◌, ℕ, length, eqb}
+use Rattle.std.specs.Prelude.{cond, List, [], ◌∷◌, ℕ, eqb}
 use Rattle.paper.specs.declared.format.Outline.{Outline}
 use Rattle.paper.specs.declared.kinds.Kind.{Kind}
 use Rattle.paper.specs.Grammar.{kinds}
-use Rattle.paper.specs.Rules.{first_of}
-use Rattle.writer.specs.declared.outlines.Once.{Once}
-
-abbrev pub once : List ℕ → Once
-once vs = record { count = length vs; body = first_of vs }
 
 -- the bodies of kind k, of which there are so many, with this first one
 unfoldable pub pick : Kind → ℕ → ℕ → List ℕ → List ℕ → List ℕ

@@ -1,14 +1,12 @@
 -- Document 02, "Paper 5. Question authors write files": which questions are written, and the writer. `written_exactly` (proofs/RoundTrips.antt) proves that they are those
 -- that some file reads as. Definitions only.
-use Rattle.std.specs.Prelude.{ℕ, Bool, true, not, ◌&&◌, cond, List, length, leb, eqb}
-use Rattle.paper.specs.declared.question.Limit.{Limit}
-use Rattle.paper.specs.declared.question.Limit.TheVariants.{Missing, Sweeps}
+use Rattle.std.specs.Prelude.{ℕ, Bool, true, not, ◌&&◌, cond, List, length, leb, eqb, Option, Some, None, Result, Ok, Err}
 use Rattle.paper.specs.declared.question.Question.{Question}
 use Rattle.paper.specs.Grammar.{file_assets, file_periods}
 use Rattle.paper.specs.Rules.{outline, well_formed}
 use Rattle.paper.specs.Question.{Contents, is_given, given_count, front}
-use Rattle.writer.specs.declared.calls.Written.{Written}
-use Rattle.writer.specs.declared.calls.Written.TheVariants.{BreaksFormat, TooShort, Bytes}
+use Rattle.writer.specs.declared.calls.WriteError.{WriteError}
+use Rattle.writer.specs.declared.calls.WriteError.TheVariants.{BreaksFormat, TooShort}
 use Rattle.writer.specs.Bodies.{bodies}
 use Rattle.writer.specs.Files.{file, smallest_length}
 
@@ -19,9 +17,9 @@ unfoldable pub shape_kept : Question → Bool
 shape_kept q = leb q.assets file_assets && leb q.periods file_periods
 
 -- a limit of one byte
-abbrev pub limit_kept : Limit → Bool
-limit_kept Missing = true
-limit_kept (Sweeps limit) = leb limit 255
+abbrev pub limit_kept : Option ℕ → Bool
+limit_kept None = true
+limit_kept (Some limit) = leb limit 255
 
 -- as many given entries as the estimate says: n × n, which is not 0, or none
 unfoldable pub given_kept : Question → List ℕ → Bool
@@ -38,15 +36,15 @@ keeps_format c = record_kept c.question c.given && well_formed (outline (bodies 
 
 -- what is answered, and the output after it
 pub record Left : Type 0 where
-  pub answer : Written
+  pub answer : Result ℕ WriteError
   pub out : List ℕ
 
-abbrev pub left : Written → List ℕ → Left
+abbrev pub left : Result ℕ WriteError → List ℕ → Left
 left answer out = record { answer = answer; out = out }
 
 -- 17, then 18 where the output is too short, then the file with its length
 unfoldable pub written : Contents → List ℕ → Left
 written c out =
-    cond (not (keeps_format c)) (left BreaksFormat out)
-    (cond (not (leb (smallest_length c) (length out))) (left TooShort out)
-    (left (Bytes (smallest_length c)) (front (file c) out)))
+    cond (not (keeps_format c)) (left (Err BreaksFormat) out)
+    (cond (not (leb (smallest_length c) (length out))) (left (Err TooShort) out)
+    (left (Ok (smallest_length c)) (front (file c) out)))

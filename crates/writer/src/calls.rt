@@ -8,75 +8,65 @@ use crate::files::{file_length, put_file};
 use crate::outlines::outline_of;
 use paper::format::well_formed;
 use paper::kinds::{FILE_ASSETS, FILE_PERIODS};
-use paper::question::{Limit, Question, is_given};
+use paper::question::{Question, is_given};
 
+#[tactic(auto, unfolding(crate::specs::Writer::shape_kept))]
 fn shape_kept(q: Question) -> bool
     ensures { result ≡ Writer.shape_kept q }
 {
     q.assets <= FILE_ASSETS && q.periods <= FILE_PERIODS
 }
 
-fn limit_kept(limit: Limit) -> bool
+fn limit_kept(limit: Option<usize>) -> bool
     ensures { result ≡ Writer.limit_kept limit }
 {
-    match limit {
-        Limit::Missing => true,
-        Limit::Sweeps(limit) => limit <= 255,
-    }
+    limit.is_none_or(|limit| limit <= 255)
 }
 
+#[tactic(auto, unfolding(crate::specs::Writer::given_kept, paper::specs::Question::given_count))]
 fn given_kept(q: Question, given: &[u64]) -> bool
     requires { q.assets ≤ file_assets }
     ensures { result ≡ Writer.given_kept q given.now }
 {
-    let estimate = q.estimate;
-    if !is_given(estimate) {
-        return given.len() == 0;
+    if !is_given(q.estimate) {
+        return given.is_empty();
     }
-    if q.assets == 0 {
-        return false;
-    }
-    given.len() == q.assets * q.assets
+    q.assets != 0 && given.len() == q.assets * q.assets
 }
 
 fn record_kept(q: Question, given: &[u64]) -> bool
     ensures { result ≡ Writer.record_kept q given.now }
 {
-    let limit = q.limit;
-    if !shape_kept(q) {
-        return false;
-    }
-    if !limit_kept(limit) {
-        return false;
-    }
-    given_kept(q, given)
+    shape_kept(q) && limit_kept(q.limit) && given_kept(q, given)
 }
 
-// What comes of a record: it breaks a rule of the format or has a given matrix of 0 assets, the output is too short for its file, or so many bytes are written.
+// Why no file is written: the record breaks a rule of the format or has a given matrix of 0 assets, or the output is too short.
 #[derive(Clone, Copy)]
-pub enum Written {
+pub enum WriteError {
     BreaksFormat,
     TooShort,
-    Bytes(usize),
 }
 
-// Writes the file of a question to the front of `out`. What stands behind it is kept, and all of `out` where nothing is written.
-pub fn write_question(q: Question, returns: &[u64], given: &[u64], out: &mut [u8]) -> Written
+// Writes the file of a question to the front of `out`, and answers how many bytes that is. What stands behind it is kept, and all of `out` where nothing is written.
+pub fn write_question(
+    q: Question,
+    returns: &[u64],
+    given: &[u64],
+    out: &mut [u8],
+) -> Result<usize, WriteError>
     ensures { Writer.left result out.new ≡ Writer.written (contents q returns.now given.now) out.old }
 {
     if !record_kept(q, given) {
-        return Written::BreaksFormat;
+        return Err(WriteError::BreaksFormat);
     }
     let o = outline_of(q, returns, given);
     if !well_formed(o) {
-        return Written::BreaksFormat;
+        return Err(WriteError::BreaksFormat);
     }
-    let counts = o.counts;
-    let firsts = o.firsts;
-    let size = file_length(counts);
+    let size = file_length(o.counts);
     if out.len() < size {
-        return Written::TooShort;
+        return Err(WriteError::TooShort);
     }
-    put_file(counts, firsts, returns, given, out);
-    Written::Bytes(size)
+    put_file(o, returns, given, out);
+    Ok(size)
 }

@@ -5,20 +5,24 @@ ghost use Rattle.paper.specs.Grammar.{kinds};
 ghost use Rattle.writer.specs.Files as Files;
 ghost use Rattle.writer.specs.Inner as Inner;
 
+use paper::format::Outline;
 use paper::kinds::{KINDS, Kind, kind_at};
 use paper::text::put;
 
-// The last len bytes of a number, the least first.
+// The kinds whose bodies stand in slices beside the record.
+const RETURN: u8 = 2;
+
+const GIVEN_ENTRY: u8 = 9;
+
+// The last len bytes of a number, the least first. The library's `to_le_bytes` has eight bytes alone.
 fn put_body(v: u64, len: usize, out: &mut [u8], from: usize) -> usize
     ensures { into out.new result ≡ write (into out.old from) (Files.bytes_of len v) }
 {
     let mut rest = v;
     let mut at = from;
-    let mut i = 0;
-    while i < len {
+    for _i in 0..len {
         at = put(out, at, (rest % 256) as u8);
         rest /= 256;
-        i += 1;
     }
     at
 }
@@ -34,10 +38,8 @@ fn put_records(k: Kind, bodies: &[u64], out: &mut [u8], from: usize) -> usize
     ensures { into out.new result ≡ write (into out.old from) (Files.records k bodies.now) }
 {
     let mut at = from;
-    let mut i = 0;
-    while i < bodies.len() {
-        at = put_record(k, bodies[i], out, at);
-        i += 1;
+    for &body in bodies {
+        at = put_record(k, body, out, at);
     }
     at
 }
@@ -54,10 +56,10 @@ fn put_kind(
 ) -> usize
     ensures { into out.new result ≡ write (into out.old from) (Files.records k (Inner.pick k count first returns.now given.now)) }
 {
-    if k.byte == 2 {
+    if k.byte == RETURN {
         return put_records(k, returns, out, from);
     }
-    if k.byte == 9 {
+    if k.byte == GIVEN_ENTRY {
         return put_records(k, given, out, from);
     }
     if count == 0 {
@@ -66,22 +68,14 @@ fn put_kind(
     put_record(k, first, out, from)
 }
 
-// The file of so many records of each kind, with these first bodies.
-pub(crate) fn put_file(
-    counts: [u64; KINDS],
-    firsts: [u64; KINDS],
-    returns: &[u64],
-    given: &[u64],
-    out: &mut [u8],
-) -> usize
-    ensures { into out.new result ≡ write (into out.old 0) (Files.file_of kinds (Inner.held_from kinds counts firsts returns.now given.now)) }
+// The file of this outline, where each kind but these two comes once at most.
+pub(crate) fn put_file(o: Outline, returns: &[u64], given: &[u64], out: &mut [u8]) -> usize
+    ensures { into out.new result ≡ write (into out.old 0) (Files.file_of kinds (Inner.held o returns.now given.now)) }
 {
     let mut at = 0;
-    let mut i = 0;
-    while i < KINDS {
+    for i in 0..KINDS {
         let k = kind_at(i);
-        at = put_kind(k, counts[i], firsts[i], returns, given, out, at);
-        i += 1;
+        at = put_kind(k, o.counts[i], o.firsts[i], returns, given, out, at);
     }
     at
 }
@@ -92,11 +86,9 @@ pub(crate) fn file_length(counts: [u64; KINDS]) -> usize
     ensures { result ≡ Files.length_of kinds counts }
 {
     let mut s = 0;
-    let mut i = 0;
-    while i < KINDS {
+    for (i, &count) in counts.iter().enumerate() {
         let k = kind_at(i);
-        s += counts[i] as usize * (k.body + 1);
-        i += 1;
+        s += count as usize * (k.body + 1);
     }
     s
 }

@@ -1,197 +1,150 @@
 // The outline of the file that a question would have: of each kind how many records, and the first body.
-ghost use Rattle.std.specs.Prelude.{◌≡◌, ◌≤◌};
+ghost use Rattle.std.specs.Prelude.{◌≡◌, ◌≤◌, length, option_to_list};
 ghost use Rattle.paper.specs.Grammar.{file_assets, file_periods};
 ghost use Rattle.paper.specs.Rules as Rules;
 ghost use Rattle.paper.specs.Question.{contents};
 ghost use Rattle.writer.specs.Bodies as Bodies;
-ghost use Rattle.writer.specs.Inner as Inner;
 
 use paper::format::Outline;
-use paper::question::{Asked, EstimateBits, Limit, Question, RegularizationBits, ShrinkageBits};
+use paper::question::{Asked, EstimateBits, Question, RegularizationBits, ShrinkageBits};
 use rules::Target;
 
-// A kind that comes once at most: how many records, and the body.
-#[derive(Drop)]
-pub(crate) struct Once {
-    pub count: u64,
-    pub body: u64,
-}
-
-fn ridge(regularization: RegularizationBits) -> Once
-    ensures { result ≡ Inner.once (Bodies.ridge regularization) }
+fn ridge(regularization: RegularizationBits) -> Option<u64>
+    ensures { option_to_list result ≡ Bodies.ridge regularization }
 {
     match regularization {
-        RegularizationBits::Unregularized => Once { count: 0, body: 0 },
-        RegularizationBits::Ridge(bits) => Once {
-            count: 1,
-            body: bits,
-        },
+        RegularizationBits::Ridge(bits) => Some(bits),
+        RegularizationBits::Unregularized => None,
     }
 }
 
-fn fixed(shrinkage: ShrinkageBits) -> Once
-    ensures { result ≡ Inner.once (Bodies.fixed shrinkage) }
+fn fixed(shrinkage: ShrinkageBits) -> Option<u64>
+    ensures { option_to_list result ≡ Bodies.fixed shrinkage }
 {
     match shrinkage {
-        ShrinkageBits::Unshrunk => Once { count: 0, body: 0 },
-        ShrinkageBits::Fixed(bits) => Once {
-            count: 1,
-            body: bits,
-        },
-        ShrinkageBits::LedoitWolf(_) => Once { count: 0, body: 0 },
+        ShrinkageBits::Fixed(bits) => Some(bits),
+        _ => None,
     }
 }
 
-fn target(shrinkage: ShrinkageBits) -> Once
-    ensures { result ≡ Inner.once (Bodies.target shrinkage) }
+fn target(shrinkage: ShrinkageBits) -> Option<u64>
+    ensures { option_to_list result ≡ Bodies.target shrinkage }
 {
     match shrinkage {
-        ShrinkageBits::Unshrunk => Once { count: 0, body: 0 },
-        ShrinkageBits::Fixed(_) => Once { count: 0, body: 0 },
-        ShrinkageBits::LedoitWolf(target) => match target {
-            Target::ConstantVariance => Once { count: 1, body: 0 },
-            Target::ConstantCorrelation => Once { count: 1, body: 1 },
-        },
+        ShrinkageBits::LedoitWolf(Target::ConstantVariance) => Some(0),
+        ShrinkageBits::LedoitWolf(Target::ConstantCorrelation) => Some(1),
+        _ => None,
     }
 }
 
-fn half_life(estimate: EstimateBits) -> Once
-    ensures { result ≡ Inner.once (Bodies.half_life estimate) }
+fn half_life(estimate: EstimateBits) -> Option<u64>
+    ensures { option_to_list result ≡ Bodies.half_life estimate }
 {
     match estimate {
-        EstimateBits::Sample => Once { count: 0, body: 0 },
-        EstimateBits::Given => Once { count: 0, body: 0 },
-        EstimateBits::HalfLife(bits) => Once {
-            count: 1,
-            body: bits,
-        },
-        EstimateBits::Lambda(_) => Once { count: 0, body: 0 },
-        EstimateBits::Semi => Once { count: 0, body: 0 },
-        EstimateBits::SemiBelow(_) => Once { count: 0, body: 0 },
+        EstimateBits::HalfLife(bits) => Some(bits),
+        _ => None,
     }
 }
 
-fn semi(estimate: EstimateBits) -> Once
-    ensures { result ≡ Inner.once (Bodies.semi estimate) }
+fn semi(estimate: EstimateBits) -> Option<u64>
+    ensures { option_to_list result ≡ Bodies.semi estimate }
 {
     match estimate {
-        EstimateBits::Sample => Once { count: 0, body: 0 },
-        EstimateBits::Given => Once { count: 0, body: 0 },
-        EstimateBits::HalfLife(_) => Once { count: 0, body: 0 },
-        EstimateBits::Lambda(_) => Once { count: 0, body: 0 },
-        EstimateBits::Semi => Once { count: 1, body: 0 },
-        EstimateBits::SemiBelow(_) => Once { count: 0, body: 0 },
+        EstimateBits::Semi => Some(0),
+        _ => None,
     }
 }
 
-fn threshold(estimate: EstimateBits) -> Once
-    ensures { result ≡ Inner.once (Bodies.threshold estimate) }
+fn threshold(estimate: EstimateBits) -> Option<u64>
+    ensures { option_to_list result ≡ Bodies.threshold estimate }
 {
     match estimate {
-        EstimateBits::Sample => Once { count: 0, body: 0 },
-        EstimateBits::Given => Once { count: 0, body: 0 },
-        EstimateBits::HalfLife(_) => Once { count: 0, body: 0 },
-        EstimateBits::Lambda(_) => Once { count: 0, body: 0 },
-        EstimateBits::Semi => Once { count: 0, body: 0 },
-        EstimateBits::SemiBelow(bits) => Once {
-            count: 1,
-            body: bits,
-        },
+        EstimateBits::SemiBelow(bits) => Some(bits),
+        _ => None,
     }
 }
 
-fn factor(estimate: EstimateBits) -> Once
-    ensures { result ≡ Inner.once (Bodies.factor estimate) }
+fn factor(estimate: EstimateBits) -> Option<u64>
+    ensures { option_to_list result ≡ Bodies.factor estimate }
 {
     match estimate {
-        EstimateBits::Sample => Once { count: 0, body: 0 },
-        EstimateBits::Given => Once { count: 0, body: 0 },
-        EstimateBits::HalfLife(_) => Once { count: 0, body: 0 },
-        EstimateBits::Lambda(bits) => Once {
-            count: 1,
-            body: bits,
-        },
-        EstimateBits::Semi => Once { count: 0, body: 0 },
-        EstimateBits::SemiBelow(_) => Once { count: 0, body: 0 },
+        EstimateBits::Lambda(bits) => Some(bits),
+        _ => None,
     }
 }
 
-fn sweeps(limit: Limit) -> Once
-    ensures { result ≡ Inner.once (Bodies.sweeps limit) }
+fn sweeps(limit: Option<usize>) -> Option<u64>
+    ensures { option_to_list result ≡ Bodies.sweeps limit }
 {
-    match limit {
-        Limit::Missing => Once { count: 0, body: 0 },
-        Limit::Sweeps(limit) => Once {
-            count: 1,
-            body: limit as u64,
-        },
-    }
+    limit.map(|limit| limit as u64)
+}
+
+// How many records a kind has that comes once at most, and the first body, 0 where there is none.
+fn count(body: Option<u64>) -> u64
+    ensures { result ≡ length (option_to_list body) }
+{
+    body.is_some() as u64
+}
+
+fn body_or_zero(body: Option<u64>) -> u64
+    ensures { result ≡ Rules.first_of (option_to_list body) }
+{
+    body.unwrap_or(0)
 }
 
 fn asked_number(asked: Asked) -> u64
     ensures { result ≡ Bodies.asked_number asked }
 {
-    match asked {
-        Asked::Covariance => 0,
-        Asked::WeightedMean => 1,
-        Asked::JamesStein => 2,
-        Asked::BayesStein => 3,
-    }
+    asked as u64
 }
 
 // The first number of a slice, 0 where there is none.
 fn first(numbers: &[u64]) -> u64
     ensures { result ≡ Rules.first_of numbers.now }
 {
-    if numbers.len() > 0 { numbers[0] } else { 0 }
+    numbers.first().copied().unwrap_or(0)
 }
 
 pub(crate) fn outline_of(q: Question, returns: &[u64], given: &[u64]) -> Outline
     requires { (q.assets ≤ file_assets) × (q.periods ≤ file_periods) }
     ensures { result ≡ Rules.outline (Bodies.bodies (contents q returns.now given.now)) }
 {
-    let e = q.estimate;
-    let s = q.shrinkage;
-    let r = q.regularization;
-    let l = q.limit;
-    let a = q.asked;
-    let shape = q.assets as u64 + 65536 * q.periods as u64;
-    let ridge = ridge(r);
-    let fixed = fixed(s);
-    let target = target(s);
-    let half_life = half_life(e);
-    let semi = semi(e);
-    let threshold = threshold(e);
-    let sweeps = sweeps(l);
-    let factor = factor(e);
+    let ridge = ridge(q.regularization);
+    let fixed = fixed(q.shrinkage);
+    let target = target(q.shrinkage);
+    let half_life = half_life(q.estimate);
+    let semi = semi(q.estimate);
+    let threshold = threshold(q.estimate);
+    let sweeps = sweeps(q.limit);
+    let factor = factor(q.estimate);
     Outline {
         counts: [
             1,
             returns.len() as u64,
-            ridge.count,
-            fixed.count,
-            target.count,
-            half_life.count,
-            semi.count,
-            threshold.count,
+            count(ridge),
+            count(fixed),
+            count(target),
+            count(half_life),
+            count(semi),
+            count(threshold),
             given.len() as u64,
-            sweeps.count,
-            factor.count,
+            count(sweeps),
+            count(factor),
             1,
         ],
         firsts: [
-            shape,
+            q.assets as u64 + 65536 * q.periods as u64,
             first(returns),
-            ridge.body,
-            fixed.body,
-            target.body,
-            half_life.body,
-            semi.body,
-            threshold.body,
+            body_or_zero(ridge),
+            body_or_zero(fixed),
+            body_or_zero(target),
+            body_or_zero(half_life),
+            body_or_zero(semi),
+            body_or_zero(threshold),
             first(given),
-            sweeps.body,
-            factor.body,
-            asked_number(a),
+            body_or_zero(sweeps),
+            body_or_zero(factor),
+            asked_number(q.asked),
         ],
     }
 }

@@ -9,6 +9,6 @@ pub returns-then-gamma : goal.returns-then-gamma
 unfolding of_bits intensity_by lt
 returns-then-gamma c = let a = c.args in rw c.if-gamma.true (c.clamp01.ensures ∙ ap (λ (t : Float). clamp01 (a.error ⊘ t ⊘ a.gamma)) c.nearest_u64_to_f64-t.ensures)
 
-pub returns : goal.returns
+pub returns-else-gamma : goal.returns-else-gamma
 unfolding of_bits intensity_by lt
-returns c = rw c.if-gamma.false
+returns-else-gamma c = rw c.if-gamma.false

@@ -4,14 +4,13 @@ use lib.Ieee.{Float}
 use Rattle.leaves.specs.Loops.{tab}
 use Rattle.leaves.specs.Scaling.{binary_exponent}
 use Rattle.matrix.specs.Matrix.{at, amax}
-use Rattle.matrix.proofs.Lent.{lent}
 use Rattle.rules.specs.Sample.{mean, deviation}
 use Rattle.rules.specs.LedoitWolf.{intensity_from, ledoit_wolf}
 use Rattle.rules.specs.declared.Target.{Target}
 use Rattle.tables.specs.Powers.{Factored}
 use Rattle.tables.specs.Rows.{centered}
 use Rattle.tables.specs.declared.rows.Row.TheVariants.{Scaled}
-use Rattle.tables.proofs.Exponents.{size_neg, neg_fits, neg_read}
+use Rattle.tables.proofs.Exponents.{neg_read}
 use Rattle.covariances.proofs.Centered.{from_centered, scaled_formed}
 use Rattle.covariances.proofs.ledoit_wolf.ledoit_wolf.Goals as goal
 
@@ -19,27 +18,6 @@ answer : (F : Target) (T n : ℕ) (r : List Float) {means : List Float} → mean
     → {d : Float} → d ≡ intensity_from F T n (centered (Scaled near far) n means r) → d ≡ ledoit_wolf F T n (at r n)
 answer F T n r {means} em e ee near far f ed =
     from_centered F T n (at r n) (centered (Scaled near far) n means r) e (ee em) (λ t i ht hi. scaled_formed T n (at r n) em near far (neg_ℤ e) f t i hi) ed
-
-pub slice_bounds-centers-end : goal.slice_bounds-centers-end
-slice_bounds-centers-end c = search lent
-
-pub means-requires : goal.means-requires
-means-requires c = search lent
-
-pub slice_bounds-largest_exponent-end : goal.slice_bounds-largest_exponent-end
-slice_bounds-largest_exponent-end c = search lent
-
-pub largest_exponent-e-requires : goal.largest_exponent-e-requires
-largest_exponent-e-requires c = search lent
-
-pub overflow_sub-e : goal.overflow_sub-e
-overflow_sub-e c = let e = c.largest_exponent-e in neg_fits e.result (omega arith)
-
-pub factors-power-requires : goal.factors-power-requires
-factors-power-requires c = let e = c.largest_exponent-e in rw (neg_read e.result (omega arith), size_neg) e.ensures.0
-
-pub of_rows-requires : goal.of_rows-requires
-of_rows-requires c = search lent
 
 pub returns : goal.returns
 returns c =

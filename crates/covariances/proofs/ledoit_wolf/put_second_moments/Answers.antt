@@ -8,7 +8,7 @@ use Rattle.matrix.specs.Inner.{Symmetric}
 use Rattle.matrix.proofs.OfStored.{entrywise}
 use Rattle.rules.specs.Sample.{gram}
 use Rattle.rules.specs.LedoitWolf.{second_moments}
-use Rattle.tables.specs.Rows.{centered}
+use Rattle.tables.specs.Rows.{matrix_of}
 use Rattle.covariances.proofs.Centered.{second_moments_symmetric}
 use Rattle.covariances.proofs.ledoit_wolf.put_second_moments.Goals as goal
 
@@ -20,5 +20,5 @@ second-moments-are T n z {x} {l} el ex es =
 pub returns : goal.returns
 returns c =
     let g = c in
-    let a = g.args in
-    second-moments-are a.periods a.n (centered a.row a.n a.centers.now a.r.now) g.gram.ensures c.nearest_u64_to_f64.ensures c.divide.ensures
+    let z = g.args.z.now in
+    second-moments-are z.returns.periods z.returns.assets (matrix_of z) g.gram.ensures c.nearest_u64_to_f64.ensures c.divide.ensures

@@ -1,4 +1,4 @@
-use Rattle.std.proofs.Common.{◌≡◌, ℕ, ◌-◌, ◌≤◌, Bool, List}
+use Rattle.std.proofs.Common.{◌≡◌, ℕ, ◌≤◌, Bool, List}
 use mathlib.Core.Option.{none}
 use lib.Ieee.{Float}
 use Rattle.leaves.specs.Loops.{first_to, nth}
@@ -10,6 +10,3 @@ constant volatilities sizes i = is_constant (nth volatilities i) (nth sizes i)
 
 abbrev pub invariant-loop-i : goal.invariant-loop-i
 invariant-loop-i l = (l.i ≤ l.n) × (first_to l.i (constant l.volatilities l.sizes) ≡ none)
-
-abbrev pub decreases-loop-i : goal.decreases-loop-i
-decreases-loop-i l = l.n - l.i

@@ -2,15 +2,8 @@
 use Rattle.std.proofs.Common.{◌∙◌}
 use Rattle.leaves.proofs.Lists.{tab_long}
 use Rattle.matrix.specs.Matrix.{at}
-use Rattle.matrix.proofs.Lent.{lent}
 use Rattle.covariances.proofs.Samples.{means_of}
 use Rattle.covariances.proofs.sample.means_in_units.Goals as goal
-
-pub slice_bounds-sum-end : goal.slice_bounds-sum-end
-slice_bounds-sum-end c = search lent
-
-pub sum-requires : goal.sum-requires
-sum-requires c = search lent
 
 pub returns : goal.returns
 returns c =

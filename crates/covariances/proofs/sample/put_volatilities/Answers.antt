@@ -1,31 +1,10 @@
 -- `covariances::sample::put_volatilities` meets its contract. The invariant: every number passed is the square root of its variance.
-use Rattle.std.proofs.Common.{◌+◌, ◌*◌, ◌≤◌, arith}
-use Rattle.leaves.proofs.Cells.{row}
+use Rattle.std.proofs.Common.{arith}
 use Rattle.leaves.proofs.Invariants.{filled_more, filled_whole, filled_none}
 use Rattle.covariances.proofs.sample.put_volatilities.Goals as goal
 
 pub loop-i-init : goal.loop-i-init
 loop-i-init c = filled_none _ _ _
-
-pub overflow_mul-i : goal.overflow_mul-i
-overflow_mul-i c =
-    let fits : let n = c.args.n in c.loop-i.i * n + n ≤ n * n = row _ _ _ c.loop-i-test.true in
-    omega (arith, fits)
-
-pub overflow_add-i : goal.overflow_add-i
-overflow_add-i c =
-    let fits : let n = c.args.n in c.loop-i.i * n + n ≤ n * n = row _ _ _ c.loop-i-test.true in
-    omega (arith, fits)
-
-pub offset_bounds-s-i : goal.offset_bounds-s-i
-offset_bounds-s-i c =
-    let fits : let n = c.args.n in c.loop-i.i * n + n ≤ n * n = row _ _ _ c.loop-i-test.true in
-    omega (arith, fits)
-
-pub bounds-s-i : goal.bounds-s-i
-bounds-s-i c =
-    let fits : let n = c.args.n in c.loop-i.i * n + n ≤ n * n = row _ _ _ c.loop-i-test.true in
-    omega (arith, fits)
 
 pub loop-i-preserved : goal.loop-i-preserved
 loop-i-preserved c = filled_more c.loop-i.invariant c.loop-i-test.true (omega arith) c.sqrt.ensures

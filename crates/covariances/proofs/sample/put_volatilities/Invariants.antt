@@ -1,4 +1,3 @@
-use Rattle.std.proofs.Common.{◌-◌}
 use Rattle.leaves.proofs.Invariants.{Filled}
 use Rattle.matrix.specs.Matrix.{at}
 use Rattle.rules.specs.Sample.{volatility}
@@ -6,6 +5,3 @@ use Rattle.covariances.proofs.sample.put_volatilities.Given as goal
 
 abbrev pub invariant-loop-i : goal.invariant-loop-i
 invariant-loop-i l = Filled (volatility (at l.s l.n)) l.i l.n l.initial.out l.out
-
-abbrev pub decreases-loop-i : goal.decreases-loop-i
-decreases-loop-i l = l.n - l.i

@@ -5,12 +5,6 @@ use Rattle.matrix.proofs.Lent.{lent}
 use Rattle.rules.specs.Semi.{semicovariance_below}
 use Rattle.covariances.proofs.semi.semicovariance_below.Goals as goal
 
-pub slice_bounds-floors-end : goal.slice_bounds-floors-end
-slice_bounds-floors-end c = search lent
-
-pub put_below-requires : goal.put_below-requires
-put_below-requires c = let h = c.requires in (h.0, h.1, c.fill.auto.out ∙ length-take-le _ _ h.1, h.2)
-
 pub returns : goal.returns
 unfolding semicovariance_below
-returns c = let a = c.args in c.put_below.ensures (λ i. a.threshold) (c.fill.ensures ∙ ap (λ (m : ℕ). tab m (λ k. a.threshold)) (length-take-le _ _ c.requires.1))
+returns c = let a = c.args in c.put_below.ensures (λ i. a.threshold) (c.fill.ensures ∙ ap (λ (m : ℕ). tab m (λ k. a.threshold)) (length-take-le _ _ (search lent)))

@@ -1,10 +1,9 @@
 -- `covariances::targets::put_constant_correlation` meets its contract. The invariant: the rows passed are the target's.
-use Rattle.std.proofs.Common.{◌≡◌, ℕ, ◌+◌, ◌*◌, ◌<◌, ◌≤◌, cond, eqb, List, sym, refl, ◌∙◌, arith, rules}
+use Rattle.std.proofs.Common.{◌≡◌, ℕ, ◌<◌, cond, eqb, List, sym, refl, ◌∙◌, arith, rules}
 use lib.Ieee.{Float}
 use Rattle.leaves.specs.Numbers.{◌⊗◌}
 use Rattle.leaves.specs.Loops.{tab, nth}
 use Rattle.leaves.proofs.Loops.{tab_ext}
-use Rattle.leaves.proofs.Cells.{row}
 use Rattle.leaves.proofs.Lists.{nth_stored, tab_long}
 use Rattle.matrix.specs.Matrix.{Matrix, at}
 use Rattle.matrix.proofs.ByRows.{passed_none, passed_all, row_long, passed_row}
@@ -24,41 +23,6 @@ row_is n i m s {r} {v} {volatilities} hi em er ev ed e =
 
 pub loop-i-init : goal.loop-i-init
 loop-i-init c = (search rules, passed_none _ _ _ c.requires.3)
-
-pub overflow_mul-base : goal.overflow_mul-base
-overflow_mul-base c =
-    let fits : let n = c.args.n in c.loop-i.i * n + n ≤ n * n = row _ _ _ c.loop-i-test.true in
-    omega (arith, fits)
-
-pub overflow_add-end : goal.overflow_add-end
-overflow_add-end c =
-    let fits : let n = c.args.n in c.loop-i.i * n + n ≤ n * n = row _ _ _ c.loop-i-test.true in
-    omega (arith, fits)
-
-pub overflow_add-variance : goal.overflow_add-variance
-overflow_add-variance c =
-    let fits : let n = c.args.n in c.loop-i.i * n + n ≤ n * n = row _ _ _ c.loop-i-test.true in
-    omega (arith, fits)
-
-pub offset_bounds-s-base : goal.offset_bounds-s-base
-offset_bounds-s-base c =
-    let fits : let n = c.args.n in c.loop-i.i * n + n ≤ n * n = row _ _ _ c.loop-i-test.true in
-    omega (arith, fits)
-
-pub bounds-s-base : goal.bounds-s-base
-bounds-s-base c =
-    let fits : let n = c.args.n in c.loop-i.i * n + n ≤ n * n = row _ _ _ c.loop-i-test.true in
-    omega (arith, fits)
-
-pub offset_bounds-out-base : goal.offset_bounds-out-base
-offset_bounds-out-base c =
-    let fits : let n = c.args.n in c.loop-i.i * n + n ≤ n * n = row _ _ _ c.loop-i-test.true in
-    omega (arith, fits)
-
-pub slice_bounds-put_row-end : goal.slice_bounds-put_row-end
-slice_bounds-put_row-end c =
-    let fits : let n = c.args.n in c.loop-i.i * n + n ≤ n * n = row _ _ _ c.loop-i-test.true in
-    omega (arith, fits)
 
 pub put_row-requires : goal.put_row-requires
 put_row-requires c =

@@ -1,4 +1,4 @@
-use Rattle.std.proofs.Common.{◌-◌, length}
+use Rattle.std.proofs.Common.{length}
 use Rattle.leaves.specs.Numbers.{◌⊗◌}
 use Rattle.leaves.specs.Loops.{nth}
 use Rattle.leaves.proofs.Invariants.{Filled}
@@ -6,6 +6,3 @@ use Rattle.covariances.proofs.targets.put_row.Given as goal
 
 abbrev pub invariant-loop-j : goal.invariant-loop-j
 invariant-loop-j l = Filled (λ j. l.r ⊗ nth l.volatilities l.i ⊗ nth l.volatilities j) l.j (length l.initial.out) l.initial.out l.out
-
-abbrev pub decreases-loop-j : goal.decreases-loop-j
-decreases-loop-j l = length l.initial.out - l.j

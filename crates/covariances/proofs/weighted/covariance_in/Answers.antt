@@ -1,7 +1,7 @@
 -- `covariances::weighted::covariance_in` meets its contract: the rows that are formed are the deviations times the roots.
 use Rattle.std.proofs.Common.{ℕ, ap, ◌∙◌}
-use Rattle.matrix.specs.Matrix.{at}
 use Rattle.rules.specs.Weighted.{weights}
+use Rattle.tables.specs.Rows.{return_at}
 use Rattle.covariances.proofs.Grams.{weighted_alike}
 use Rattle.covariances.proofs.weighted.covariance_in.Goals as goal
 
@@ -13,6 +13,7 @@ returns c =
     let w = m in
     let s = w in
     let a = s.args in
+    let r = a.r.now in
     let h = s.requires in
-    weighted_alike a.periods a.n _ a.l (at a.r.now a.n) h.4
-    (w.put_weights.ensures ∙ ap (λ (m : ℕ). weights m a.l) h.3) d.denominator.ensures m.means.ensures root.put_roots.ensures c.gram.ensures
+    weighted_alike r.periods r.assets _ a.l (return_at r) h.2
+    (w.put_weights.ensures ∙ ap (λ (m : ℕ). weights m a.l) h.1) d.denominator.ensures m.means.ensures root.put_roots.ensures c.gram.ensures

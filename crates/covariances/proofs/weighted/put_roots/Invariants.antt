@@ -1,4 +1,4 @@
-use Rattle.std.proofs.Common.{◌-◌, length}
+use Rattle.std.proofs.Common.{length}
 use Rattle.leaves.specs.Numbers.{◌⊘◌}
 use Rattle.leaves.specs.Loops.{nth}
 use Rattle.leaves.specs.Root.{sqrt}
@@ -7,6 +7,3 @@ use Rattle.covariances.proofs.weighted.put_roots.Given as goal
 
 abbrev pub invariant-loop-t : goal.invariant-loop-t
 invariant-loop-t l = Filled (λ t. sqrt (nth l.weights t ⊘ l.denominator)) l.t (length l.initial.out) l.initial.out l.out
-
-abbrev pub decreases-loop-t : goal.decreases-loop-t
-decreases-loop-t l = length l.initial.out - l.t

@@ -1,5 +1,5 @@
 -- `covariances::weighted::put_weights` meets its contract. The invariant: the numbers passed are the weights.
-use Rattle.std.proofs.Common.{◌≡◌, ℕ, ◌-◌, arith, rules}
+use Rattle.std.proofs.Common.{◌≡◌, ℕ, ◌-◌, ap, ◌∙◌, arith, rules}
 use lib.Ieee.{Float}
 use Rattle.leaves.specs.Numbers.{◌⊗◌, count}
 use Rattle.leaves.specs.Exp.{exp}
@@ -7,8 +7,8 @@ use Rattle.leaves.proofs.Invariants.{filled_more, filled_whole, filled_none}
 use Rattle.rules.specs.Weighted.{weights}
 use Rattle.covariances.proofs.weighted.put_weights.Goals as goal
 
-weight : (T m t : ℕ) (l back x : Float) → m ≡ T → back ≡ count (m - 1 - t) → x ≡ exp (back ⊗ l) → x ≡ exp (count (T - 1 - t) ⊗ l)
-weight T m t l back x e b h = rw (h, b, e)
+weight : (m t : ℕ) (l back x : Float) → back ≡ count (m - 1 - t) → x ≡ exp (back ⊗ l) → x ≡ exp (count (m - 1 - t) ⊗ l)
+weight m t l back x b e = e ∙ ap (λ (c : Float). exp (c ⊗ l)) b
 
 pub loop-t-init : goal.loop-t-init
 loop-t-init c = filled_none _ _ _
@@ -16,7 +16,7 @@ loop-t-init c = filled_none _ _ _
 pub loop-t-preserved : goal.loop-t-preserved
 loop-t-preserved c =
     let inv = c.loop-t.invariant in
-    filled_more inv (omega arith) (omega arith) (weight _ _ _ _ _ _ inv.len c.nearest_u64_to_f64-back.ensures c.exp.ensures)
+    filled_more inv (omega arith) (omega arith) (weight _ _ _ _ _ c.nearest_u64_to_f64-back.ensures c.exp.ensures)
 
 pub returns : goal.returns
 unfolding weights

@@ -6,6 +6,3 @@ use Rattle.covariances.proofs.weighted.put_weights.Given as goal
 
 abbrev pub invariant-loop-t : goal.invariant-loop-t
 invariant-loop-t l = Filled (λ t. exp (count (length l.initial.out - 1 - t) ⊗ l.l)) l.t (length l.initial.out) l.initial.out l.out
-
-abbrev pub decreases-loop-t : goal.decreases-loop-t
-decreases-loop-t l = length l.initial.out - l.t

@@ -1,41 +1,33 @@
 -- `estimators::calls::james_stein_mean` meets its contract: the shape is looked at, then the rest in as much of the slice as the answer fills.
-use mathlib.Core.Path.{sym, ap, ◌∙◌}
-use Prim.Native.Nat.{◌≤◌}
-use lib.ListN.{length}
+use mathlib.Core.Path.{sym}
 use lib.Seq.{length-take-le}
 use Rattle.rules.specs.Order.{james_stein_order}
-use Rattle.rules.specs.Shapes.{Shaped}
 use Rattle.rules.specs.Calls.{james_stein_mean}
-use Rattle.rules.proofs.Opened.{shape_refuses, shape_fits_lem}
-use Rattle.rules.proofs.Shapes.{shape_passes}
-use Rattle.inputs.specs.Checks.{checked}
+use Rattle.rules.proofs.Opened.{shape_fits_lem}
+use Rattle.estimators.proofs.Refusing.{fits, by_its_shape}
 use Rattle.estimators.proofs.calls.james_stein_mean.Goals as goal
 
-pub returns-in-Refuses : goal.returns-in-Refuses
+pub returns-in_err-check_shape : goal.returns-in_err-check_shape
 unfolding james_stein_mean james_stein_order
-returns-in-Refuses c =
+returns-in_err-check_shape c =
     let a = c.args in
-    shape_refuses a.returns.now a.n a.periods a.n a.answer.now _ _ _ (ap checked (sym c.in-Refuses.is) ∙ c.check_shape-shape.ensures)
+    by_its_shape a.returns.now a.n a.periods a.n a.answer.now _ _ _ _ c.from_residual.ensures.1 c.in_err-check_shape.ensures
+
+pub invariant_of-p : goal.invariant_of-p
+invariant_of-p c = record { shaped = (fits c.in_ok-check_shape.ensures).0 }
 
 pub slice_bounds-james_stein_mean-end : goal.slice_bounds-james_stein_mean-end
-slice_bounds-james_stein_mean-end c =
-    let shape : let a = c.args in Shaped (length a.returns.now) a.n a.periods × (a.n ≤ length a.answer.now) = shape_passes _ _ _ _ _ (ap checked c.in_default.is) c.check_shape-shape.ensures in
-    shape.1
+slice_bounds-james_stein_mean-end c = (fits c.in_ok-check_shape.ensures).1
 
 pub slice_bounds-james_stein_mean-end-2 : goal.slice_bounds-james_stein_mean-end-2
-slice_bounds-james_stein_mean-end-2 c =
-    let shape : let a = c.args in Shaped (length a.returns.now) a.n a.periods × (a.n ≤ length a.answer.now) = shape_passes _ _ _ _ _ (ap checked c.in_default.is) c.check_shape-shape.ensures in
-    sym (length-take-le _ _ shape.1)
+slice_bounds-james_stein_mean-end-2 c = sym (length-take-le _ _ (fits c.in_ok-check_shape.ensures).1)
 
 pub james_stein_mean-requires : goal.james_stein_mean-requires
-james_stein_mean-requires c =
-    let shape : let a = c.args in Shaped (length a.returns.now) a.n a.periods × (a.n ≤ length a.answer.now) = shape_passes _ _ _ _ _ (ap checked c.in_default.is) c.check_shape-shape.ensures in
-    let s = shape in (s.0, length-take-le _ _ s.1)
+james_stein_mean-requires c = length-take-le _ _ (fits c.in_ok-check_shape.ensures).1
 
 pub returns : goal.returns
 unfolding james_stein_mean james_stein_order
 returns c =
-    let shape : let a = c.args in Shaped (length a.returns.now) a.n a.periods × (a.n ≤ length a.answer.now) = shape_passes _ _ _ _ _ (ap checked c.in_default.is) c.check_shape-shape.ensures in
     let a = c.args in
-    let s = shape in
+    let s = fits c.in_ok-check_shape.ensures in
     shape_fits_lem a.returns.now a.n a.periods a.n a.answer.now _ _ _ s.0 s.1 c.james_stein_mean.ensures

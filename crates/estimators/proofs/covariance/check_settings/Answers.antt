@@ -1,18 +1,32 @@
--- `estimators::covariance::check_settings` meets its contract: the checks, joined in their order.
+-- `estimators::covariance::check_settings` meets its contract: the checks, one after the other.
 use mathlib.Core.Path.{◌∙◌}
-use Rattle.rules.proofs.Firsts.{first_alone, first_join}
+use Rattle.rules.proofs.Firsts.{first_alone, head_refuses, head_passes}
+use Rattle.inputs.proofs.Refused.{refused}
 use Rattle.estimators.proofs.covariance.check_settings.Goals as goal
+
+pub returns-in_err-bad_regularization : goal.returns-in_err-bad_regularization
+returns-in_err-bad_regularization c = refused _ c.from_residual.ensures.1 (head_refuses _ c.in_err-bad_regularization.ensures)
+
+pub returns-in_err-bad_shrinkage : goal.returns-in_err-bad_shrinkage
+returns-in_err-bad_shrinkage c = refused _ c.from_residual-in_err-bad_shrinkage.ensures.1 (head_refuses _ c.in_err-bad_shrinkage.ensures ∙ head_passes _ c.in_ok-bad_regularization.ensures)
+
+pub returns-in_err-bad_estimate : goal.returns-in_err-bad_estimate
+returns-in_err-bad_estimate c =
+    refused _ c.from_residual-in_err-bad_estimate.ensures.1
+    (head_refuses _ c.in_err-bad_estimate.ensures ∙ head_passes _ c.in_ok-bad_shrinkage.ensures ∙ head_passes _ c.in_ok-bad_regularization.ensures)
+
+pub returns-in_err-not_the_sample : goal.returns-in_err-not_the_sample
+returns-in_err-not_the_sample c =
+    refused _ c.from_residual-in_err-not_the_sample.ensures.1
+    (head_refuses _ c.in_err-not_the_sample.ensures ∙ head_passes _ c.in_ok-bad_estimate.ensures ∙ head_passes _ c.in_ok-bad_shrinkage.ensures ∙ head_passes _ c.in_ok-bad_regularization.ensures)
+
+pub returns-in_err-no_correlation : goal.returns-in_err-no_correlation
+returns-in_err-no_correlation c =
+    refused _ c.from_residual-in_err-no_correlation.ensures.1
+    (head_refuses _ c.in_err-no_correlation.ensures ∙ head_passes _ c.in_ok-not_the_sample.ensures ∙ head_passes _ c.in_ok-bad_estimate.ensures ∙ head_passes _ c.in_ok-bad_shrinkage.ensures
+    ∙ head_passes _ c.in_ok-bad_regularization.ensures)
 
 pub returns : goal.returns
 returns c =
-    let m = c in
-    let l = m in
-    first_join _ c.bad_regularization.ensures
-    (first_join _ c.bad_shrinkage.ensures
-    (first_join _ m.bad_estimate.ensures
-    (first_join _ m.not_the_sample.ensures
-    (first_join _ l.no_correlation.ensures (l.wrong_side.ensures ∙ first_alone _) l.first-last.ensures)
-    m.first.ensures)
-    m.first-third.ensures)
-    c.first-2.ensures)
-    c.first-3.ensures
+    c.wrong_side.ensures ∙ first_alone _ ∙ head_passes _ c.in_ok-no_correlation.ensures ∙ head_passes _ c.in_ok-not_the_sample.ensures ∙ head_passes _ c.in_ok-bad_estimate.ensures
+    ∙ head_passes _ c.in_ok-bad_shrinkage.ensures ∙ head_passes _ c.in_ok-bad_regularization.ensures

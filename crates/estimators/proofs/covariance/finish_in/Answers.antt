@@ -1,28 +1,24 @@
 -- `estimators::covariance::finish_in` meets its contract: the answer is copied where its checks pass.
-use mathlib.Core.Path.{◌≡◌, sym, ap, ◌∙◌}
 use Rattle.matrix.specs.Matrix.{at}
-use Rattle.rules.specs.Refusals.{first}
-use Rattle.rules.specs.Adjusted.{adjusted_of}
-use Rattle.rules.specs.Order.{by_estimate}
-use Rattle.inputs.specs.Checks.{checked}
-use Rattle.estimators.proofs.Estimated.{estimate_checked, finished_refused, finished_accepted}
+use Rattle.estimators.proofs.Estimated.{finished_early, finished_late, finished_accepted}
 use Rattle.estimators.proofs.covariance.finish_in.Goals as goal
 
-pub returns-in-Refuses : goal.returns-in-Refuses
-returns-in-Refuses c =
-    let joined : let a = c.args in checked c.first-bad.result ≡ first (by_estimate a.settings a.intensity a.periods a.n (at a.r.now a.n) (at a.b.now a.n) (at (adjusted_of a.settings a.intensity a.n a.b.now) a.n)) = let a = c.args in
-    estimate_checked a.settings a.intensity a.periods a.n (at a.r.now a.n) a.b.now
-    c.is_adjusted-adjusted.ensures c.adjust.ensures c.no_variance.ensures c.check_answer.ensures c.first-bad.ensures in
+pub returns-in_err-no_variance : goal.returns-in_err-no_variance
+returns-in_err-no_variance c =
     let a = c.args in
-    finished_refused a.settings a.intensity a.periods a.n (at a.r.now a.n) a.b.now a.sweeps a.rotations a.out.now
-    (ap checked (sym c.in-Refuses.is) ∙ joined)
+    let p = a.p.now in
+    finished_early a.settings a.intensity p.periods p.n (at p.returns.now p.n) a.b.now a.made a.out.now c.is_adjusted-adjusted.ensures _ c.from_residual.ensures.1 c.in_err-no_variance.ensures
+
+pub returns-in_err-check_answer : goal.returns-in_err-check_answer
+returns-in_err-check_answer c =
+    let a = c.args in
+    let p = a.p.now in
+    finished_late a.settings a.intensity p.periods p.n (at p.returns.now p.n) a.b.now a.made a.out.now c.is_adjusted-adjusted.ensures
+    c.adjust.ensures c.in_ok-no_variance.ensures _ c.from_residual-in_err-check_answer.ensures.1 c.in_err-check_answer.ensures
 
 pub returns : goal.returns
 returns c =
-    let joined : let a = c.args in checked c.first-bad.result ≡ first (by_estimate a.settings a.intensity a.periods a.n (at a.r.now a.n) (at a.b.now a.n) (at (adjusted_of a.settings a.intensity a.n a.b.now) a.n)) = let a = c.args in
-    estimate_checked a.settings a.intensity a.periods a.n (at a.r.now a.n) a.b.now
-    c.is_adjusted-adjusted.ensures c.adjust.ensures c.no_variance.ensures c.check_answer.ensures c.first-bad.ensures in
     let a = c.args in
-    finished_accepted a.settings a.intensity a.periods a.n (at a.r.now a.n) a.b.now a.sweeps a.rotations a.out.now
-    (ap checked (sym c.in_default.is) ∙ joined)
-    (c.copy.ensures ∙ c.adjust.ensures)
+    let p = a.p.now in
+    finished_accepted a.settings a.intensity p.periods p.n (at p.returns.now p.n) a.b.now a.made a.out.now c.is_adjusted-adjusted.ensures
+    c.adjust.ensures c.in_ok-no_variance.ensures c.in_ok-check_answer.ensures c.copy.ensures

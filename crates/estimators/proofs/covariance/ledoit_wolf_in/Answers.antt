@@ -1,17 +1,21 @@
 -- `estimators::covariance::ledoit_wolf_in` meets its contract: the returns and the correlations are looked at, then the intensity is taken.
-use mathlib.Core.Path.{ap}
-use Rattle.inputs.specs.Checks.{checked}
-use Rattle.estimators.proofs.LedoitWolfCall.{refused, accepted}
+use Rattle.estimators.proofs.LedoitWolfCall.{returns_refuse, correlation_refuses, accepted}
 use Rattle.estimators.proofs.covariance.ledoit_wolf_in.Goals as goal
 
-pub returns-in-Refuses : goal.returns-in-Refuses
-returns-in-Refuses c =
-    let l = c in
-    let a = l.args in
-    refused a.r.now a.n a.periods a.target l.requires.0 c.check_returns-opened.ensures.1 c.no_correlation.ensures c.first-bad.ensures (ap checked c.in-Refuses.is)
+pub returns-in_err-check_returns : goal.returns-in_err-check_returns
+returns-in_err-check_returns c =
+    let a = c.args in
+    let p = a.p.now in
+    returns_refuse p.returns.now p.n p.periods a.target _ c.from_residual.ensures.1 p.shaped c.in_err-check_returns.ensures.1
+
+pub returns-in_err-no_correlation : goal.returns-in_err-no_correlation
+returns-in_err-no_correlation c =
+    let a = c.args in
+    let p = a.p.now in
+    correlation_refuses p.returns.now p.n p.periods a.target _ c.from_residual-in_err-no_correlation.ensures.1 p.shaped c.in_ok-check_returns.ensures.1 c.in_err-no_correlation.ensures
 
 pub returns : goal.returns
 returns c =
-    let l = c in
-    let a = l.args in
-    accepted a.r.now a.n a.periods a.target l.requires.0 c.check_returns-opened.ensures.1 c.no_correlation.ensures c.first-bad.ensures (ap checked c.in_default.is) c.ledoit_wolf.ensures
+    let a = c.args in
+    let p = a.p.now in
+    accepted p.returns.now p.n p.periods a.target p.shaped c.in_ok-check_returns.ensures.1 c.in_ok-no_correlation.ensures c.ledoit_wolf.ensures

@@ -1,4 +1,5 @@
 -- `estimators::covariance::no_correlation` meets its contract, by the cases of the shrinkage.
+use mathlib.Core.Logic.{inl, inr}
 use mathlib.Core.Path.{ap, ◌∙◌}
 use Rattle.matrix.proofs.Lent.{lent}
 use Rattle.rules.specs.Refusals.{when_some}
@@ -12,11 +13,7 @@ check_constant-requires c = search lent
 
 pub returns-in-Unshrunk : goal.returns-in-Unshrunk
 unfolding no_correlation
-returns-in-Unshrunk c = rw c.in-Unshrunk.is
-
-pub returns-in-Fixed : goal.returns-in-Fixed
-unfolding no_correlation
-returns-in-Fixed c = rw c.in-Fixed.is
+returns-in-Unshrunk c = elim c.in-Unshrunk.is [ inl e ↦ rw e | inr e ↦ rw e.1 ]
 
 pub returns-in-ConstantVariance : goal.returns-in-ConstantVariance
 unfolding no_correlation
@@ -25,6 +22,5 @@ returns-in-ConstantVariance c = rw (c.in-LedoitWolf.is, c.in-ConstantVariance.is
 pub returns-in-ConstantCorrelation : goal.returns-in-ConstantCorrelation
 unfolding no_correlation
 returns-in-ConstantCorrelation c =
-    let p = c.requires in
     rw (c.in-LedoitWolf.is, c.in-ConstantCorrelation.is)
-    (c.check_constant.ensures ∙ ap (λ o. when_some o ZeroVariance) (constant_stored _ _ _ _ p.2))
+    (c.check_constant.ensures ∙ ap (λ o. when_some o ZeroVariance) (constant_stored _ _ _ _ c.requires))

@@ -10,6 +10,6 @@ pub returns-then-is_given : goal.returns-then-is_given
 unfolding no_variance
 returns-then-is_given c = rw (c.if-adjusted.false, ← c.is_given.ensures, c.if-is_given.true) c.zero_variance.ensures
 
-pub returns : goal.returns
+pub returns-else-is_given : goal.returns-else-is_given
 unfolding no_variance
-returns c = rw (c.if-adjusted.false, ← c.is_given.ensures, c.if-is_given.false) c.check_constant.ensures
+returns-else-is_given c = rw (c.if-adjusted.false, ← c.is_given.ensures, c.if-is_given.false) c.check_constant.ensures

@@ -1,18 +1,21 @@
 -- `estimators::expected_returns::exponentially_weighted_mean` meets its contract: the returns and the decay are looked at, then the means are written.
-use mathlib.Core.Path.{ap}
-use Rattle.inputs.specs.Checks.{checked}
-use Rattle.estimators.proofs.MeanCalls.{weighted_refused, weighted_accepted}
+use Rattle.estimators.proofs.MeanCalls.{weighted_refused, decay_refused, weighted_accepted}
 use Rattle.estimators.proofs.expected_returns.exponentially_weighted_mean.Goals as goal
 
-pub returns-in-Refuses : goal.returns-in-Refuses
-returns-in-Refuses c =
-    let l = c in
-    let a = l.args in
-    weighted_refused a.returns.now a.n a.periods a.out.now l.requires.0 l.requires.1 c.check_opened-opened.ensures a.decay c.bad_decay.ensures c.first-bad.ensures (ap checked c.in-Refuses.is)
+pub returns-in_err-check_opened : goal.returns-in_err-check_opened
+returns-in_err-check_opened c =
+    let a = c.args in
+    let p = a.p.now in
+    weighted_refused p.returns.now p.n p.periods a.out.now p.shaped c.requires a.decay _ c.from_residual.ensures.1 c.in_err-check_opened.ensures
+
+pub returns-in_err-bad_decay : goal.returns-in_err-bad_decay
+returns-in_err-bad_decay c =
+    let a = c.args in
+    let p = a.p.now in
+    decay_refused p.returns.now p.n p.periods a.out.now p.shaped c.requires a.decay _ c.from_residual-in_err-bad_decay.ensures.1 c.in_ok-check_opened.ensures c.in_err-bad_decay.ensures
 
 pub returns : goal.returns
 returns c =
-    let l = c in
-    let a = l.args in
-    weighted_accepted a.returns.now a.n a.periods a.out.now l.requires.0 l.requires.1 c.check_opened-opened.ensures a.decay c.bad_decay.ensures c.first-bad.ensures (ap checked c.in_default.is)
-    c.log_decay-l.ensures c.mean_of.ensures
+    let a = c.args in
+    let p = a.p.now in
+    weighted_accepted p.returns.now p.n p.periods a.out.now p.shaped c.requires a.decay c.in_ok-check_opened.ensures c.in_ok-bad_decay.ensures c.log_decay-l.ensures c.mean_of.ensures

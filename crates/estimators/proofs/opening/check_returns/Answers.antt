@@ -1,11 +1,22 @@
--- `estimators::opening::check_returns` meets its contract: the two checks, joined.
+-- `estimators::opening::check_returns` meets its contract: the two checks, one after the other.
+use mathlib.Core.Path.{ap, ◌∙◌}
+use mathlib.Core.Bool.{Bool, not}
 use Rattle.matrix.specs.Matrix.{at}
-use Rattle.rules.proofs.Opened.{returns_checked}
+use Rattle.matrix.proofs.Alike.{finite_alike}
+use Rattle.matrix.proofs.OfStored.{at_stored}
+use Rattle.rules.specs.Refusals.{when}
+use Rattle.rules.specs.Sample.{covariance}
+use Rattle.rules.specs.declared.Refusal.TheVariants.{CovarianceNotFinite}
+use Rattle.rules.proofs.Firsts.{first_alone, head_refuses, head_passes}
+use Rattle.inputs.proofs.Refused.{refused}
 use Rattle.estimators.proofs.opening.check_returns.Goals as goal
+
+pub returns-in_err-check_finite : goal.returns-in_err-check_finite
+returns-in_err-check_finite c = (c.covariance.ensures, refused _ c.from_residual.ensures.1 (head_refuses _ c.in_err-check_finite.ensures))
 
 pub returns : goal.returns
 returns c =
-    let a = c.args in
+    let p = c.args.p.now in
     let table = c.covariance.ensures in
-    let finite = c.all_finite-finite.ensures in
-    (table, returns_checked a.periods a.n (at a.r.now a.n) table finite c.check_finite.ensures c.when.ensures c.first.ensures)
+    let finite = c.all_finite.ensures ∙ finite_alike p.n p.n (at c.covariance.new.out p.n) (covariance p.periods (at p.returns.now p.n)) (at_stored p.n (covariance p.periods (at p.returns.now p.n)) table) in
+    (table, c.when.ensures ∙ ap (λ (b : Bool). when (not b) CovarianceNotFinite) finite ∙ first_alone _ ∙ head_passes _ c.in_ok-check_finite.ensures)

@@ -1,30 +1,27 @@
--- `inputs::given::judge` meets its contract: the two checks, joined, and what is found where they pass.
-use Rattle.std.proofs.Common.{◌≡◌, ℕ, [], ◌∷◌, sym, refl, ap, ◌∙◌}
-use Rattle.matrix.specs.Matrix.{Matrix, at}
-use Rattle.matrix.specs.Jacobi.{Decomposition}
+-- `inputs::given::judge` meets its contract: the two checks, one after the other, and what is found where they pass.
+use Rattle.std.proofs.Common.{◌∙◌, ap, refl}
 use Rattle.matrix.specs.Inner.{decomposed}
 use Rattle.rules.specs.Refusals as Refusals
-use Rattle.rules.specs.Refusals.{first}
-use Rattle.rules.specs.Order.{not_decomposed, not_semidefinite}
-use Rattle.inputs.specs.Checks.{checked, examined, judged}
-use Rattle.inputs.specs.declared.checks.Check.{Check}
+use Rattle.rules.proofs.Firsts.{first_alone, head_refuses, head_passes}
+use Rattle.inputs.specs.Checks.{examined}
+use Rattle.inputs.proofs.Refused.{refusal}
 use Rattle.inputs.proofs.given.judge.Goals as goal
 
--- by the answer x of the two checks
-answers : (n : ℕ) (a : Matrix) (d : Decomposition) {bad x : Check} {one other : Refusals.Check}
-    → bad ≡ x → checked bad ≡ first (one ∷ other ∷ []) → one ≡ not_decomposed d → other ≡ not_semidefinite n a d → examined (checked x) d ≡ judged n a d
-answers n a d h e e₁ e₂ = ap (λ (k : Check). examined (checked k) d) (sym h) ∙ ap (λ (k : Refusals.Check). examined k d) (e ∙ (λ t. first (e₁ t ∷ e₂ t ∷ [])))
-
-pub returns-in-Refuses : goal.returns-in-Refuses
-returns-in-Refuses c = λ v.
-    let s = c in
-    let a = s.args in
+pub returns-in_err-not_decomposed : goal.returns-in_err-not_decomposed
+returns-in_err-not_decomposed c = λ v.
+    let a = c.args in
     let d = decomposed a.d.found a.values.now v a.d.sweeps a.d.rotations in
-    answers a.n (at a.a.now a.n) d c.in-Refuses.is s.first-bad.ensures (s.not_decomposed.ensures d refl) (s.not_semidefinite.ensures d refl)
+    refusal _ c.from_residual.ensures.1 ∙ ap (λ (k : Refusals.Check). examined k d) (head_refuses _ (c.in_err-not_decomposed.ensures d refl))
+
+pub returns-in_err-not_semidefinite : goal.returns-in_err-not_semidefinite
+returns-in_err-not_semidefinite c = λ v.
+    let a = c.args in
+    let d = decomposed a.d.found a.values.now v a.d.sweeps a.d.rotations in
+    refusal _ c.from_residual-in_err-not_semidefinite.ensures.1
+    ∙ ap (λ (k : Refusals.Check). examined k d) (head_refuses _ (c.in_err-not_semidefinite.ensures d refl) ∙ head_passes _ (c.in_ok-not_decomposed.ensures d refl))
 
 pub returns : goal.returns
 returns c = λ v.
-    let s = c in
-    let a = s.args in
+    let a = c.args in
     let d = decomposed a.d.found a.values.now v a.d.sweeps a.d.rotations in
-    answers a.n (at a.a.now a.n) d c.in_default.is s.first-bad.ensures (s.not_decomposed.ensures d refl) (s.not_semidefinite.ensures d refl)
+    ap (λ (k : Refusals.Check). examined k d) (c.in_ok-not_semidefinite.ensures d refl ∙ first_alone _ ∙ head_passes _ (c.in_ok-not_decomposed.ensures d refl))

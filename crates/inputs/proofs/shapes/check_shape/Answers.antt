@@ -1,36 +1,19 @@
--- `inputs::shapes::check_shape` meets its contract: each return is the first check that the tests leave.
-use Rattle.std.proofs.Common.{◌∙◌, mul-le-mul, le-ltb, lt-ltb, eq-eqb, ne_eqb}
-use mir.Facts.{Fits-below}
-use Rattle.rules.specs.Refusals.{first}
-use Rattle.rules.proofs.Firsts.{first_alone}
+-- `inputs::shapes::check_shape` meets its contract: the return slice is looked at, and then the room.
+use Rattle.std.proofs.Common.{ap, ◌∙◌}
+use lib.Dec.{ltb}
+use Rattle.rules.specs.Refusals.{when}
+use Rattle.rules.specs.declared.Refusal.TheVariants.{WrongLength}
+use Rattle.inputs.proofs.Refused.{refused}
+use Rattle.inputs.proofs.Tables.{fitting, room_refuses, room_answers}
 use Rattle.inputs.proofs.shapes.check_shape.Goals as goal
 
-pub returns-then-n-eq0 : goal.returns-then-n-eq0
-unfolding first
-returns-then-n-eq0 c = rw (eq-eqb _ _ c.if-n-eq0.true)
+pub returns-in_err-check_table : goal.returns-in_err-check_table
+returns-in_err-check_table c = refused _ c.from_residual.ensures.1 (room_refuses _ _ _ _ _ _ _ _ _ c.in_err-check_table.ensures)
 
-pub returns-then-n-gt-MAX_SIDE : goal.returns-then-n-gt-MAX_SIDE
-unfolding first
-returns-then-n-gt-MAX_SIDE c = rw (ne_eqb _ _ c.if-n-eq0.false, lt-ltb _ _ c.if-n-gt-MAX_SIDE.true)
-
-pub returns-then-periods-gt-MAX_PERIODS : goal.returns-then-periods-gt-MAX_PERIODS
-unfolding first
-returns-then-periods-gt-MAX_PERIODS c = rw (ne_eqb _ _ c.if-n-eq0.false, le-ltb _ _ c.if-n-gt-MAX_SIDE.false, lt-ltb _ _ c.if-periods-gt-MAX_PERIODS.true)
-
-pub returns-then-periods-lt-MIN_PERIODS : goal.returns-then-periods-lt-MIN_PERIODS
-unfolding first
-returns-then-periods-lt-MIN_PERIODS c = rw (ne_eqb _ _ c.if-n-eq0.false, le-ltb _ _ c.if-n-gt-MAX_SIDE.false, le-ltb _ _ c.if-periods-gt-MAX_PERIODS.false, lt-ltb _ _ c.if-periods-lt-MIN_PERIODS.true)
-
-pub overflow_mul-periods : goal.overflow_mul-periods
-overflow_mul-periods c = Fits-below tt (mul-le-mul c.if-periods-gt-MAX_PERIODS.false c.if-n-gt-MAX_SIDE.false)
-
-pub returns-then-length-periods : goal.returns-then-length-periods
-unfolding first
-returns-then-length-periods c = let l = c in rw (ne_eqb _ _ l.if-n-eq0.false, le-ltb _ _ l.if-n-gt-MAX_SIDE.false, le-ltb _ _ l.if-periods-gt-MAX_PERIODS.false, le-ltb _ _ l.if-periods-lt-MIN_PERIODS.false, ne_eqb _ _ c.if-length-periods.true)
+pub needed-requires : goal.needed-requires
+needed-requires c = (fitting _ _ _ _ _ c.in_ok-check_table.ensures).narrow
 
 pub returns : goal.returns
-unfolding first
 returns c =
-    let l = c in
-    rw (ne_eqb _ _ l.if-n-eq0.false, le-ltb _ _ l.if-n-gt-MAX_SIDE.false, le-ltb _ _ l.if-periods-gt-MAX_PERIODS.false, le-ltb _ _ l.if-periods-lt-MIN_PERIODS.false, eq-eqb _ _ c.if-length-periods.false, ← c.needed.ensures)
-    (c.when.ensures ∙ first_alone _)
+    let a = c.args in
+    c.when.ensures ∙ ap (λ m. when (ltb a.room m) WrongLength) c.needed.ensures ∙ room_answers _ _ _ _ _ _ _ _ _ c.in_ok-check_table.ensures

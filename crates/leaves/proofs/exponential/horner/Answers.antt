@@ -1,5 +1,5 @@
 -- `leaves::exponential::horner` meets its contract. The invariant: the steps that are left, from the present p, give the whole.
-use Rattle.std.proofs.Common.{◌≡◌, ℕ, zero, suc, ◌+◌, ◌-◌, ◌<◌, ◌≤◌, sym, refl, ◌∙◌, lt_irrefl, sub-one, arith}
+use Rattle.std.proofs.Common.{◌≡◌, ℕ, zero, suc, ◌+◌, ◌-◌, ◌<◌, sym, refl, ◌∙◌, lt_irrefl, sub-one, arith}
 use lib.Ieee.{Float, of_bits}
 use Rattle.leaves.specs.Numbers.{◌⊕◌, ◌⊗◌, ◌⊘◌, count, one}
 use Rattle.leaves.specs.Exp.{horner}
@@ -10,31 +10,18 @@ unfolding horner
 turn r d zero p h = absurd (lt_irrefl 0 h)
 turn r d (suc n) p h = rw sub-one
 
-end : (r : Float) (d k : ℕ) (p : Float) → k ≤ 0 → horner r d k p ≡ p
+end : (r : Float) (d k : ℕ) (p : Float) → k < 1 → horner r d k p ≡ p
 unfolding horner
 end r d zero p h = refl
 end r d (suc k) p h = absurd (omega arith)
 
 pub loop-k-init : goal.loop-k-init
 unfolding of_bits
-loop-k-init c = (omega arith, refl)
-
-pub overflow_add-p : goal.overflow_add-p
-overflow_add-p c = omega arith
-
-pub overflow_sub-k : goal.overflow_sub-k
-overflow_sub-k c = omega arith
-
-pub loop-k-smaller : goal.loop-k-smaller
-loop-k-smaller c = omega arith
+loop-k-init c = refl
 
 pub loop-k-preserved : goal.loop-k-preserved
 unfolding of_bits
-loop-k-preserved c =
-    let l = c in
-    (omega arith, turn l.args.r l.args.d l.loop-k.k l.loop-k.p c.loop-k-test.true ∙ l.loop-k.invariant.1)
+loop-k-preserved c = turn c.args.r c.args.d c.loop-k.k c.loop-k.p c.loop-k-test.true ∙ c.loop-k.invariant
 
 pub returns : goal.returns
-returns c =
-    let l = c in
-    sym (end l.args.r l.args.d l.loop-k.k l.loop-k.p c.loop-k-test.false) ∙ l.loop-k.invariant.1
+returns c = sym (end c.args.r c.args.d c.loop-k.k c.loop-k.p c.loop-k-test.false) ∙ c.loop-k.invariant

@@ -15,28 +15,9 @@ unfolding series
 end z zero q h = refl
 end z (suc k) q h = absurd (omega arith)
 
-pub loop-k-init : goal.loop-k-init
-loop-k-init c = (omega arith, refl)
-
-pub overflow_sub-k : goal.overflow_sub-k
-overflow_sub-k c = omega arith
-
-pub overflow_mul-q : goal.overflow_mul-q
-overflow_mul-q c = omega arith
-
-pub overflow_add-q : goal.overflow_add-q
-overflow_add-q c = omega arith
-
-pub loop-k-smaller : goal.loop-k-smaller
-loop-k-smaller c = omega arith
-
 pub loop-k-preserved : goal.loop-k-preserved
 unfolding of_bits
-loop-k-preserved c =
-    let l = c in
-    (omega arith, turn l.args.z l.loop-k.k l.loop-k.q c.loop-k-test.true ∙ l.loop-k.invariant.1)
+loop-k-preserved c = turn c.args.z c.loop-k.k c.loop-k.q c.loop-k-test.true ∙ c.loop-k.invariant
 
 pub returns : goal.returns
-returns c =
-    let l = c in
-    sym (end l.args.z l.loop-k.k l.loop-k.q c.loop-k-test.false) ∙ l.loop-k.invariant.1
+returns c = sym (end c.args.z c.loop-k.k c.loop-k.q c.loop-k-test.false) ∙ c.loop-k.invariant

@@ -1,20 +1,18 @@
--- `leaves::scaling::cut` meets its contract: each arm returns what `cond` picks at the arm's test. The machine reads k back from its bits, which is k.
-use Rattle.std.proofs.Common.{to_z-of_z}
+-- `leaves::scaling::cut` meets its contract: std's clamp tests the upper bound first. The machine reads k and the result back from their bits.
+use Rattle.std.proofs.Common.{◌≡◌, Bool, true, false, cond, ltb, ℤ, pos, negsuc, refl, ap, ◌∙◌, to_z-of_z}
+use Rattle.std.specs.Int.{int_max, int_min}
 use Rattle.leaves.specs.Scaling.{cut}
+use Rattle.leaves.proofs.Ints.{back_i32}
 use Rattle.leaves.proofs.scaling.cut.Goals as goal
 
-pub returns-then-k-ltminus1022 : goal.returns-then-k-ltminus1022
+clamped : (k : ℤ) → int_max (negsuc 1021) (int_min k (pos 1023)) ≡ cut k
 unfolding cut
-returns-then-k-ltminus1022 c = rw (rw (to_z-of_z c.ranges.k) at c.if-k-ltminus1022.true)
+clamped (pos n) = go (ltb 1023 n)
+  where
+    go : (t : Bool) → int_max (negsuc 1021) (cond t (pos 1023) (pos n)) ≡ cond t (pos 1023) (pos n)
+    go true = refl
+    go false = refl
+clamped (negsuc n) = refl
 
-pub returns-then-k-gt1023 : goal.returns-then-k-gt1023
-unfolding cut
-returns-then-k-gt1023 c =
-    let k = to_z-of_z c.ranges.k in
-    rw (rw k at c.if-k-ltminus1022.false, rw k at c.if-k-gt1023.true)
-
-pub returns-else-k-gt1023 : goal.returns-else-k-gt1023
-unfolding cut
-returns-else-k-gt1023 c =
-    let k = to_z-of_z c.ranges.k in
-    rw (rw k at c.if-k-ltminus1022.false, rw k at c.if-k-gt1023.false, k)
+pub returns : goal.returns
+returns c = back_i32 _ c.clamp.type_inv ∙ c.clamp.ensures.value ∙ clamped _ ∙ ap cut (to_z-of_z c.ranges.k)

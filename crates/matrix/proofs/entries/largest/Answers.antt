@@ -1,16 +1,14 @@
--- `matrix::entries::largest` meets its contract. The invariant: the largest of the numbers passed.
-use native.Mathlib.Omega.{arith}
-use Rattle.leaves.specs.Loops.{max_to, nth}
-use Rattle.leaves.proofs.Invariants.{loop_turn, loop_start, at_end}
+-- `matrix::entries::largest` meets its contract: the fold is the definition's loop.
+use Rattle.std.proofs.Common.{rules, ◌≡◌, ◌∙◌}
+use Rattle.std.specs.List.{fold}
+use Rattle.leaves.specs.Numbers.{larger}
+use Rattle.leaves.specs.Loops.{nth, max_to}
+use Rattle.matrix.proofs.Folds.{fold_is}
 use Rattle.matrix.proofs.entries.largest.Goals as goal
 
-pub loop-i-init : goal.loop-i-init
-unfolding max_to
-loop-i-init c = (omega arith, loop_start _ _)
-
-pub loop-i-preserved : goal.loop-i-preserved
-unfolding max_to
-loop-i-preserved c = (omega arith, loop_turn _ _ _ _ _ c.loop-i.invariant.1 c.larger-m.ensures)
-
 pub returns : goal.returns
-returns c = at_end (λ k. max_to k (nth c.args.values.now)) _ _ _ c.loop-i.invariant.1 c.loop-i.invariant.0 c.loop-i-test.false
+unfolding max_to
+returns c =
+    let l = c.args.values.now in
+    let run : c.fold.result ≡ fold larger (nth l 0) l = search rules in
+    run ∙ fold_is larger (nth l 0) l

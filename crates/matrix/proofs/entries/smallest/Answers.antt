@@ -1,16 +1,14 @@
--- `matrix::entries::smallest` meets its contract. The invariant: the smallest of the numbers passed.
-use native.Mathlib.Omega.{arith}
-use Rattle.leaves.specs.Loops.{min_to, nth}
-use Rattle.leaves.proofs.Invariants.{loop_turn, loop_start, at_end}
+-- `matrix::entries::smallest` meets its contract: the fold is the definition's loop.
+use Rattle.std.proofs.Common.{rules, ◌≡◌, ◌∙◌}
+use Rattle.std.specs.List.{fold}
+use Rattle.leaves.specs.Numbers.{smaller}
+use Rattle.leaves.specs.Loops.{nth, min_to}
+use Rattle.matrix.proofs.Folds.{fold_is}
 use Rattle.matrix.proofs.entries.smallest.Goals as goal
 
-pub loop-i-init : goal.loop-i-init
-unfolding min_to
-loop-i-init c = (omega arith, loop_start _ _)
-
-pub loop-i-preserved : goal.loop-i-preserved
-unfolding min_to
-loop-i-preserved c = (omega arith, loop_turn _ _ _ _ _ c.loop-i.invariant.1 c.smaller-m.ensures)
-
 pub returns : goal.returns
-returns c = at_end (λ k. min_to k (nth c.args.values.now)) _ _ _ c.loop-i.invariant.1 c.loop-i.invariant.0 c.loop-i-test.false
+unfolding min_to
+returns c =
+    let l = c.args.values.now in
+    let run : c.fold.result ≡ fold smaller (nth l 0) l = search rules in
+    run ∙ fold_is smaller (nth l 0) l

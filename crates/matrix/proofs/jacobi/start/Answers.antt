@@ -22,17 +22,17 @@ pub loop-k-init : goal.loop-k-init
 loop-k-init c = filled_none _ _ _
 
 pub get-requires : goal.get-requires
-get-requires c = (row_below _ _ _ c.loop-k-test.true, col_below _ _ _ c.loop-k-test.true, c.requires.0)
+get-requires c = (row_below c.loop-k.k c.args.n c.args.n (omega arith), col_below c.loop-k.k c.args.n c.args.n (omega arith), c.requires.0)
 
 pub get-requires-in-loop-k : goal.get-requires-in-loop-k
-get-requires-in-loop-k c = (col_below _ _ _ c.loop-k-test.true, row_below _ _ _ c.loop-k-test.true, c.requires.0)
+get-requires-in-loop-k c =
+    let i = row_below c.loop-k.k c.args.n c.args.n (omega arith) in
+    let j = col_below c.loop-k.k c.args.n c.args.n (omega arith) in
+    (omega (arith, i, j), omega (arith, i, j), c.requires.0)
 
 pub loop-k-preserved : goal.loop-k-preserved
 unfolding of_bits
-loop-k-preserved c = let scale = c.args.scale in filled_more c.loop-k.invariant c.loop-k-test.true (omega arith) (λ t. ((zero⁺ ⊕ c.get.ensures t ⊘ scale) ⊕ (zero⁺ ⊕ c.get-in-loop-k.ensures t ⊘ scale)) ⊗ half)
-
-pub shape_of-out : goal.shape_of-out
-shape_of-out c = c.loop-k.invariant.len
+loop-k-preserved c = let scale = c.args.scale in filled_more c.loop-k.invariant (omega arith) (omega arith) (λ t. ((zero⁺ ⊕ c.get.ensures t ⊘ scale) ⊕ (zero⁺ ⊕ c.get-in-loop-k.ensures t ⊘ scale)) ⊗ half)
 
 pub returns : goal.returns
-returns c = let a = c.args in begun a.n a.scale (at a.a.now a.n) (filled_rows (symmetrized (scaled_entry a.scale (at a.a.now a.n))) a.n c.loop-k.invariant c.loop-k-test.false c.requires.1) c.requires.2
+returns c = let a = c.args in begun a.n a.scale (at a.a.now a.n) (filled_rows (symmetrized (scaled_entry a.scale (at a.a.now a.n))) a.n c.loop-k.invariant (omega arith) c.requires.1) c.requires.2

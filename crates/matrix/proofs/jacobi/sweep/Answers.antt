@@ -1,5 +1,5 @@
 -- `matrix::jacobi::sweep` meets its contract. The invariant: the rows swept so far, whatever was counted before.
-use mathlib.Core.Path.{◌≡◌, refl, sym, ap, ◌∙◌}
+use mathlib.Core.Path.{◌≡◌, sym, ap, ◌∙◌}
 use mathlib.Core.List.{List}
 use Prim.Native.Nat.{ℕ, suc, ◌≤◌, ◌<◌, ◌-◌, ◌+◌, ◌*◌}
 use native.Mathlib.Nat.{add-zero, add_assoc, le_refl}
@@ -25,22 +25,22 @@ next : (n p k r r' : ℕ) (a v : List Float) {a' v' : List Float} → ((k : ℕ)
 next n p k r r' a v {a'} {v'} h = ap (state a' v') (sym (add_assoc k r r')) ∙ h (k + r)
 
 pub loop-p-init : goal.loop-p-init
-loop-p-init c = (omega arith, refl, refl, λ k. ap (state _ _) (add-zero k) ∙ loop_start _ _)
+loop-p-init c = λ k. ap (state _ _) (add-zero k) ∙ loop_start _ _
 
 pub sweep_row-rotations-requires : goal.sweep_row-rotations-requires
 sweep_row-rotations-requires c =
     let l = c in
     let i = l in
-    (omega arith, i.requires.0, search rules, search rules, rows_symmetric _ _ _ i.requires.1 i.requires.3 _ (l.loop-p.invariant.3 0))
+    (omega arith, i.requires.0, search rules, search rules, rows_symmetric _ _ _ i.requires.1 i.requires.3 _ (l.loop-p.invariant 0))
 
 pub overflow_add-rotations : goal.overflow_add-rotations
 overflow_add-rotations c =
     let l = c in
-    omega (arith, room _ _ _ _ c.loop-p-test.true l.requires.0 (rows_count _ _ _ _ (l.loop-p.invariant.3 0)) (row_count _ _ _ _ _ (c.sweep_row-rotations.ensures 0) (le_refl _)))
+    omega (arith, room _ _ _ _ c.loop-p-test.true l.requires.0 (rows_count _ _ _ _ (l.loop-p.invariant 0)) (row_count _ _ _ _ _ (c.sweep_row-rotations.ensures 0) (le_refl _)))
 
 pub loop-p-preserved : goal.loop-p-preserved
-loop-p-preserved c = (omega arith, search rules, search rules, λ k. loop_turn _ _ _ _ _ (c.loop-p.invariant.3 k) (next _ _ _ _ _ _ _ c.sweep_row-rotations.ensures))
+loop-p-preserved c = λ k. loop_turn _ _ _ _ _ (c.loop-p.invariant k) (next _ _ _ _ _ _ _ c.sweep_row-rotations.ensures)
 
 pub returns : goal.returns
 unfolding sweep
-returns c = λ k. loop_end _ _ _ _ _ (c.loop-p.invariant.3 k) (omega arith)
+returns c = λ k. loop_end _ _ _ _ _ (c.loop-p.invariant k) (omega arith)

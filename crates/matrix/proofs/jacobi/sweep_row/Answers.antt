@@ -1,44 +1,56 @@
 -- `matrix::jacobi::sweep_row` meets its contract. The invariant: the rotations made so far, whatever was counted before.
-use mathlib.Core.Path.{◌≡◌, refl, ap, ◌∙◌}
+use mathlib.Core.Path.{◌≡◌, ap, ◌∙◌}
 use mathlib.Core.Bool.{Bool, true, false}
 use mathlib.Core.List.{List}
-use Prim.Native.Nat.{ℕ, suc, ◌+◌}
-use native.Mathlib.Nat.{add-zero, add-suc}
+use Prim.Native.Nat.{ℕ, suc, ◌+◌, ◌-◌, ◌≤◌, ◌<◌}
+use native.Mathlib.Nat.{add-zero}
 use native.Mathlib.Omega.{arith}
 use borrow.Author.Rules.{rules}
 use lib.Ieee.{Float}
+use Rattle.std.specs.Int.{from_bool}
+use Rattle.leaves.specs.Loops.{loop}
 use Rattle.leaves.proofs.Invariants.{loop_turn, loop_end, loop_start}
-use Rattle.matrix.specs.Rotation.{rotate}
+use Rattle.matrix.specs.Rotation.{State, rotate}
 use Rattle.matrix.specs.Inner.{state, counted}
 use Rattle.matrix.proofs.Rotations.{row_count}
 use Rattle.matrix.proofs.Symmetry.{row_symmetric}
 use Rattle.matrix.proofs.jacobi.sweep_row.Goals as goal
 
-count-after : (t : Bool) (k r : ℕ) → k + counted t r ≡ counted t (k + r)
-count-after true k r = add-suc k r
-count-after false k r = refl
+count : (t : Bool) (k r : ℕ) → k + (r + from_bool t) ≡ counted t (k + r)
+count true k r = omega arith
+count false k r = omega arith
+
+at_most_one : (t : Bool) → from_bool t ≤ 1
+at_most_one true = omega arith
+at_most_one false = omega arith
 
 -- a rotation more
-next : (n p j k r : ℕ) (t : Bool) (a v : List Float) {a' v' : List Float} {r' : ℕ} → r' ≡ counted t r
-    → ((k : ℕ) → state a' v' (counted t k) ≡ rotate n p (p + 1 + j) (state a v k)) → state a' v' (k + r') ≡ rotate n p (suc p + j) (state a v (k + r))
-next n p j k r t a v {a'} {v'} e h =
-    let q : p + 1 + j ≡ suc p + j = omega arith in
-    ap (state a' v') (ap (λ (r : ℕ). k + r) e ∙ count-after t k r) ∙ h (k + r) ∙ ap (λ (j : ℕ). rotate n p j (state a v (k + r))) q
+next : (n p q r : ℕ) (t : Bool) (a v : List Float) {a' v' : List Float} {b : ℕ} (s : ℕ → State) → p < q → b ≡ from_bool t
+    → ((k : ℕ) → state a v (k + r) ≡ loop (q - suc p) (λ j. rotate n p (suc p + j)) (s k))
+    → ((k : ℕ) → state a' v' (counted t k) ≡ rotate n p q (state a v k)) → (k : ℕ) → state a' v' (k + (r + b)) ≡ loop (q + 1 - suc p) (λ j. rotate n p (suc p + j)) (s k)
+next n p q r t a v {a'} {v'} {b} s h e before made k =
+    let j = q - suc p in
+    let here : q ≡ suc p + j = omega arith in
+    let more : j + 1 ≡ q + 1 - suc p = omega arith in
+    let turned = ap (λ (b : ℕ). state a' v' (k + (r + b))) e ∙ ap (state a' v') (count t k r) ∙ made (k + r) ∙ ap (λ (q : ℕ). rotate n p q (state a v (k + r))) here in
+    loop_turn (λ j. rotate n p (suc p + j)) j (s k) (state a v (k + r)) (state a' v' (k + (r + b))) (before k) turned
+    ∙ ap (λ (j : ℕ). loop j (λ j. rotate n p (suc p + j)) (s k)) more
 
-pub loop-j-init : goal.loop-j-init
-loop-j-init c = (omega arith, refl, refl, λ k. ap (state _ _) (add-zero k) ∙ loop_start _ _)
+-- none yet
+begun : (p : ℕ) (f : ℕ → State → State) (s : State) → s ≡ loop (p + 1 - suc p) f s
+begun p f s = let none : 0 ≡ p + 1 - suc p = omega arith in loop_start f s ∙ ap (λ (j : ℕ). loop j f s) none
 
-pub rotate-turned-requires : goal.rotate-turned-requires
-rotate-turned-requires c =
-    let l = c in
-    let i = l in
-    (omega arith, omega arith, search rules, search rules, row_symmetric _ _ _ i.requires.2 i.requires.4 _ _ (l.loop-j.invariant.3 0) (omega arith))
+pub loop-q-init : goal.loop-q-init
+loop-q-init c = λ k. ap (state _ _) (add-zero k) ∙ begun c.args.p _ _
 
-pub count-rotations-requires : goal.count-rotations-requires
-count-rotations-requires c = omega (arith, row_count _ _ _ _ _ (c.loop-j.invariant.3 0) (omega arith))
+pub rotate-requires : goal.rotate-requires
+rotate-requires c = (omega arith, omega arith, search rules, search rules, row_symmetric _ _ _ c.requires.2 c.requires.4 _ _ (c.loop-q.invariant 0) (omega arith))
 
-pub loop-j-preserved : goal.loop-j-preserved
-loop-j-preserved c = (omega arith, search rules, search rules, λ k. loop_turn _ _ _ _ _ (c.loop-j.invariant.3 k) (next _ _ _ _ _ c.rotate-turned.result _ _ c.count-rotations.ensures c.rotate-turned.ensures))
+pub overflow_add-rotations : goal.overflow_add-rotations
+overflow_add-rotations c = omega (arith, c.from-rotations.ensures, at_most_one c.rotate.result, row_count _ _ _ _ _ (c.loop-q.invariant 0) (omega arith))
+
+pub loop-q-preserved : goal.loop-q-preserved
+loop-q-preserved c = next _ _ _ _ c.rotate.result _ _ _ (omega arith) c.from-rotations.ensures c.loop-q.invariant c.rotate.ensures
 
 pub returns : goal.returns
-returns c = λ k. loop_end _ _ _ _ _ (c.loop-j.invariant.3 k) (omega arith)
+returns c = λ k. loop_end _ _ _ _ _ (c.loop-q.invariant k) (omega arith)

@@ -14,6 +14,3 @@ differs a n tolerance i j = lt tolerance (abs (at a n i j ⊖ at a n j i))
 
 abbrev pub invariant-loop-k : goal.invariant-loop-k
 invariant-loop-k l = (l.k ≤ l.n * l.n) × (first_to l.k (λ j. differs l.a l.n l.tolerance (j / l.n) (j % l.n)) ≡ none)
-
-abbrev pub decreases-loop-k : goal.decreases-loop-k
-decreases-loop-k l = l.n * l.n - l.k

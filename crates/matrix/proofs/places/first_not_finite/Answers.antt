@@ -1,30 +1,26 @@
--- `matrix::places::first_not_finite` meets its contract. The invariant: every number passed is finite.
-use mathlib.Core.Path.{◌≡◌, sym, ap, ◌∙◌}
-use mathlib.Core.Bool.{Bool, not}
-use mathlib.Core.List.{List}
-use Prim.Native.Nat.{ℕ, ◌/◌, ◌%◌}
-use native.Mathlib.Omega.{arith}
+-- `matrix::places::first_not_finite` meets its contract: `position` finds the first number that is not finite.
+use Rattle.std.proofs.Common.{◌≡◌, ℕ, rules, true, false, Bool, not, List, ap, ◌∙◌}
+use Rattle.std.proofs.lemmas.Iterator.{IsFirst-from_position, YieldsList-from_slice}
+use borrow.Author.Tests.{tests}
 use lib.Ieee.{Float}
 use Rattle.leaves.specs.Numbers.{is_finite}
-use Rattle.leaves.specs.Loops.{nth}
-use Rattle.leaves.proofs.Search.{first_none, first_more}
-use Rattle.matrix.proofs.First.{entry_at_cell, entry_nowhere}
+use Rattle.matrix.specs.Matrix.{at}
+use Rattle.matrix.specs.Places.{placed}
+use Rattle.matrix.proofs.First.{at_position, at_no_position}
 use Rattle.matrix.proofs.Stored.{entry_at}
 use Rattle.matrix.proofs.places.first_not_finite.Goals as goal
-use Rattle.matrix.proofs.places.first_not_finite.Invariants.{bad}
 
--- the test at number k, by what the code found
-bad-at : (a : List Float) (n k : ℕ) {r t : Bool} → r ≡ is_finite (nth a k) → not r ≡ t → bad a n (k / n) (k % n) ≡ t
-bad-at a n k e h = ap (λ (x : Float). not (is_finite x)) (entry_at a n k) ∙ ap not (sym e) ∙ h
+abbrev bad : Float → Bool
+bad x = not (is_finite x)
 
-pub loop-k-init : goal.loop-k-init
-loop-k-init c = (omega arith, first_none _)
-
-pub returns-then-not-is_finite : goal.returns-then-not-is_finite
-returns-then-not-is_finite c = let a = c.args in entry_at_cell (bad a.a.now a.n) a.m a.n _ c.loop-k.invariant.1 (bad-at a.a.now a.n _ c.is_finite.ensures (ap not c.if-not-is_finite.true)) (omega arith)
-
-pub loop-k-preserved : goal.loop-k-preserved
-loop-k-preserved c = let a = c.args in (omega arith, first_more _ _ c.loop-k.invariant.1 (bad-at a.a.now a.n _ c.is_finite.ensures (ap not c.if-not-is_finite.false)))
+pub returns-in_err-k : goal.returns-in_err-k
+returns-in_err-k c =
+    let a = c.args in
+    ap placed c.from_residual.ensures ∙ at_no_position bad a.a.now (λ i j. bad (at a.a.now a.n i j)) a.m a.n (λ k. ap bad (entry_at a.a.now a.n k)) c.requires c.in_err-k.was
+    (IsFirst-from_position _ _ _ (λ x. bad x ≡ true) (λ x. bad x ≡ false) c.position.ensures.ran (YieldsList-from_slice a.a.now cc) (λ x q k. search (rules, tests)) (λ x q k. search (rules, tests)))
 
 pub returns : goal.returns
-returns c = let a = c.args in entry_nowhere (bad a.a.now a.n) a.m a.n _ c.loop-k.invariant.1 (omega arith) (omega arith)
+returns c =
+    let a = c.args in
+    at_position bad a.a.now (λ i j. bad (at a.a.now a.n i j)) a.m a.n (λ k. ap bad (entry_at a.a.now a.n k)) c.requires c.in_ok-k.was
+    (IsFirst-from_position _ _ _ (λ x. bad x ≡ true) (λ x. bad x ≡ false) c.position.ensures.ran (YieldsList-from_slice a.a.now cc) (λ x q k. search (rules, tests)) (λ x q k. search (rules, tests)))

@@ -1,12 +1,8 @@
 use mathlib.Core.Path.{◌≡◌}
-use Prim.Native.Nat.{◌≤◌, ◌-◌, ◌+◌, ◌*◌}
-use lib.ListN.{length}
+use Prim.Native.Nat.{◌+◌, ◌*◌}
 use Rattle.leaves.specs.Loops.{loop}
 use Rattle.matrix.specs.Rotation.{turn}
 use Rattle.matrix.proofs.rotation.turn_columns.Given as goal
 
 abbrev pub invariant-loop-k : goal.invariant-loop-k
-invariant-loop-k l = (l.k ≤ l.n) × (l.a ≡ loop l.k (λ k. turn l.c l.s (k * l.n + l.p) (k * l.n + l.q)) l.initial.a) × (length l.a ≡ length l.initial.a)
-
-abbrev pub decreases-loop-k : goal.decreases-loop-k
-decreases-loop-k l = l.n - l.k
+invariant-loop-k l = l.a ≡ loop l.k (λ k. turn l.c l.s (k * l.n + l.p) (k * l.n + l.q)) l.initial.a

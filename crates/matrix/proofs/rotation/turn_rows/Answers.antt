@@ -1,7 +1,5 @@
 -- `matrix::rotation::turn_rows` meets its contract. The invariant: the columns passed are turned.
-use mathlib.Core.Path.{refl}
 use native.Mathlib.Omega.{arith}
-use borrow.Author.Rules.{rules}
 use Rattle.leaves.proofs.Invariants.{loop_turn, loop_end, loop_start}
 use Rattle.leaves.proofs.Cells.{row}
 use Rattle.matrix.specs.Rotation.{turn_rows}
@@ -14,11 +12,11 @@ pub overflow_mul-qn : goal.overflow_mul-qn
 overflow_mul-qn c = omega (arith, row _ _ c.args.n c.requires.1)
 
 pub loop-k-init : goal.loop-k-init
-loop-k-init c = (omega arith, loop_start _ _, refl, row _ _ _ c.requires.0, row _ _ _ c.requires.1)
+loop-k-init c = (loop_start _ _, row _ _ _ c.requires.0, row _ _ _ c.requires.1)
 
 pub loop-k-preserved : goal.loop-k-preserved
-loop-k-preserved c = (omega arith, loop_turn _ _ _ _ _ c.loop-k.invariant.1 c.turn.ensures, search rules, c.loop-k.invariant.3, c.loop-k.invariant.4)
+loop-k-preserved c = (loop_turn _ _ _ _ _ c.loop-k.invariant.0 c.turn.ensures, c.loop-k.invariant.1, c.loop-k.invariant.2)
 
 pub returns : goal.returns
 unfolding turn_rows
-returns c = loop_end _ _ _ _ _ c.loop-k.invariant.1 (omega arith)
+returns c = loop_end _ _ _ _ _ c.loop-k.invariant.0 (omega arith)

@@ -8,11 +8,11 @@ use Rattle.matrix.proofs.sums.off_diagonal.Goals as goal
 
 pub loop-p-init : goal.loop-p-init
 unfolding of_bits
-loop-p-init c = (omega arith, loop_start _ _)
+loop-p-init c = loop_start _ _
 
 pub loop-p-preserved : goal.loop-p-preserved
-loop-p-preserved c = (omega arith, loop_turn _ _ _ _ _ c.loop-p.invariant.1 c.off_row-s.ensures)
+loop-p-preserved c = loop_turn _ _ _ _ _ c.loop-p.invariant c.off_row-s.ensures
 
 pub returns : goal.returns
 unfolding off_diagonal sum_over
-returns c = loop_end _ _ _ _ _ c.loop-p.invariant.1 (omega arith)
+returns c = loop_end _ _ _ _ _ c.loop-p.invariant (omega arith)

@@ -1,5 +1,4 @@
 use mathlib.Core.Path.{◌≡◌}
-use Prim.Native.Nat.{◌≤◌, ◌-◌}
 use lib.Dec.{ltb}
 use Rattle.leaves.specs.Numbers.{zero⁺}
 use Rattle.leaves.specs.Loops.{loop}
@@ -7,7 +6,4 @@ use Rattle.matrix.specs.Matrix.{at, squared, sum_row}
 use Rattle.matrix.proofs.sums.off_diagonal.Given as goal
 
 abbrev pub invariant-loop-p : goal.invariant-loop-p
-invariant-loop-p l = (l.p ≤ l.n) × (l.s ≡ loop l.p (sum_row l.n ltb (squared (at l.a l.n))) zero⁺)
-
-abbrev pub decreases-loop-p : goal.decreases-loop-p
-decreases-loop-p l = l.n - l.p
+invariant-loop-p l = l.s ≡ loop l.p (sum_row l.n ltb (squared (at l.a l.n))) zero⁺

@@ -16,10 +16,10 @@ more : (a : List Float) (n p q : ℕ) (s : Float) {x : Float} → x ≡ at a n p
 more a n p q s e h = (λ t. s ⊕ e t ⊗ e t) ∙ above_more (squared (at a n)) p q s h
 
 pub loop-q-init : goal.loop-q-init
-loop-q-init c = let a = c.args in (omega arith, omega arith, above_none (squared (at a.a.now a.n)) _ _)
+loop-q-init c = let a = c.args in above_none (squared (at a.a.now a.n)) _ _
 
 pub loop-q-preserved : goal.loop-q-preserved
-loop-q-preserved c = let a = c.args in let i = c.loop-q.invariant in (omega arith, omega arith, loop_turn (add_kept ltb (squared (at a.a.now a.n)) a.p) _ _ _ _ i.2 (more a.a.now a.n a.p _ _ c.get-x.ensures i.0))
+loop-q-preserved c = let a = c.args in loop_turn (add_kept ltb (squared (at a.a.now a.n)) a.p) _ _ _ _ c.loop-q.invariant (more a.a.now a.n a.p _ _ c.get-x.ensures (omega arith))
 
 pub returns : goal.returns
-returns c = let a = c.args in at_end (λ k. sum_row k ltb (squared (at a.a.now a.n)) a.p a.sum) _ _ _ c.loop-q.invariant.2 c.loop-q.invariant.1 c.loop-q-test.false
+returns c = let a = c.args in at_end (λ k. sum_row k ltb (squared (at a.a.now a.n)) a.p a.sum) _ _ _ c.loop-q.invariant (omega arith) (omega arith)

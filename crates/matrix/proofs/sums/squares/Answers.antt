@@ -9,13 +9,13 @@ use Rattle.matrix.specs.Matrix.{squares}
 use Rattle.matrix.proofs.SumOver.{sum_stored}
 use Rattle.matrix.proofs.sums.squares.Goals as goal
 
-pub loop-k-init : goal.loop-k-init
+pub loop-x-init : goal.loop-x-init
 unfolding of_bits
-loop-k-init c = (omega arith, sum_none _)
+loop-x-init c = sum_none _
 
-pub loop-k-preserved : goal.loop-k-preserved
-loop-k-preserved c = (omega arith, sum_turn _ _ _ _ c.loop-k.invariant.1 refl)
+pub loop-x-preserved : goal.loop-x-preserved
+loop-x-preserved c = sum_turn _ _ _ _ c.loop-x.invariant refl
 
 pub returns : goal.returns
 unfolding squares
-returns c = let a = c.args.a.now in sum_stored (λ x. x ⊗ x) a c.args.n (at_end (λ k. sum_to k (λ k. nth a k ⊗ nth a k)) _ _ _ c.loop-k.invariant.1 c.loop-k.invariant.0 c.loop-k-test.false) c.requires
+returns c = let a = c.args.a.now in sum_stored (λ x. x ⊗ x) a c.args.n (at_end (λ k. sum_to k (λ k. nth a k ⊗ nth a k)) _ _ _ c.loop-x.invariant (omega arith) (omega arith)) c.requires

@@ -10,11 +10,11 @@ use Rattle.matrix.proofs.sums.trace.Goals as goal
 
 pub loop-i-init : goal.loop-i-init
 unfolding of_bits
-loop-i-init c = (omega arith, sum_none _)
+loop-i-init c = sum_none _
 
 pub loop-i-preserved : goal.loop-i-preserved
-loop-i-preserved c = (omega arith, sum_turn _ _ _ _ c.loop-i.invariant.1 (ap (λ (y : Float). c.loop-i.s ⊕ y) c.get-s.ensures))
+loop-i-preserved c = sum_turn _ _ _ _ c.loop-i.invariant (ap (λ (y : Float). c.loop-i.s ⊕ y) c.get-s.ensures)
 
 pub returns : goal.returns
 unfolding trace
-returns c = let a = c.args in at_end (λ k. sum_to k (λ k. at a.a.now a.n k k)) _ _ _ c.loop-i.invariant.1 c.loop-i.invariant.0 c.loop-i-test.false
+returns c = let a = c.args in at_end (λ k. sum_to k (λ k. at a.a.now a.n k k)) _ _ _ c.loop-i.invariant (omega arith) (omega arith)

@@ -1,5 +1,5 @@
 use mathlib.Core.Path.{◌≡◌}
-use Prim.Native.Nat.{◌≤◌, ◌-◌, ◌+◌, ◌*◌}
+use Prim.Native.Nat.{◌≤◌, ◌+◌, ◌*◌}
 use lib.ListN.{length}
 use Rattle.leaves.specs.Loops.{loop}
 use Rattle.matrix.proofs.Symmetry.{copied}
@@ -7,6 +7,3 @@ use Rattle.matrix.proofs.symmetric.mirror.Given as goal
 
 abbrev pub invariant-loop-k : goal.invariant-loop-k
 invariant-loop-k l = (l.k ≤ l.n) × (l.a ≡ loop l.k (copied l.n l.p l.q) l.initial.a) × (length l.a ≡ length l.initial.a) × (l.pn + l.n ≤ l.n * l.n) × (l.qn + l.n ≤ l.n * l.n)
-
-abbrev pub decreases-loop-k : goal.decreases-loop-k
-decreases-loop-k l = l.n - l.k

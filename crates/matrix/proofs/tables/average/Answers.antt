@@ -12,17 +12,14 @@ pub loop-k-init : goal.loop-k-init
 loop-k-init c = filled_none _ _ _
 
 pub get-requires : goal.get-requires
-get-requires c = (row_below _ _ _ c.loop-k-test.true, col_below _ _ _ c.loop-k-test.true, c.requires.0)
+get-requires c = (row_below c.loop-k.k c.args.n c.args.n (omega arith), col_below c.loop-k.k c.args.n c.args.n (omega arith), c.requires.0)
 
 pub get-requires-in-loop-k : goal.get-requires-in-loop-k
-get-requires-in-loop-k c = (col_below _ _ _ c.loop-k-test.true, row_below _ _ _ c.loop-k-test.true, c.requires.0)
+get-requires-in-loop-k c = (col_below c.loop-k.k c.args.n c.args.n (omega arith), row_below c.loop-k.k c.args.n c.args.n (omega arith), c.requires.0)
 
 pub loop-k-preserved : goal.loop-k-preserved
 unfolding of_bits
-loop-k-preserved c = filled_more c.loop-k.invariant c.loop-k-test.true (omega arith) (λ t. (c.get.ensures t ⊕ c.get-in-loop-k.ensures t) ⊘ two)
-
-pub shape_of-out : goal.shape_of-out
-shape_of-out c = c.loop-k.invariant.len
+loop-k-preserved c = filled_more c.loop-k.invariant (omega arith) (omega arith) (λ t. (c.get.ensures t ⊕ c.get-in-loop-k.ensures t) ⊘ two)
 
 pub returns : goal.returns
-returns c = let a = c.args in filled_rows (averaged (at a.a.now a.n)) a.n c.loop-k.invariant c.loop-k-test.false c.requires.1
+returns c = let a = c.args in filled_rows (averaged (at a.a.now a.n)) a.n c.loop-k.invariant (omega arith) c.requires.1

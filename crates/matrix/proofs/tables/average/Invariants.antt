@@ -1,10 +1,7 @@
-use Prim.Native.Nat.{◌-◌, ◌*◌, ◌/◌, ◌%◌}
+use Prim.Native.Nat.{◌*◌, ◌/◌, ◌%◌}
 use Rattle.leaves.proofs.Invariants.{Filled}
 use Rattle.matrix.specs.Matrix.{at, averaged}
 use Rattle.matrix.proofs.tables.average.Given as goal
 
 abbrev pub invariant-loop-k : goal.invariant-loop-k
 invariant-loop-k l = Filled (λ k. averaged (at l.a l.n) (k / l.n) (k % l.n)) l.k (l.n * l.n) l.initial.out l.out
-
-abbrev pub decreases-loop-k : goal.decreases-loop-k
-decreases-loop-k l = l.n * l.n - l.k

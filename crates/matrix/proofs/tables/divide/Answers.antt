@@ -12,10 +12,7 @@ pub loop-k-init : goal.loop-k-init
 loop-k-init c = filled_none _ _ _
 
 pub loop-k-preserved : goal.loop-k-preserved
-loop-k-preserved c = let a = c.args in filled_more c.loop-k.invariant c.loop-k-test.true (omega arith) (λ t. sym (entry_at a.a.now a.n c.loop-k.k) t ⊘ a.scale)
-
-pub shape_of-out : goal.shape_of-out
-shape_of-out c = c.loop-k.invariant.len
+loop-k-preserved c = let a = c.args in filled_more c.loop-k.invariant (omega arith) (omega arith) (λ t. sym (entry_at a.a.now a.n c.loop-k.k) t ⊘ a.scale)
 
 pub returns : goal.returns
-returns c = let a = c.args in filled_rows (divided (at a.a.now a.n) a.scale) a.n c.loop-k.invariant c.loop-k-test.false c.requires.1
+returns c = let a = c.args in filled_rows (divided (at a.a.now a.n) a.scale) a.n c.loop-k.invariant (omega arith) c.requires.1

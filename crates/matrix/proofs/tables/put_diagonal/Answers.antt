@@ -8,10 +8,7 @@ pub loop-i-init : goal.loop-i-init
 loop-i-init c = filled_none _ _ _
 
 pub loop-i-preserved : goal.loop-i-preserved
-loop-i-preserved c = filled_more c.loop-i.invariant c.loop-i-test.true (omega arith) (λ t. c.get.ensures t ⊗ c.args.scale)
-
-pub shape_of-out : goal.shape_of-out
-shape_of-out c = c.loop-i.invariant.len
+loop-i-preserved c = filled_more c.loop-i.invariant (omega arith) (omega arith) (λ t. c.get.ensures t ⊗ c.args.scale)
 
 pub returns : goal.returns
-returns c = filled_whole c.loop-i.invariant c.loop-i-test.false c.requires.1
+returns c = filled_whole c.loop-i.invariant (omega arith) c.requires.1

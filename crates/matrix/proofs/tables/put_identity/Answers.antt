@@ -9,10 +9,7 @@ pub loop-k-init : goal.loop-k-init
 loop-k-init c = filled_none _ _ _
 
 pub loop-k-preserved : goal.loop-k-preserved
-loop-k-preserved c = filled_more c.loop-k.invariant c.loop-k-test.true (omega arith) c.identity_entry.ensures
-
-pub shape_of-out : goal.shape_of-out
-shape_of-out c = c.loop-k.invariant.len
+loop-k-preserved c = filled_more c.loop-k.invariant (omega arith) (omega arith) c.identity_entry.ensures
 
 pub returns : goal.returns
-returns c = filled_rows identity _ c.loop-k.invariant c.loop-k-test.false c.requires
+returns c = filled_rows identity _ c.loop-k.invariant (omega arith) c.requires

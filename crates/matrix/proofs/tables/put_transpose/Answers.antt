@@ -10,13 +10,10 @@ pub loop-k-init : goal.loop-k-init
 loop-k-init c = filled_none _ _ _
 
 pub get-requires : goal.get-requires
-get-requires c = (col_below _ _ _ c.loop-k-test.true, row_below _ _ _ c.loop-k-test.true, c.requires.0)
+get-requires c = (col_below c.loop-k.k c.args.n c.args.n (omega arith), row_below c.loop-k.k c.args.n c.args.n (omega arith), c.requires.0)
 
 pub loop-k-preserved : goal.loop-k-preserved
-loop-k-preserved c = filled_more c.loop-k.invariant c.loop-k-test.true (omega arith) c.get.ensures
-
-pub shape_of-out : goal.shape_of-out
-shape_of-out c = c.loop-k.invariant.len
+loop-k-preserved c = filled_more c.loop-k.invariant (omega arith) (omega arith) c.get.ensures
 
 pub returns : goal.returns
-returns c = let a = c.args in filled_rows (transpose (at a.a.now a.n)) a.n c.loop-k.invariant c.loop-k-test.false c.requires.1
+returns c = let a = c.args in filled_rows (transpose (at a.a.now a.n)) a.n c.loop-k.invariant (omega arith) c.requires.1

@@ -1,4 +1,4 @@
-use Rattle.std.proofs.Common.{◌-◌, ◌*◌, ◌/◌, ◌%◌}
+use Rattle.std.proofs.Common.{◌*◌, ◌/◌, ◌%◌}
 use Rattle.leaves.specs.Loops.{nth}
 use Rattle.leaves.proofs.Invariants.{Filled}
 use Rattle.matrix.specs.Matrix.{at}
@@ -7,6 +7,3 @@ use Rattle.means.proofs.bayes_stein.put_correlations.Given as goal
 
 abbrev pub invariant-loop-k : goal.invariant-loop-k
 invariant-loop-k l = Filled (λ k. correlation_by (nth l.volatilities) (at l.covariance l.n) (k / l.n) (k % l.n)) l.k (l.n * l.n) l.initial.out l.out
-
-abbrev pub decreases-loop-k : goal.decreases-loop-k
-decreases-loop-k l = l.n * l.n - l.k

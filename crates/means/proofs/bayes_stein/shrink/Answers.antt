@@ -36,4 +36,4 @@ pub slice_bounds-shrink_in-end-6 : goal.slice_bounds-shrink_in-end-6
 slice_bounds-shrink_in-end-6 c = search lent
 
 pub shrink_in-requires : goal.shrink_in-requires
-shrink_in-requires c = let p = c.requires in (p.0, p.1, p.2, search lent, search lent, p.3, p.4, p.5, search lent, search lent, search lent, search lent, p.6)
+shrink_in-requires c = let p = c.requires in (p.0, c.args.m.few, p.1, search lent, search lent, p.2, p.3, p.4, search lent, search lent, search lent, search lent, p.5)

@@ -15,4 +15,4 @@ pub slice_bounds-shrinkage_in-end-4 : goal.slice_bounds-shrinkage_in-end-4
 slice_bounds-shrinkage_in-end-4 c = search lent
 
 pub shrinkage_in-requires : goal.shrinkage_in-requires
-shrinkage_in-requires c = let p = c.requires in (p.0, p.1, p.2, p.3, p.4, p.5, p.6, search lent, search lent, search lent, search lent)
+shrinkage_in-requires c = let p = c.requires in (p.0, p.1, p.2, p.3, p.4, search lent, search lent, search lent, search lent)

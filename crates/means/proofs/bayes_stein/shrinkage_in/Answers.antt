@@ -21,18 +21,14 @@ steps n T μ Σ e d a b ones scaled r s w A B is-r is-s is-w = rw (is-w, is-s, i
 
 pub returns : goal.returns
 returns c Σ d is-v is-values is-vectors =
-    let D = c in
-    let R = D in
-    let B = R in
-    let A = B in
-    let s = A in
-    let a = s.args in
-    let ra = read A.gather_ones-a.result (omega arith) in
-    let rb = read B.gather_means-b.result (omega arith) in
-    let root : (i : ℕ) → i < a.n → nth a.volatilities.now i ≡ volatility Σ i = λ i h. nth_stored a.n (volatility Σ) is-v i h in
-    steps a.n a.periods (nth a.means.now) Σ (exponent_at a.exponents.now) d A.gather_ones-a.result B.gather_means-b.result _ _ R.ratio-ratio.result D.squared_distance-squared.result _
-    (gathered_as (λ i h. ap (λ (x : Float). one ⊘ x) (root i h)) (λ i h. refl) A.gather_ones-a.ensures)
-    (gathered_as (λ i h. ap (λ (x : Float). nth a.means.now i ⊘ x) (root i h)) (λ i h. refl) B.gather_means-b.ensures)
-    (R.ratio-ratio.ensures d is-values is-vectors)
-    (D.squared_distance-squared.ensures d is-values is-vectors)
-    (rw (ra, rb) at c.shrinkage_by.ensures)
+    let a = c.args in
+    let A = c.gather_ones-a in
+    let B = c.gather_means-b in
+    let n = a.d.now.n in
+    let root : (i : ℕ) → i < n → nth a.volatilities.now i ≡ volatility Σ i = λ i h. nth_stored n (volatility Σ) is-v i h in
+    steps n a.periods (nth a.means.now) Σ (exponent_at a.exponents.now) d A.result B.result _ _ c.ratio-ratio.result c.squared_distance-squared.result _
+    (gathered_as (λ i h. ap (λ (x : Float). one ⊘ x) (root i h)) (λ i h. refl) A.ensures)
+    (gathered_as (λ i h. ap (λ (x : Float). nth a.means.now i ⊘ x) (root i h)) (λ i h. refl) B.ensures)
+    (c.ratio-ratio.ensures d is-values is-vectors)
+    (c.squared_distance-squared.ensures d is-values is-vectors)
+    (rw (read A.result (omega arith), read B.result (omega arith)) at c.shrinkage_by.ensures)

@@ -13,4 +13,4 @@ slice_bounds-sum-end c = search lent
 
 pub returns : goal.returns
 unfolding grand_mean
-returns c = let a = c.args in λ i. rw (length-take-le a.n a.m.mean (search lent)) at c.sum.ensures i ⊘ c.nearest_u64_to_f64.ensures i
+returns c = let a = c.args in λ i. rw (length-take-le a.m.n a.m.mean (search lent)) at c.sum.ensures i ⊘ c.nearest_u64_to_f64.ensures i

@@ -6,13 +6,13 @@ use Rattle.leaves.proofs.Invariants.{amax_none, amax_turn, at_end}
 use Rattle.rules.specs.JamesStein.{largest_deviation}
 use Rattle.means.proofs.james_stein.largest_deviation.Goals as goal
 
-pub loop-i-init : goal.loop-i-init
+pub loop-x-init : goal.loop-x-init
 unfolding of_bits largest_deviation
-loop-i-init c = (omega arith, amax_none _)
+loop-x-init c = (omega arith, amax_none _)
 
-pub loop-i-preserved : goal.loop-i-preserved
+pub loop-x-preserved : goal.loop-x-preserved
 unfolding largest_deviation
-loop-i-preserved c = (omega arith, amax_turn _ _ _ _ _ c.loop-i.invariant.1 c.abs.ensures c.larger-m.ensures)
+loop-x-preserved c = (omega arith, amax_turn _ _ _ _ _ c.loop-x.invariant.1 c.abs.ensures c.larger-m.ensures)
 
 pub returns : goal.returns
-returns c = let a = c.args in at_end (λ k. largest_deviation k (nth a.means.now) a.target) _ _ _ c.loop-i.invariant.1 c.loop-i.invariant.0 c.loop-i-test.false
+returns c = let a = c.args in at_end (λ k. largest_deviation k (nth a.means.now) a.target) _ _ _ c.loop-x.invariant.1 c.loop-x.invariant.0 c.loop-x-test.false

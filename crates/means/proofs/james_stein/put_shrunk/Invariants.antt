@@ -1,4 +1,4 @@
-use Rattle.std.proofs.Common.{◌-◌, length}
+use Rattle.std.proofs.Common.{length}
 use Rattle.leaves.specs.Loops.{nth}
 use Rattle.leaves.specs.Scaling.{pow2_scaled}
 use Rattle.leaves.proofs.Invariants.{Filled}
@@ -7,6 +7,3 @@ use Rattle.means.proofs.james_stein.put_shrunk.Given as goal
 
 abbrev pub invariant-loop-i : goal.invariant-loop-i
 invariant-loop-i l = Filled (λ i. pow2_scaled (towards l.intensity l.target (nth l.means i)) l.exponent) l.i (length l.initial.out) l.initial.out l.out
-
-abbrev pub decreases-loop-i : goal.decreases-loop-i
-decreases-loop-i l = length l.initial.out - l.i

@@ -1,5 +1,7 @@
--- `means::james_stein::shrinkage` meets its contract: each return is the case of `decompose_unequal` that the test picks.
-use Rattle.std.proofs.Common.{◌≡◌, ℕ, Bool, true, false, List, sym, ◌∙◌, rules}
+-- `means::james_stein::shrinkage` meets its contract: each return is the case of `decompose_unequal` that the tests pick.
+use Rattle.std.proofs.Common.{◌≡◌, ℕ, true, false, sym, refl, ap, ◌∙◌, rules}
+use Rattle.std.specs.Prelude.{Result, Ok, Err}
+use borrow.Author.Tests.{not-true, not-false}
 use lib.Ieee.{Float, eq, of_bits}
 use Rattle.leaves.specs.Numbers.{zero⁺}
 use Rattle.leaves.specs.Loops.{nth}
@@ -8,22 +10,26 @@ use Rattle.matrix.specs.Jacobi.{Decomposition, decompose, unturned}
 use Rattle.matrix.specs.Inner.{decomposed}
 use Rattle.rules.specs.Moments.{Moments, moments_of}
 use Rattle.rules.specs.JamesStein.{largest_deviation, decompose_unequal, james_stein_intensity}
-use Rattle.means.specs.Stein.{JamesSteinShrinks}
+use Rattle.rules.specs.declared.Refusal.{Refusal}
+use Rattle.rules.specs.declared.Refusal.TheVariants.{Singular}
+use Rattle.means.specs.declared.james_stein.Found.{Found}
+use Rattle.means.specs.Stein.{found_by, JamesSteinShrinks}
 use Rattle.means.proofs.james_stein.shrinkage.Goals as goal
 
 module _ (limit n : ℕ) (m : Moments) (μ₀ largest : Float) (is-largest : largest ≡ largest_deviation n (nth m.mean) μ₀) where
-  equal : eq largest zero⁺ ≡ true → JamesSteinShrinks n limit m μ₀ true zero⁺ 0 0
-  unfolding decompose_unequal james_stein_intensity unturned
-  equal h d is-d =
-      let u : d ≡ unturned n true = is-d ∙ rw (decompose_unequal, ← is-largest, h) in
-      (rw u, rw (james_stein_intensity, ← is-largest, h), rw u, rw u)
+  made : (d : Decomposition) (α : Float) → d.found ≡ true → α ≡ james_stein_intensity n m μ₀ d → Ok (record { intensity = α; sweeps = d.sweeps; rotations = d.rotations }) ≡ found_by n m μ₀ d
+  made d α h e = λ t. elim (sym h t) [ true ↦ Ok (record { intensity = e t; sweeps = d.sweeps; rotations = d.rotations }) | false ↦ Err Singular ]
 
-  unequal : eq largest zero⁺ ≡ false → (found : Bool) (values vectors : List Float) (sweeps rotations : ℕ) (α : Float) → decomposed found values vectors sweeps rotations ≡ decompose limit n (at m.covariance n)
-      → ((d : Decomposition) → d.values ≡ values → α ≡ james_stein_intensity n m μ₀ d) → JamesSteinShrinks n limit m μ₀ found α sweeps rotations
+  equal : eq largest zero⁺ ≡ true → JamesSteinShrinks n limit m μ₀ (Ok (record { intensity = zero⁺; sweeps = 0; rotations = 0 }))
+  unfolding decompose_unequal james_stein_intensity unturned
+  equal h =
+      let u : unturned n true ≡ decompose_unequal limit n (largest_deviation n (nth m.mean) μ₀) (at m.covariance n) = rw (decompose_unequal, ← is-largest, h) in
+      made (unturned n true) zero⁺ refl (rw (james_stein_intensity, ← is-largest, h)) ∙ ap (found_by n m μ₀) u
+
+  -- by the decomposition that the code has
+  unequal : eq largest zero⁺ ≡ false → (d : Decomposition) → d ≡ decompose limit n (at m.covariance n) → (r : Result Found Refusal) → r ≡ found_by n m μ₀ d → JamesSteinShrinks n limit m μ₀ r
   unfolding decompose_unequal
-  unequal h found values vectors sweeps rotations α e is-α d is-d =
-      let u : d ≡ decomposed found values vectors sweeps rotations = is-d ∙ rw (decompose_unequal, ← is-largest, h) (sym e) in
-      (rw u, is-α d (rw u), rw u, rw u)
+  unequal h d is-d r e = e ∙ ap (found_by n m μ₀) (is-d ∙ rw (decompose_unequal, ← is-largest, h))
 
 pub returns-then-largest : goal.returns-then-largest
 unfolding of_bits
@@ -32,9 +38,17 @@ returns-then-largest c =
     let a = b.args in
     equal a.limit a.n (moments_of a.means.now a.covariance.now a.periods) a.target c.largest_deviation-largest.result (rw b.requires.3 at c.largest_deviation-largest.ensures) c.if-largest.true
 
-pub intensity-alpha-requires : goal.intensity-alpha-requires
+pub returns-then-not-d : goal.returns-then-not-d
 unfolding of_bits
-intensity-alpha-requires c =
+returns-then-not-d c =
+    let b = c in
+    let a = b.args in
+    let u = c.largest_deviation-largest in
+    unequal a.limit a.n (moments_of a.means.now a.covariance.now a.periods) a.target u.result (rw b.requires.3 at u.ensures) c.if-largest.false _ c.decompose-d.ensures _ (rw (not-true _ c.if-not-d.true))
+
+pub intensity-requires : goal.intensity-requires
+unfolding of_bits
+intensity-requires c =
     let b = c in
     let u = c.largest_deviation-largest in
     (b.requires.0, b.requires.3, b.requires.4, search rules, rw b.requires.3 at u.ensures, c.if-largest.false)
@@ -46,4 +60,8 @@ returns c =
     let a = b.args in
     let u = c.largest_deviation-largest in
     let d = c.decompose-d in
-    unequal a.limit a.n (moments_of a.means.now a.covariance.now a.periods) a.target u.result (rw b.requires.3 at u.ensures) c.if-largest.false d.result.found _ _ d.result.sweeps d.result.rotations c.intensity-alpha.result d.ensures c.intensity-alpha.ensures
+    let found = decomposed d.result.found d.new.values d.new.vectors d.result.sweeps d.result.rotations in
+    let m = moments_of a.means.now a.covariance.now a.periods in
+    let is-largest = rw b.requires.3 at u.ensures in
+    unequal a.limit a.n m a.target u.result is-largest c.if-largest.false found d.ensures _
+    (made a.limit a.n m a.target u.result is-largest found c.intensity.result (not-false _ c.if-not-d.false) (c.intensity.ensures found refl))

@@ -27,4 +27,4 @@ pub slice_bounds-shrinkage-end-4 : goal.slice_bounds-shrinkage-end-4
 slice_bounds-shrinkage-end-4 c = search lent
 
 pub shrinkage-requires : goal.shrinkage-requires
-shrinkage-requires c = let p = c.requires in (p.0, p.1, p.2, search lent, search lent, search lent, search lent)
+shrinkage-requires c = let p = c.requires in (p.0, c.args.m.few, p.1, search lent, search lent, search lent, search lent)

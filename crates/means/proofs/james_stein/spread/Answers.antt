@@ -13,15 +13,15 @@ use Rattle.means.proofs.james_stein.spread.Invariants.{square}
 pub overflow_sub-down : goal.overflow_sub-down
 overflow_sub-down c = neg_fits c.args.shift (omega arith)
 
-pub loop-i-init : goal.loop-i-init
+pub loop-x-init : goal.loop-x-init
 unfolding of_bits
-loop-i-init c = (omega arith, sum_none _)
+loop-x-init c = (omega arith, sum_none _)
 
-pub loop-i-preserved : goal.loop-i-preserved
-loop-i-preserved c = (omega arith, sum_turn _ _ _ _ c.loop-i.invariant.1 (ap (λ (d : Float). c.loop-i.s ⊕ d ⊗ d) c.pow2_scaled-d.ensures))
+pub loop-x-preserved : goal.loop-x-preserved
+loop-x-preserved c = (omega arith, sum_turn _ _ _ _ c.loop-x.invariant.1 (ap (λ (d : Float). c.loop-x.s ⊕ d ⊗ d) c.pow2_scaled-d.ensures))
 
 pub returns : goal.returns
 unfolding spread
 returns c =
     let a = c.args in
-    rw (neg_read a.shift (omega arith)) at (at_end (λ k. sum_to k (square a.means.now a.target (read_back (pos 0 -ℤ read_back a.shift)))) _ _ _ c.loop-i.invariant.1 c.loop-i.invariant.0 c.loop-i-test.false)
+    rw (neg_read a.shift (omega arith)) at (at_end (λ k. sum_to k (square a.means.now a.target (read_back (pos 0 -ℤ read_back a.shift)))) _ _ _ c.loop-x.invariant.1 c.loop-x.invariant.0 c.loop-x-test.false)

@@ -9,31 +9,16 @@ use Rattle.paper.proofs.Lines.{lines_more, lines_none}
 use Rattle.paper.proofs.answer.put_lines.Goals as goal
 
 pub loop-k-init : goal.loop-k-init
-loop-k-init c = (omega arith, refl, refl)
-
-pub bounds-xs-k : goal.bounds-xs-k
-bounds-xs-k c = omega arith
-
-pub overflow_add-k : goal.overflow_add-k
-overflow_add-k c = omega arith
-
-pub loop-k-smaller : goal.loop-k-smaller
-loop-k-smaller c = omega arith
+loop-k-init c = refl
 
 pub loop-k-preserved : goal.loop-k-preserved
 loop-k-preserved c =
     let l = c.loop-k in
-    let a = c.args in (
-      omega arith,
-      omega arith,
-      onward (into l.out l.at) _ _ (lines_text a.columns l.k (drop l.k a.xs.now)) c.put_line-at.ensures (lines_more _ l.k a.xs.now _ (omega arith)) ∙ l.invariant.2,
-    )
-
-pub shape_of-out : goal.shape_of-out
-shape_of-out c = omega arith
+    let a = c.args in
+    onward (into l.out l.at) _ _ (lines_text a.e.now.columns l.k (drop l.k a.e.now.numbers.now)) c.put_line-at.ensures (lines_more _ l.k a.e.now.numbers.now _ (omega arith)) ∙ l.invariant
 
 pub returns : goal.returns
 returns c =
     let l = c.loop-k in
     let a = c.args in
-    ended _ _ (lines_text a.columns l.k (drop l.k a.xs.now)) (lines_none _ _ _ (omega arith)) l.invariant.2
+    ended _ _ (lines_text a.e.now.columns l.k (drop l.k a.e.now.numbers.now)) (lines_none _ _ _ (omega arith)) l.invariant

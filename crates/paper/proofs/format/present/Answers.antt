@@ -6,29 +6,20 @@ use Rattle.paper.proofs.Outlines.{present_yes, present_no, present_all}
 use Rattle.paper.proofs.format.present.Goals as goal
 use Rattle.paper.proofs.format.present.Goals.{then-has, else-has}
 
-pub loop-i-init : goal.loop-i-init
-loop-i-init c = (omega arith, omega arith, zero-add _)
-
-pub bounds-kinds-i : goal.bounds-kinds-i
-bounds-kinds-i c = omega arith
+pub loop-kind-init : goal.loop-kind-init
+loop-kind-init c = (omega arith, zero-add _)
 
 pub overflow_add-n : goal.overflow_add-n
 overflow_add-n c = omega arith
 
-pub overflow_add-i : goal.overflow_add-i
-overflow_add-i c = omega arith
-
-pub loop-i-smaller : goal.loop-i-smaller
-loop-i-smaller c = omega arith
-
-pub loop-i-preserved : goal.loop-i-preserved
-loop-i-preserved c =
-    let l = c.loop-i in
-    let bs = c.args.kinds.now in
+pub loop-kind-preserved : goal.loop-kind-preserved
+loop-kind-preserved c =
+    let l = c.loop-kind in
+    let ks = c.args.kinds.now in
     elim c.if-has.branch [
-      | then-has w ↦ (omega arith, omega arith, rw w.n-is (present_yes _ bs l.i l.n l.invariant.2 (omega arith) (sym c.has.ensures ∙ w.if-has.true)))
-      | else-has w ↦ (omega arith, omega arith, rw w.n-is (present_no _ bs l.i l.n l.invariant.2 (omega arith) (sym c.has.ensures ∙ w.if-has.false)))
+      | then-has w ↦ (omega arith, rw w.n-is (present_yes _ ks l.kind-index l.n l.invariant.1 (omega arith) (sym c.has.ensures ∙ w.if-has.true)))
+      | else-has w ↦ (omega arith, rw w.n-is (present_no _ ks l.kind-index l.n l.invariant.1 (omega arith) (sym c.has.ensures ∙ w.if-has.false)))
     ]
 
 pub returns : goal.returns
-returns c = let l = c.loop-i in present_all _ _ l.i l.n l.invariant.2 (omega arith)
+returns c = let l = c.loop-kind in present_all _ _ l.kind-index l.n l.invariant.1 (omega arith)

@@ -1,11 +1,10 @@
 use mathlib.Core.Path.{◌≡◌}
-use Prim.Native.Nat.{◌+◌, ◌≤◌, ◌-◌}
-use lib.ListN.{length, drop}
+use mathlib.Core.List.{map}
+use Prim.Native.Nat.{◌+◌, ◌≤◌}
+use lib.ListN.{drop}
 use Rattle.paper.specs.Rules.{present}
+use Rattle.paper.specs.Inner.{byte_of}
 use Rattle.paper.proofs.format.present.Given as goal
 
-abbrev pub invariant-loop-i : goal.invariant-loop-i
-invariant-loop-i l = (l.i ≤ length l.kinds) × (l.n ≤ l.i) × (l.n + present l.o (drop l.i l.kinds) ≡ present l.o l.kinds)
-
-abbrev pub decreases-loop-i : goal.decreases-loop-i
-decreases-loop-i l = length l.kinds - l.i
+abbrev pub invariant-loop-kind : goal.invariant-loop-kind
+invariant-loop-kind l = (l.n ≤ l.kind-index) × (l.n + present l.o (map byte_of (drop l.kind-index l.kinds)) ≡ present l.o (map byte_of l.kinds))

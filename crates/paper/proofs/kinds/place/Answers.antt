@@ -1,32 +1,43 @@
--- `paper::kinds::place` meets its contract. The invariant: the kinds passed have other bytes.
-use mathlib.Core.Path.{sym, ap, ◌∙◌}
-use native.Mathlib.Nat.{zero-add}
-use native.Mathlib.Omega.{arith}
-use Rattle.paper.specs.declared.kinds.Kind.{Kind}
-use Rattle.paper.proofs.Table.{how_many, place_next, place_here, place_none}
+-- `paper::kinds::place` meets its contract, kind by kind: the names stand in the order of the table.
+use mathlib.Core.Path.{◌≡◌, refl}
+use Prim.Native.Nat.{◌<◌}
+use denote.Enum.Declared.{tag_of}
+use lib.Dec.{lit<}
+use Rattle.paper.specs.declared.kinds.KindName.{KindName}
+use Rattle.paper.specs.declared.kinds.KindName.TheVariants.{Shape, Return, Regularization, FixedShrinkage, Target, HalfLife, Semi, SemiThreshold, GivenEntry, SweepLimit, DecayFactor, Question}
+use Rattle.paper.specs.contracts.kinds.KindName.{the_type}
+use Rattle.paper.specs.Grammar.{kinds, place_in}
+use Rattle.paper.specs.Inner.{byte_of}
 use Rattle.paper.proofs.kinds.place.Goals as goal
 
-pub loop-i-init : goal.loop-i-init
-loop-i-init c = (omega arith, sym (zero-add _))
+in_order : (k : KindName) → tag_of the_type k ≡ place_in kinds (byte_of k)
+unfolding kinds place_in
+in_order Shape = refl
+in_order Return = refl
+in_order Regularization = refl
+in_order FixedShrinkage = refl
+in_order Target = refl
+in_order HalfLife = refl
+in_order Semi = refl
+in_order SemiThreshold = refl
+in_order GivenEntry = refl
+in_order SweepLimit = refl
+in_order DecayFactor = refl
+in_order Question = refl
 
-pub kind_at-k-requires : goal.kind_at-k-requires
-kind_at-k-requires c = omega (arith, how_many)
-
-pub returns-then-k-byte : goal.returns-then-k-byte
-returns-then-k-byte c =
-    let l = c.loop-i in
-    place_here _ l.i l.invariant.1 (omega (arith, how_many)) (sym (ap (λ (k : Kind). k.byte) c.kind_at-k.ensures) ∙ c.if-k-byte.true)
-
-pub overflow_add-i : goal.overflow_add-i
-overflow_add-i c = omega arith
-
-pub loop-i-smaller : goal.loop-i-smaller
-loop-i-smaller c = omega (arith, how_many)
-
-pub loop-i-preserved : goal.loop-i-preserved
-loop-i-preserved c =
-    let l = c.loop-i in
-    (omega (arith, how_many), place_next _ l.i l.invariant.1 (omega (arith, how_many)) (λ e. c.if-k-byte.false (ap (λ (k : Kind). k.byte) c.kind_at-k.ensures ∙ e)))
+twelve : (k : KindName) → tag_of the_type k < 12
+twelve Shape = lit< tt
+twelve Return = lit< tt
+twelve Regularization = lit< tt
+twelve FixedShrinkage = lit< tt
+twelve Target = lit< tt
+twelve HalfLife = lit< tt
+twelve Semi = lit< tt
+twelve SemiThreshold = lit< tt
+twelve GivenEntry = lit< tt
+twelve SweepLimit = lit< tt
+twelve DecayFactor = lit< tt
+twelve Question = lit< tt
 
 pub returns : goal.returns
-returns c = place_none _ _ c.loop-i.invariant.1 (omega (arith, how_many))
+returns c = record { is_place = in_order c.args.kind; inside = twelve c.args.kind }

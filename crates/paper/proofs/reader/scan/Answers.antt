@@ -37,12 +37,6 @@ offset_bounds-counts-i c = omega arith
 pub bounds-counts-i : goal.bounds-counts-i
 bounds-counts-i c = omega arith
 
-pub overflow_add-i : goal.overflow_add-i
-overflow_add-i c = omega arith
-
-pub loop-i-smaller : goal.loop-i-smaller
-loop-i-smaller c = omega (arith, how_many)
-
 pub loop-i-preserved : goal.loop-i-preserved
 loop-i-preserved c =
     let t = c in

@@ -10,6 +10,3 @@ abbrev pub invariant-loop-i : goal.invariant-loop-i
 invariant-loop-i l =
     (l.i ≤ length kinds) × (l.at ≤ length l.file) × (length l.numbers ≡ length l.initial.numbers) × (length l.counts ≡ length kinds) × (length l.firsts ≡ length kinds)
     × Going l.file (sheet kinds l.file) (into l.initial.numbers 0) (drop l.i kinds) l.at (into l.numbers l.next) (take l.i l.counts) (take l.i l.firsts)
-
-abbrev pub decreases-loop-i : goal.decreases-loop-i
-decreases-loop-i l = length kinds - l.i

@@ -6,29 +6,17 @@ use Rattle.paper.specs.Text.{out as into}
 use Rattle.paper.proofs.Writes.{onward, ended, drop_next}
 use Rattle.paper.proofs.text.put_text.Goals as goal
 
-pub loop-i-init : goal.loop-i-init
-loop-i-init c = (omega arith, refl, refl)
+pub loop-b-init : goal.loop-b-init
+loop-b-init c = refl
 
-pub bounds-text-i : goal.bounds-text-i
-bounds-text-i c = omega arith
-
-pub overflow_add-i : goal.overflow_add-i
-overflow_add-i c = omega arith
-
-pub loop-i-smaller : goal.loop-i-smaller
-loop-i-smaller c = omega arith
-
-pub loop-i-preserved : goal.loop-i-preserved
-loop-i-preserved c =
-    let l = c.loop-i in
+pub loop-b-preserved : goal.loop-b-preserved
+loop-b-preserved c =
+    let l = c.loop-b in
     let text = c.args.text.now in
-    (omega arith, omega arith, onward (into l.out l.at) _ _ (drop l.i text) c.put-at.ensures (drop_next text l.i 0 (omega arith)) ∙ l.invariant.2)
-
-pub shape_of-out : goal.shape_of-out
-shape_of-out c = omega arith
+    onward (into l.out l.at) _ _ (drop l.b-index text) c.put-at.ensures (drop_next text l.b-index 0 (omega arith)) ∙ l.invariant
 
 pub returns : goal.returns
 returns c =
-    let l = c.loop-i in
+    let l = c.loop-b in
     let text = c.args.text.now in
-    ended _ _ (drop l.i text) (drop_of_length-le text {i = l.i} (omega arith)) l.invariant.2
+    ended _ _ (drop l.b-index text) (drop_of_length-le text {i = l.b-index} (omega arith)) l.invariant

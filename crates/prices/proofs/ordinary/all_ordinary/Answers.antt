@@ -1,40 +1,39 @@
--- `prices::ordinary::all_ordinary` meets its contract. The invariant: every price passed is ordinary.
-use mathlib.Core.Path.{◌≡◌, sym, ap, ◌∙◌}
-use mathlib.Core.Bool.{true, false, not}
-use mathlib.Core.List.{List}
-use mathlib.Core.Option.{none}
-use Prim.Native.Nat.{ℕ, ◌≤◌, ◌<◌}
-use native.Mathlib.Nat.{le_antisymm}
-use native.Mathlib.Omega.{arith}
-use lib.ListN.{length}
-use lib.Ieee.{Float}
-use Rattle.leaves.specs.Loops.{first_to}
-use Rattle.leaves.proofs.Search.{first_none, first_more, first_at}
-use Rattle.prices.specs.Ordinary.{all_ordinary}
+-- `prices::ordinary::all_ordinary` meets its contract: where all prices are ordinary, the search for another finds none.
+use Rattle.std.proofs.Common.{◌≡◌, ℕ, ◌<◌, rules, Bool, true, false, not, List, length, refl, sym, ap, ◌∙◌, arith}
+use Rattle.std.proofs.lemmas.Iterator.{cases_from_all, YieldsList-from_slice}
+use Rattle.std.specs.Bool.{MatchBool}
+use Rattle.std.specs.List.{AllWithin, HoldsAt}
+use mathlib.Core.Bool.{true≢false}
+use mathlib.Core.Option.{Option, none, some}
+use borrow.Author.Tests.{tests}
+use lib.Ieee.{Float, nan}
+use Rattle.leaves.specs.Loops.{first_to, nth}
+use Rattle.leaves.proofs.First.{first_all, none_first}
+use Rattle.prices.specs.Ordinary.{ordinary, all_ordinary}
 use Rattle.prices.proofs.ordinary.all_ordinary.Goals as goal
-use Rattle.prices.proofs.ordinary.all_ordinary.Invariants.{other}
 
-found : (p : List Float) (k : ℕ) → first_to k (other p) ≡ none → other p k ≡ true → k < length p → false ≡ all_ordinary p
-unfolding all_ordinary
-found p k e t h = rw (all_ordinary, first_at (other p) k (length p) e t h)
+module _ (p : List Float) where
+  abbrev other : ℕ → Bool
+  other k = not (ordinary (nth p k))
 
-nowhere : (p : List Float) (k : ℕ) → first_to k (other p) ≡ none → k ≤ length p → length p ≤ k → true ≡ all_ordinary p
-unfolding all_ordinary
-nowhere p k e h l = rw (all_ordinary, sym (ap (λ (j : ℕ). first_to j (other p)) (le_antisymm h l)) ∙ e)
+  all_pass : AllWithin (λ x. ordinary x ≡ true) p 0 (length p) → true ≡ all_ordinary p
+  unfolding all_ordinary
+  all_pass h = rw (all_ordinary, none_first other (length p) (λ k l. ap not (h k nan (omega arith) l)))
 
-pub loop-k-init : goal.loop-k-init
-loop-k-init c = (omega arith, first_none _)
+  one_fails : (k : ℕ) → k < length p → ordinary (nth p k) ≡ false → false ≡ all_ordinary p
+  unfolding all_ordinary
+  one_fails k l h = go (first_to (length p) other) refl
+    where
+      go : (found : Option ℕ) → first_to (length p) other ≡ found → false ≡ elim found [ none ↦ true | some k ↦ false ]
+      go none e = absurd (true≢false (sym (ap not h) ∙ first_all other (length p) e k l))
+      go (some j) e = refl
 
-pub returns-then-not-is_ordinary : goal.returns-then-not-is_ordinary
-returns-then-not-is_ordinary c =
-    let before = c in
-    found before.args.prices.now before.loop-k.k before.loop-k.invariant.1
-    (ap not (sym c.is_ordinary.ensures) ∙ (ap not c.if-not-is_ordinary.true)) c.loop-k-test.true
-
-pub loop-k-preserved : goal.loop-k-preserved
-loop-k-preserved c =
-    let before = c in
-    (omega arith, first_more _ _ before.loop-k.invariant.1 (ap not (sym c.is_ordinary.ensures) ∙ (ap not c.if-not-is_ordinary.false)))
+  all_is : (r : Bool) → MatchBool r (AllWithin (λ x. ordinary x ≡ true) p 0 (length p)) ((k : ℕ) × (k < length p) × HoldsAt (λ x. ordinary x ≡ false) p k) → r ≡ all_ordinary p
+  all_is true h = all_pass h
+  all_is false h = one_fails h.0 h.1 (h.2 nan)
 
 pub returns : goal.returns
-returns c = nowhere c.args.prices.now c.loop-k.k c.loop-k.invariant.1 c.loop-k.invariant.0 c.loop-k-test.false
+returns c =
+    let p = c.args.prices.now in
+    all_is p _
+    (cases_from_all _ _ _ (λ x. ordinary x ≡ true) (λ x. ordinary x ≡ false) c.all.ensures.ran (YieldsList-from_slice p cc) (λ x q k. search (rules, tests)) (λ x q k. search (rules, tests)))

@@ -8,14 +8,8 @@ use Rattle.prices.proofs.returns.write_returns.Goals as goal
 pub loop-k-init : goal.loop-k-init
 loop-k-init c = filled_none _ _ _
 
-pub return_at-requires : goal.return_at-requires
-return_at-requires c = omega (arith, c.loop-k-test.true, c.requires)
-
 pub loop-k-preserved : goal.loop-k-preserved
 loop-k-preserved c = filled_more c.loop-k.invariant (omega (arith, c.loop-k-test.true)) (le_refl _) c.return_at.ensures
-
-pub shape_of-out : goal.shape_of-out
-shape_of-out c = c.loop-k.invariant.len
 
 pub returns : goal.returns
 returns c = filled_whole c.loop-k.invariant (omega (arith, c.loop-k-test.false)) refl

@@ -1,4 +1,3 @@
-use Prim.Native.Nat.{◌-◌}
 use lib.ListN.{length}
 use Rattle.leaves.proofs.Invariants.{Filled}
 use Rattle.prices.specs.Stored.{return_at}
@@ -6,6 +5,3 @@ use Rattle.prices.proofs.returns.write_returns.Given as goal
 
 abbrev pub invariant-loop-k : goal.invariant-loop-k
 invariant-loop-k l = Filled (return_at l.prices l.n) l.k (length l.initial.out) l.initial.out l.out
-
-abbrev pub decreases-loop-k : goal.decreases-loop-k
-decreases-loop-k l = length l.initial.out - l.k

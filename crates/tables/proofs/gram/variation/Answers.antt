@@ -1,5 +1,5 @@
 -- `tables::gram::variation` meets its contract: the half that is summed up is mirrored, and products commute.
-use Rattle.tables.specs.Rows.{centered}
+use Rattle.tables.specs.Rows.{matrix_of}
 use Rattle.tables.proofs.Halves.{variation_over}
 use Rattle.tables.proofs.gram.variation.Goals as goal
 
@@ -8,5 +8,5 @@ returns c =
     let m = c in
     let s = m in
     let a = s.args in
-    let h = s.requires in
-    variation_over a.s.now (centered a.row a.n a.centers.now a.r.now) a.n a.periods _ c.nearest_u64_to_f64.ensures h.4 s.sum.ensures m.mirror.ensures c.divide.ensures
+    let z = a.z.now in
+    variation_over a.s.now (matrix_of z) z.returns.assets z.returns.periods _ c.nearest_u64_to_f64.ensures s.requires.1 s.sum.ensures m.mirror.ensures c.divide.ensures

@@ -1,17 +1,7 @@
 -- `tables::rows::numbers` meets its contract: where there are units, the numbers are formed of the scaled ones.
-use Rattle.std.proofs.Common.{◌∙◌, arith, length-take-le, rules}
-use Rattle.matrix.proofs.Lent.{lent}
+use Rattle.std.proofs.Common.{◌∙◌, arith, length-take-le}
 use Rattle.tables.proofs.Formed.{scaled_numbers, plain_numbers}
 use Rattle.tables.proofs.rows.numbers.Goals as goal
-
-pub slice_bounds-scaled-end : goal.slice_bounds-scaled-end
-slice_bounds-scaled-end c = search lent
-
-pub to_units-requires : goal.to_units-requires
-to_units-requires c = search lent
-
-pub entries-requires : goal.entries-requires
-entries-requires c = (c.to_units.auto.out ∙ length-take-le _ _ (omega arith), search rules)
 
 pub returns-then-n-units : goal.returns-then-n-units
 returns-then-n-units c =

@@ -1,4 +1,4 @@
-use Rattle.std.proofs.Common.{ℕ, ◌-◌, ◌<◌, ◌≤◌, length, ℤ, nat_abs}
+use Rattle.std.proofs.Common.{ℕ, ◌<◌, ◌≤◌, length, ℤ, nat_abs}
 use Rattle.leaves.specs.Loops.{nth}
 use Rattle.leaves.specs.Scaling.{binary_exponent}
 use Rattle.leaves.proofs.Invariants.{Filled}
@@ -11,6 +11,3 @@ Sized f k = (i : ℕ) → i < k → nat_abs (f i) ≤ max_exponent
 
 abbrev pub invariant-loop-k : goal.invariant-loop-k
 invariant-loop-k l = Filled (λ k. binary_exponent (nth l.xs k)) l.k (length l.initial.out) l.initial.out l.out × Sized (λ k. binary_exponent (nth l.xs k)) l.k
-
-abbrev pub decreases-loop-k : goal.decreases-loop-k
-decreases-loop-k l = length l.initial.out - l.k

@@ -1,36 +1,31 @@
--- `tables::tables::add_periods` meets its contract: the rows that are added are the two periods'.
-use Rattle.std.proofs.Common.{◌∙◌, arith}
-use Rattle.leaves.proofs.Lists.{tab_long}
-use Rattle.matrix.specs.Matrix.{at}
-use Rattle.matrix.proofs.Lent.{lent}
+-- `tables::tables::add_periods` meets its contract: the rows that are added are the periods'. The invariant: those of the periods passed are formed.
+use Rattle.std.proofs.Common.{◌≡◌, ℕ, ◌+◌, ◌<◌, ◌≤◌, List, [], length, take, set, sym, ◌∙◌, subst, ⊎_elim, arith, length-set, get_or-set_other, get_or-set_same}
+use lib.Seq.{get_or-take}
+use lib.Ieee.{Float, nan}
+use Rattle.leaves.specs.Loops.{tab, nth}
+use Rattle.leaves.proofs.Whole.{le_or_lt}
+use Rattle.leaves.proofs.Lists.{nth_stored}
+use Rattle.matrix.specs.Matrix.{Matrix, at}
+use Rattle.tables.specs.Rows.{stored}
 use Rattle.tables.proofs.Sums.{periods_added}
 use Rattle.tables.proofs.tables.add_periods.Goals as goal
 
-pub slice_bounds-d-end : goal.slice_bounds-d-end
-slice_bounds-d-end c = search lent
+-- a row more
+row_more : (j n : ℕ) (d : List (List Float)) (row : List Float) (y : Matrix) → j < length d → take n row ≡ tab n (y j) → ((i : ℕ) → i < j → (k : ℕ) → k < n → stored d i k ≡ y i k) → (i : ℕ) → i < j + 1 → (k : ℕ) → k < n → stored (set d j row) i k ≡ y i k
+row_more j n d row y h e before i hi k hk =
+    ⊎_elim
+    (λ (l : j ≤ i). let same : j ≡ i = omega arith in subst (λ (i : ℕ). stored (set d j row) i k ≡ y i k) same ((λ t. nth (get_or-set_same d j row [] h t) k) ∙ sym (get_or-take n row k nan hk) ∙ nth_stored n (y j) e k hk))
+    (λ (l : i < j). (λ t. nth (get_or-set_other d j i row [] (λ q. absurd (omega arith)) t) k) ∙ before i l k hk)
+    (le_or_lt j i)
 
-pub slice_bounds-e-end : goal.slice_bounds-e-end
-slice_bounds-e-end c = search lent
-
-pub form-requires : goal.form-requires
-form-requires c =
-    let h = c.requires in
-    (h.0, h.1, omega arith, h.3, search lent)
-
-pub form-requires-2 : goal.form-requires-2
-form-requires-2 c = search lent
-
-pub add_rows2-requires : goal.add_rows2-requires
-add_rows2-requires c =
-    let f = c in
-    let g = f in
-    let h = g.requires in
-    (tab_long _ _ _ g.form.ensures, tab_long _ _ _ f.form-2.ensures, h.4, h.5)
+pub loop-j-preserved : goal.loop-j-preserved
+loop-j-preserved g c =
+    let i = c.loop-j.invariant in
+    let z = c.args.z.now in
+    (length-set c.loop-j.d c.loop-j.j _ ∙ i.0, row_more c.loop-j.j z.returns.assets c.loop-j.d _ _ (omega arith) c.form.ensures i.1)
 
 pub returns : goal.returns
-returns c =
-    let p = c in
-    let f = p in
-    let g = f in
-    let a = g.args in
-    p.add_rows2.ensures ∙ periods_added _ (at a.s.now a.n) _ _ _ _ _ g.form.ensures f.form-2.ensures a.out.now
+returns g c =
+    let a = c.args in
+    let r = a.z.now.returns in
+    periods_added g.row.K a.term (at a.s.now r.assets) r.assets _ _ (λ j hj. c.loop-j.invariant.1 j (omega arith)) a.out.now c.add_rows.ensures

@@ -1,11 +1,8 @@
-use Rattle.std.proofs.Common.{◌-◌, length}
+use Rattle.std.proofs.Common.{length}
 use Rattle.leaves.specs.Numbers.{◌⊘◌}
 use Rattle.leaves.specs.Loops.{nth}
 use Rattle.leaves.proofs.Invariants.{Filled}
 use Rattle.tables.proofs.vectors.divide.Given as goal
 
-abbrev pub invariant-loop-k : goal.invariant-loop-k
-invariant-loop-k l = Filled (λ k. nth l.initial.out k ⊘ l.x) l.k (length l.initial.out) l.initial.out l.out
-
-abbrev pub decreases-loop-k : goal.decreases-loop-k
-decreases-loop-k l = length l.initial.out - l.k
+abbrev pub invariant-loop-y : goal.invariant-loop-y
+invariant-loop-y l = Filled (λ k. nth l.initial.out k ⊘ l.x) l.y-index (length l.initial.out) l.initial.out l.out

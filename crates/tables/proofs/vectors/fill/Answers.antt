@@ -1,13 +1,13 @@
--- `tables::vectors::fill` meets its contract. The invariant: the numbers passed are x.
-use Rattle.std.proofs.Common.{refl, arith, rules}
-use Rattle.leaves.proofs.Invariants.{filled_more, filled_whole, filled_none}
+-- `tables::vectors::fill` meets its contract: std's `fill` leaves x everywhere.
+use Rattle.std.proofs.Common.{◌≡◌, ℕ, zero, suc, List, ◌∷◌, replicate, refl, ap, ◌∙◌}
+use lib.Ieee.{Float}
+use Rattle.leaves.specs.Loops.{tab}
 use Rattle.tables.proofs.vectors.fill.Goals as goal
 
-pub loop-k-init : goal.loop-k-init
-loop-k-init c = filled_none _ _ _
-
-pub loop-k-preserved : goal.loop-k-preserved
-loop-k-preserved c = filled_more c.loop-k.invariant (omega arith) (omega arith) refl
+filled : (x : Float) (n : ℕ) → replicate n x ≡ tab n (λ k. x)
+unfolding tab
+filled x zero = refl
+filled x (suc n) = ap (λ (l : List Float). x ∷ l) (filled x n)
 
 pub returns : goal.returns
-returns c = filled_whole c.loop-k.invariant (omega arith) (search rules)
+returns c = c.fill.ensures.after (λ y h. h) ∙ filled c.args.x _

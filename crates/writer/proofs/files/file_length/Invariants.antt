@@ -1,12 +1,9 @@
 use mathlib.Core.Path.{◌≡◌}
-use Prim.Native.Nat.{◌+◌, ◌≤◌, ◌-◌}
-use lib.ListN.{length, drop}
+use Prim.Native.Nat.{◌+◌}
+use lib.ListN.{drop}
 use Rattle.paper.specs.Grammar.{kinds}
 use Rattle.writer.specs.Files.{length_of}
 use Rattle.writer.proofs.files.file_length.Given as goal
 
 abbrev pub invariant-loop-i : goal.invariant-loop-i
-invariant-loop-i l = (l.i ≤ length kinds) × (l.s + length_of (drop l.i kinds) (drop l.i l.counts) ≡ length_of kinds l.counts)
-
-abbrev pub decreases-loop-i : goal.decreases-loop-i
-decreases-loop-i l = length kinds - l.i
+invariant-loop-i l = l.s + length_of (drop l.i kinds) (drop l.i l.count-items) ≡ length_of kinds l.count-items

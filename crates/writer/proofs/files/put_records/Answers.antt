@@ -8,36 +8,19 @@ use Rattle.writer.specs.Files.{records}
 use Rattle.writer.proofs.Left.{records_more, records_none}
 use Rattle.writer.proofs.files.put_records.Goals as goal
 
-pub loop-i-init : goal.loop-i-init
-loop-i-init c = (omega arith, refl, refl)
+pub loop-body-init : goal.loop-body-init
+loop-body-init c = refl
 
-pub offset_bounds-bodies-i : goal.offset_bounds-bodies-i
-offset_bounds-bodies-i c = omega arith
-
-pub bounds-bodies-i : goal.bounds-bodies-i
-bounds-bodies-i c = omega arith
-
-pub overflow_add-i : goal.overflow_add-i
-overflow_add-i c = omega arith
-
-pub loop-i-smaller : goal.loop-i-smaller
-loop-i-smaller c = omega arith
-
-pub loop-i-preserved : goal.loop-i-preserved
-loop-i-preserved c =
-    let p = c in
-    let l = p.loop-i in
-    let a = p.args in (
-      omega arith,
-      omega arith,
-      onward (into l.out l.at) _ _ (records a.k (drop l.i a.bodies.now)) p.put_record-at.ensures (records_more a.k l.i a.bodies.now (omega arith)) ∙ l.invariant.2,
-    )
-
-pub shape_of-out : goal.shape_of-out
-shape_of-out c = omega arith
+pub loop-body-preserved : goal.loop-body-preserved
+loop-body-preserved c =
+    let l = c.loop-body in
+    let a = c.args in
+    let i = l.body-index in
+    onward (into l.out l.at) _ _ (records a.k (drop i a.bodies.now)) c.put_record-at.ensures (records_more a.k i a.bodies.now (omega arith)) ∙ l.invariant
 
 pub returns : goal.returns
 returns c =
-    let l = c.loop-i in
+    let l = c.loop-body in
     let a = c.args in
-    ended _ _ (records a.k (drop l.i a.bodies.now)) (records_none a.k l.i a.bodies.now (omega arith)) l.invariant.2
+    let i = l.body-index in
+    ended _ _ (records a.k (drop i a.bodies.now)) (records_none a.k i a.bodies.now (omega arith)) l.invariant

@@ -5,21 +5,32 @@ use Rattle.writer.proofs.outlines.outline_of.Goals as goal
 
 pub returns : goal.returns
 unfolding outline bodies
-returns c =
-    let d = c in
-    let b = d in
-    let h = b in
-    let f = h in
-    rw (
-      c.asked_number.ensures,
-      c.first-2.ensures,
-      c.first.ensures,
-      d.factor-factor.ensures,
-      d.sweeps-sweeps.ensures,
-      b.threshold-threshold.ensures,
-      b.semi-semi.ensures,
-      h.half_life-half_life.ensures,
-      h.target-target.ensures,
-      f.fixed-fixed.ensures,
-      f.ridge-ridge.ensures,
-    )
+returns c = rw (
+  c.count.ensures,
+  c.count-2.ensures,
+  c.count-3.ensures,
+  c.count-4.ensures,
+  c.count-5.ensures,
+  c.count-6.ensures,
+  c.count-7.ensures,
+  c.count-8.ensures,
+  c.first.ensures,
+  c.first-2.ensures,
+  c.body_or_zero.ensures,
+  c.body_or_zero-2.ensures,
+  c.body_or_zero-3.ensures,
+  c.body_or_zero-4.ensures,
+  c.body_or_zero-5.ensures,
+  c.body_or_zero-6.ensures,
+  c.body_or_zero-7.ensures,
+  c.body_or_zero-8.ensures,
+  c.asked_number.ensures,
+  ← c.ridge-ridge.ensures,
+  ← c.fixed-fixed.ensures,
+  ← c.target-target.ensures,
+  ← c.half_life-half_life.ensures,
+  ← c.semi-semi.ensures,
+  ← c.threshold-threshold.ensures,
+  ← c.sweeps-sweeps.ensures,
+  ← c.factor-factor.ensures,
+)

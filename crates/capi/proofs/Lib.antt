@@ -1,3 +1,0 @@
--- Laws that the proofs of the exports share.
-pub mod Tells
-pub mod Told

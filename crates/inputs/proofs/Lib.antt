@@ -1,0 +1,3 @@
+-- What the code of the calls shares.
+pub mod Refused
+pub mod Tables

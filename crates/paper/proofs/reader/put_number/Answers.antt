@@ -1,9 +1,0 @@
--- `paper::reader::put_number` meets its contract: one number is stored, or the buffer is full.
-use Rattle.paper.proofs.Writes.{put_in, put_full}
-use Rattle.paper.proofs.reader.put_number.Goals as goal
-
-pub returns-then-at-out : goal.returns-then-at-out
-returns-then-at-out c = put_in _ _ _ c.if-at-out.true
-
-pub returns-else-at-out : goal.returns-else-at-out
-returns-else-at-out c = put_full _ _ _ c.if-at-out.false
