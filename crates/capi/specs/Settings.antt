@@ -1,4 +1,4 @@
--- What only the contracts of the C interface cite: settings in numbers, a kind each, with the value that some kinds have (include/engine.h). Definitions only.
+-- What only the contracts of the C interface cite: settings in numbers, a kind each, with the value that some kinds have, a float or its bits (include/engine.h). Definitions only.
 use Rattle.std.specs.Prelude.{ℕ, ◌-◌, Bool, cond, ◌&&◌, ltb, eqb, Float}
 use Rattle.rules.specs.Settings.{target_of}
 use Rattle.rules.specs.declared.Decay.TheVariants.{HalfLife, Lambda}
@@ -23,7 +23,7 @@ regularization_kinds = 2
 unfoldable pub known : ℕ → ℕ → ℕ → Bool
 known estimate shrinkage regularization = ltb estimate estimate_kinds && ltb shrinkage shrinkage_kinds && ltb regularization regularization_kinds
 
-unfoldable pub estimate_of : ℕ → Float → Estimate
+unfoldable pub estimate_of : {A : Type 0} → ℕ → A → Estimate A
 estimate_of kind x =
     cond (eqb kind 0) Sample
     (cond (eqb kind 1) Given
@@ -31,10 +31,10 @@ estimate_of kind x =
     (cond (eqb kind 3) Semi
     (cond (eqb kind 4) (SemiBelow x) (Weighted (Lambda x))))))
 
-unfoldable pub shrinkage_of : ℕ → Float → Shrinkage
+unfoldable pub shrinkage_of : {A : Type 0} → ℕ → A → Shrinkage A
 shrinkage_of kind x = cond (eqb kind 0) Unshrunk (cond (eqb kind 1) (Fixed x) (LedoitWolf (target_of (kind - 2))))
 
-unfoldable pub regularization_of : ℕ → Float → Regularization
+unfoldable pub regularization_of : {A : Type 0} → ℕ → A → Regularization A
 regularization_of kind x = cond (eqb kind 0) Unregularized (Ridge x)
 
 abbrev pub settings_of : ℕ → Float → ℕ → Float → ℕ → Float → ℕ → Settings

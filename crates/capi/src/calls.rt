@@ -72,7 +72,7 @@ fn weighted_mean(
     returns: &[f64],
     assets: usize,
     periods: usize,
-    decay: Decay,
+    decay: Decay<f64>,
     answer: &mut [f64],
     numbers: &mut [f64; 2],
     wholes: &mut [usize; 2],

@@ -4,52 +4,11 @@ ghost use Rattle.capi.specs.Record as Records;
 ghost use Rattle.capi.specs.Settings as Kinds;
 ghost use Rattle.paper.specs.Question as Questions;
 
-use paper::question::{Asked, EstimateBits, Question, RegularizationBits, ShrinkageBits};
-use rules::Target;
+use crate::settings::{estimate_of, regularization_of, shrinkage_of};
+use paper::question::{Asked, Question};
+use rules::{Decay, Estimate, Regularization, Shrinkage, Target};
 
 // A number that stands for no kind gives none.
-#[tactic(auto, unfolding(crate::specs::Record::estimate_from))]
-fn estimate_from(kind: u32, bits: u64) -> Option<EstimateBits>
-    ensures known { is_some result ≡ ltb kind Kinds.estimate_kinds }
-    ensures value { IfSome result (λ e. e ≡ Records.estimate_from kind bits) }
-{
-    match kind {
-        0 => Some(EstimateBits::Sample),
-        1 => Some(EstimateBits::Given),
-        2 => Some(EstimateBits::HalfLife(bits)),
-        3 => Some(EstimateBits::Semi),
-        4 => Some(EstimateBits::SemiBelow(bits)),
-        5 => Some(EstimateBits::Lambda(bits)),
-        _ => None,
-    }
-}
-
-#[tactic(auto, unfolding(crate::specs::Record::shrinkage_from, rules::specs::Settings::target_of))]
-fn shrinkage_from(kind: u32, bits: u64) -> Option<ShrinkageBits>
-    ensures known { is_some result ≡ ltb kind Kinds.shrinkage_kinds }
-    ensures value { IfSome result (λ s. s ≡ Records.shrinkage_from kind bits) }
-{
-    match kind {
-        0 => Some(ShrinkageBits::Unshrunk),
-        1 => Some(ShrinkageBits::Fixed(bits)),
-        2 => Some(ShrinkageBits::LedoitWolf(Target::ConstantVariance)),
-        3 => Some(ShrinkageBits::LedoitWolf(Target::ConstantCorrelation)),
-        _ => None,
-    }
-}
-
-#[tactic(auto, unfolding(crate::specs::Record::regularization_from))]
-fn regularization_from(kind: u32, bits: u64) -> Option<RegularizationBits>
-    ensures known { is_some result ≡ ltb kind Kinds.regularization_kinds }
-    ensures value { IfSome result (λ r. r ≡ Records.regularization_from kind bits) }
-{
-    match kind {
-        0 => Some(RegularizationBits::Unregularized),
-        1 => Some(RegularizationBits::Ridge(bits)),
-        _ => None,
-    }
-}
-
 #[tactic(auto, unfolding(crate::specs::Record::limit_from))]
 fn limit_from(has_limit: u32, limit: usize) -> Option<Option<usize>>
     ensures known { is_some result ≡ ltb has_limit 2 }
@@ -96,72 +55,73 @@ pub(crate) fn question_from(
     Some(Question {
         assets,
         periods,
-        estimate: estimate_from(estimate, estimate_bits)?,
-        shrinkage: shrinkage_from(shrinkage, shrinkage_bits)?,
-        regularization: regularization_from(regularization, regularization_bits)?,
+        estimate: estimate_of(estimate, estimate_bits)?,
+        shrinkage: shrinkage_of(shrinkage, shrinkage_bits)?,
+        regularization: regularization_of(regularization, regularization_bits)?,
         limit: limit_from(has_limit, limit)?,
         asked: asked_from(question)?,
     })
 }
 
-fn estimate_kind(estimate: EstimateBits) -> usize
+fn estimate_kind(estimate: Estimate<u64>) -> usize
     ensures { result ≡ Records.estimate_kind estimate }
 {
     match estimate {
-        EstimateBits::Sample => 0,
-        EstimateBits::Given => 1,
-        EstimateBits::HalfLife(_) => 2,
-        EstimateBits::Lambda(_) => 5,
-        EstimateBits::Semi => 3,
-        EstimateBits::SemiBelow(_) => 4,
+        Estimate::Sample => 0,
+        Estimate::Given => 1,
+        Estimate::Weighted(Decay::HalfLife(_)) => 2,
+        Estimate::Weighted(Decay::Lambda(_)) => 5,
+        Estimate::Semi => 3,
+        Estimate::SemiBelow(_) => 4,
     }
 }
 
-fn estimate_value(estimate: EstimateBits) -> u64
+fn estimate_value(estimate: Estimate<u64>) -> u64
     ensures { result ≡ Records.estimate_value estimate }
 {
     match estimate {
-        EstimateBits::HalfLife(bits) | EstimateBits::Lambda(bits) | EstimateBits::SemiBelow(bits) =>
-            bits,
+        Estimate::Weighted(Decay::HalfLife(bits))
+        | Estimate::Weighted(Decay::Lambda(bits))
+        | Estimate::SemiBelow(bits) => bits,
         _ => 0,
     }
 }
 
-fn shrinkage_kind(shrinkage: ShrinkageBits) -> usize
+fn shrinkage_kind(shrinkage: Shrinkage<u64>) -> usize
     ensures { result ≡ Records.shrinkage_kind shrinkage }
 {
     match shrinkage {
-        ShrinkageBits::Unshrunk => 0,
-        ShrinkageBits::Fixed(_) => 1,
-        ShrinkageBits::LedoitWolf(Target::ConstantVariance) => 2,
-        ShrinkageBits::LedoitWolf(Target::ConstantCorrelation) => 3,
+        Shrinkage::Unshrunk => 0,
+        Shrinkage::Fixed(_) => 1,
+        Shrinkage::LedoitWolf(Target::ConstantVariance) => 2,
+        Shrinkage::LedoitWolf(Target::ConstantCorrelation) => 3,
     }
 }
 
-fn shrinkage_value(shrinkage: ShrinkageBits) -> u64
+fn shrinkage_value(shrinkage: Shrinkage<u64>) -> u64
     ensures { result ≡ Records.shrinkage_value shrinkage }
 {
     match shrinkage {
-        ShrinkageBits::Fixed(bits) => bits,
+        Shrinkage::Fixed(bits) => bits,
         _ => 0,
     }
 }
 
-fn regularization_kind(regularization: RegularizationBits) -> usize
+fn regularization_kind(regularization: Regularization<u64>) -> usize
     ensures { result ≡ Records.regularization_kind regularization }
 {
     match regularization {
-        RegularizationBits::Unregularized => 0,
-        RegularizationBits::Ridge(_) => 1,
+        Regularization::Unregularized => 0,
+        Regularization::Ridge(_) => 1,
     }
 }
 
-fn regularization_value(regularization: RegularizationBits) -> u64
+fn regularization_value(regularization: Regularization<u64>) -> u64
     ensures { result ≡ Records.regularization_value regularization }
 {
     match regularization {
-        RegularizationBits::Unregularized => 0,
-        RegularizationBits::Ridge(bits) => bits,
+        Regularization::Unregularized => 0,
+        Regularization::Ridge(bits) => bits,
     }
 }
 

@@ -19,7 +19,7 @@ pub(crate) fn target_from(kind: u32) -> Option<Target>
 }
 
 #[tactic(auto, unfolding(crate::specs::Settings::estimate_of))]
-fn estimate_of(kind: u32, value: f64) -> Option<Estimate>
+pub(crate) fn estimate_of<T: Copy>(kind: u32, value: T) -> Option<Estimate<T>>
     ensures known { is_some result ≡ ltb kind Kinds.estimate_kinds }
     ensures value { IfSome result (λ e. e ≡ Kinds.estimate_of kind value) }
 {
@@ -35,7 +35,7 @@ fn estimate_of(kind: u32, value: f64) -> Option<Estimate>
 }
 
 #[tactic(auto, unfolding(crate::specs::Settings::shrinkage_of, rules::specs::Settings::target_of))]
-fn shrinkage_of(kind: u32, value: f64) -> Option<Shrinkage>
+pub(crate) fn shrinkage_of<T: Copy>(kind: u32, value: T) -> Option<Shrinkage<T>>
     ensures known { is_some result ≡ ltb kind Kinds.shrinkage_kinds }
     ensures value { IfSome result (λ s. s ≡ Kinds.shrinkage_of kind value) }
 {
@@ -49,7 +49,7 @@ fn shrinkage_of(kind: u32, value: f64) -> Option<Shrinkage>
 }
 
 #[tactic(auto, unfolding(crate::specs::Settings::regularization_of))]
-fn regularization_of(kind: u32, value: f64) -> Option<Regularization>
+pub(crate) fn regularization_of<T: Copy>(kind: u32, value: T) -> Option<Regularization<T>>
     ensures known { is_some result ≡ ltb kind Kinds.regularization_kinds }
     ensures value { IfSome result (λ r. r ≡ Kinds.regularization_of kind value) }
 {

@@ -47,7 +47,7 @@ fn mix_correlation(intensity: f64, b: &[f64], n: usize, volatilities: &mut [f64]
 // Shrunk towards the target of the shrinkage, a fixed one towards constant variance. `volatilities` is to reckon in.
 // Two arms have one body: joined by `|`, a proof no longer sees which of them it is in.
 fn shrink(
-    shrinkage: Shrinkage,
+    shrinkage: Shrinkage<f64>,
     intensity: f64,
     b: &[f64],
     n: usize,
@@ -76,7 +76,7 @@ fn shrink(
 }
 
 // A + ε I for the A in `out`, with `unit` to reckon in.
-fn regularize(regularization: Regularization, n: usize, unit: &mut [f64], out: &mut [f64])
+fn regularize(regularization: Regularization<f64>, n: usize, unit: &mut [f64], out: &mut [f64])
     requires { (length unit.old ≡ n * n) × (length out.old ≡ n * n) }
     ensures { (f : Matrix) → out.old ≡ rows n n f → out.new ≡ rows n n (Adjusted.regularized regularization f) }
 {
@@ -105,7 +105,7 @@ pub fn adjust(settings: Settings, intensity: f64, b: &[f64], n: usize, out: &mut
 }
 
 // Whether the intensity or the regularization is above 0.
-pub fn is_adjusted(intensity: f64, regularization: Regularization) -> bool
+pub fn is_adjusted(intensity: f64, regularization: Regularization<f64>) -> bool
     ensures { result ≡ Adjusted.is_adjusted intensity regularization }
 {
     match regularization {

@@ -8,7 +8,7 @@ use inputs::checks::when;
 use rules::{Decay, Field, Refusal};
 
 // ln λ.
-pub fn log_decay(decay: Decay) -> f64
+pub fn log_decay(decay: Decay<f64>) -> f64
     ensures { result ≡ Weighted.log_decay decay }
 {
     match decay {
@@ -27,7 +27,7 @@ fn accepted(l: f64) -> bool
     MIN_LOG_DECAY <= l && l < 0.0
 }
 
-fn accepted_decay(decay: Decay) -> bool
+fn accepted_decay(decay: Decay<f64>) -> bool
     ensures { result ≡ Weighted.accepted_decay decay }
 {
     let good = accepted(log_decay(decay));
@@ -37,7 +37,7 @@ fn accepted_decay(decay: Decay) -> bool
     }
 }
 
-fn field(decay: Decay) -> Field
+fn field(decay: Decay<f64>) -> Field
     ensures { result ≡ Order.decay_field decay }
 {
     match decay {
@@ -48,7 +48,7 @@ fn field(decay: Decay) -> Field
 
 // Refusal 7 for field 3, or for field 6 in its place.
 #[tactic(auto, unfolding(rules::specs::Order::bad_decay))]
-pub fn bad_decay(decay: Decay) -> Result<(), Refusal>
+pub fn bad_decay(decay: Decay<f64>) -> Result<(), Refusal>
     ensures { checked result ≡ Order.bad_decay decay }
 {
     when(!accepted_decay(decay), Refusal::BadSetting(field(decay)))

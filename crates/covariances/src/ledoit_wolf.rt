@@ -102,7 +102,7 @@ fn of_rows_in(
     volatilities: &mut [f64],
     work: &mut [f64],
 ) -> f64
-    requires { (0 < z.now.returns.assets) × (length s.old ≡ z.now.returns.assets * z.now.returns.assets) × (length pi.old ≡ z.now.returns.assets * z.now.returns.assets) × (length theta.old ≡ z.now.returns.assets * z.now.returns.assets) × (length volatilities.old ≡ z.now.returns.assets) × (length work.old ≡ z.now.returns.assets * z.now.returns.assets) }
+    requires { (length s.old ≡ z.now.returns.assets * z.now.returns.assets) × (length pi.old ≡ z.now.returns.assets * z.now.returns.assets) × (length theta.old ≡ z.now.returns.assets * z.now.returns.assets) × (length volatilities.old ≡ z.now.returns.assets) × (length work.old ≡ z.now.returns.assets * z.now.returns.assets) }
     ensures { result ≡ intensity_from target z.now.returns.periods z.now.returns.assets (matrix_of z.now) }
 {
     let n = z.returns.assets;
@@ -120,7 +120,6 @@ fn of_rows_in(
 
 #[tactic(auto, using(matrix::proofs::Lent::lent))]
 fn of_rows(target: Target, z: &Rows) -> f64
-    requires { 0 < z.now.returns.assets }
     ensures { result ≡ intensity_from target z.now.returns.periods z.now.returns.assets (matrix_of z.now) }
 {
     let n = z.returns.assets;
@@ -159,24 +158,18 @@ fn largest_exponent(r: &Returns, means: &[f64], sizes: &mut [f64]) -> i32
 
 // δ of the returns: the second moments, π and θ of the deviations over a power of two near the largest.
 #[tactic(auto, using(matrix::proofs::Lent::lent))]
-pub fn ledoit_wolf(target: Target, r: &[f64], n: usize, periods: usize) -> f64
-    requires { (length r.now ≡ periods * n) × (0 < n) × (n ≤ max_side) }
-    ensures { result ≡ LedoitWolf.ledoit_wolf target periods n (at r.now n) }
+pub fn ledoit_wolf(target: Target, r: &Returns) -> f64
+    ensures { result ≡ LedoitWolf.ledoit_wolf target r.now.periods r.now.assets (return_at r.now) }
 {
     let mut means = [0.0; matrix::MAX_SIDE];
     let mut sizes = [0.0; matrix::MAX_SIDE];
-    let centers = &mut means[..n];
-    let returns = &Returns {
-        numbers: r,
-        assets: n,
-        periods,
-    };
-    sample::means(returns, centers);
-    let e = largest_exponent(returns, centers, &mut sizes[..n]);
+    let centers = &mut means[..r.assets];
+    sample::means(r, centers);
+    let e = largest_exponent(r, centers, &mut sizes[..r.assets]);
     let power = powers::factors(-e);
     let z = Rows {
         row: Row::Scaled(power.near, power.far),
-        returns: *returns,
+        returns: *r,
         units: &[],
         centers,
         weights: &[],

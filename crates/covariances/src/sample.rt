@@ -1,7 +1,6 @@
 // The sample means and covariance, the largest returns, volatilities, and the rule for a constant asset (returns.rs; methods/mod.rs, `correlation`).
-ghost use Rattle.std.specs.Prelude.{◌≡◌, ◌*◌, ◌≤◌, length};
+ghost use Rattle.std.specs.Prelude.{◌≡◌, ◌*◌, length};
 ghost use Rattle.leaves.specs.Loops.{tab, nth};
-ghost use Rattle.matrix.specs.Limits.{max_side};
 ghost use Rattle.matrix.specs.Matrix.{Matrix, at, rows};
 ghost use Rattle.rules.specs.Sample as Sample;
 ghost use Rattle.rules.specs.Sample.{volatility};
@@ -17,90 +16,68 @@ use tables::{columns, vectors};
 
 // Each asset's mean return, in its unit where there are units.
 #[tactic(auto, using(matrix::proofs::Lent::lent))]
-pub fn means_in_units<'a>(r: &'a [f64], n: usize, periods: usize, units: &'a [f64], out: &mut [f64])
-    requires { (length r.now ≡ periods * n) × (n ≤ max_side) × (length out.old ≡ n) }
-    ensures { out.new ≡ tab n (Sample.mean periods (in_units n units.now (at r.now n))) }
+pub fn means_in_units(r: &Returns, units: &[f64], out: &mut [f64])
+    requires { length out.old ≡ r.now.assets }
+    ensures { out.new ≡ tab r.now.assets (Sample.mean r.now.periods (in_units r.now.assets units.now (return_at r.now))) }
 {
     let zeros = [0.0; matrix::MAX_SIDE];
-    let returns = &Returns {
-        numbers: r,
-        assets: n,
-        periods,
-    };
     let z = Rows {
         row: Row::Plain,
-        returns: *returns,
+        returns: *r,
         units,
-        centers: &zeros[..n],
+        centers: &zeros[..r.assets],
         weights: &[],
     };
     columns::sum(&z, out);
-    vectors::divide(std::num::nearest_u64_to_f64(periods as u64), out);
+    vectors::divide(std::num::nearest_u64_to_f64(r.periods as u64), out);
 }
 
 // The sample covariance, from these means.
-pub fn covariance_in_units<'a>(
-    r: &'a [f64],
-    n: usize,
-    periods: usize,
-    units: &'a [f64],
-    means: &'a [f64],
-    out: &mut [f64],
-)
-    requires { (length r.now ≡ periods * n) × (n ≤ max_side) × (1 ≤ periods) × (length means.now ≡ n) × (length out.old ≡ n * n) }
-    ensures { means.now ≡ tab n (Sample.mean periods (in_units n units.now (at r.now n))) → out.new ≡ rows n n (Sample.covariance periods (in_units n units.now (at r.now n))) }
+pub fn covariance_in_units(r: &Returns, units: &[f64], means: &[f64], out: &mut [f64])
+    requires { (length means.now ≡ r.now.assets) × (length out.old ≡ r.now.assets * r.now.assets) }
+    ensures { means.now ≡ tab r.now.assets (Sample.mean r.now.periods (in_units r.now.assets units.now (return_at r.now))) → out.new ≡ rows r.now.assets r.now.assets (Sample.covariance r.now.periods (in_units r.now.assets units.now (return_at r.now))) }
 {
-    let returns = &Returns {
-        numbers: r,
-        assets: n,
-        periods,
-    };
     let z = Rows {
         row: Row::Deviation,
-        returns: *returns,
+        returns: *r,
         units,
         centers: means,
         weights: &[],
     };
     gram(&z, out);
-    vectors::divide(std::num::nearest_u64_to_f64((periods - 1) as u64), out);
+    vectors::divide(std::num::nearest_u64_to_f64((r.periods - 1) as u64), out);
 }
 
 pub(crate) fn means(r: &Returns, out: &mut [f64])
     requires { length out.old ≡ r.now.assets }
     ensures { out.new ≡ tab r.now.assets (Sample.mean r.now.periods (return_at r.now)) }
 {
-    means_in_units(r.numbers, r.assets, r.periods, &[], out);
+    means_in_units(r, &[], out);
 }
 
 #[tactic(auto, using(matrix::proofs::Lent::lent))]
-pub fn covariance(r: &[f64], n: usize, periods: usize, out: &mut [f64])
-    requires { (length r.now ≡ periods * n) × (n ≤ max_side) × (1 ≤ periods) × (length out.old ≡ n * n) }
-    ensures { out.new ≡ rows n n (Sample.covariance periods (at r.now n)) }
+pub fn covariance(r: &Returns, out: &mut [f64])
+    requires { length out.old ≡ r.now.assets * r.now.assets }
+    ensures { out.new ≡ rows r.now.assets r.now.assets (Sample.covariance r.now.periods (return_at r.now)) }
 {
     let mut buffer = [0.0; matrix::MAX_SIDE];
-    let mean = &mut buffer[..n];
-    means_in_units(r, n, periods, &[], mean);
-    covariance_in_units(r, n, periods, &[], mean, out);
+    let mean = &mut buffer[..r.assets];
+    means_in_units(r, &[], mean);
+    covariance_in_units(r, &[], mean, out);
 }
 
 // Each asset's largest return in size.
 #[tactic(auto, using(matrix::proofs::Lent::lent))]
-pub fn amax(r: &[f64], n: usize, periods: usize, out: &mut [f64])
-    requires { (length r.now ≡ periods * n) × (n ≤ max_side) × (length out.old ≡ n) }
-    ensures { out.new ≡ tab n (Sample.largest periods (at r.now n)) }
+pub fn amax(r: &Returns, out: &mut [f64])
+    requires { length out.old ≡ r.now.assets }
+    ensures { out.new ≡ tab r.now.assets (Sample.largest r.now.periods (return_at r.now)) }
 {
     let zeros = [0.0; matrix::MAX_SIDE];
-    let returns = &Returns {
-        numbers: r,
-        assets: n,
-        periods,
-    };
     let z = Rows {
         row: Row::Plain,
-        returns: *returns,
+        returns: *r,
         units: &[],
-        centers: &zeros[..n],
+        centers: &zeros[..r.assets],
         weights: &[],
     };
     columns::amax(&z, out);
@@ -117,7 +94,6 @@ pub fn put_volatilities(s: &[f64], n: usize, out: &mut [f64])
 }
 
 // The first asset with a volatility of at most 1e-10 of its largest return.
-// By index: with `zip` and `position`, n would stand in the contract alone.
 // A loop and not `position`: it reads two slices at i, and the refusal names i.
 pub fn constant_returns(volatilities: &[f64], n: usize, sizes: &[f64]) -> Result<(), Refusal>
     requires { (length volatilities.now ≡ n) × (length sizes.now ≡ n) }

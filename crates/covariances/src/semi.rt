@@ -1,5 +1,5 @@
 // The semicovariance below each asset's mean, or below a threshold (covariance.rs).
-ghost use Rattle.std.specs.Prelude.{◌≡◌, ℕ, ◌*◌, ◌≤◌, length, Float};
+ghost use Rattle.std.specs.Prelude.{◌≡◌, ℕ, ◌*◌, length, Float};
 ghost use Rattle.leaves.specs.Loops.{tab};
 ghost use Rattle.matrix.specs.Matrix.{rows};
 ghost use Rattle.rules.specs.Semi as Semi;
@@ -30,7 +30,7 @@ fn put_below(floors: &[f64], r: &Returns, degrees: usize, out: &mut [f64])
 // The mean takes a degree of freedom.
 #[tactic(auto, using(matrix::proofs::Lent::lent))]
 pub(crate) fn semicovariance(r: &Returns, out: &mut [f64])
-    requires { (1 ≤ r.now.periods) × (length out.old ≡ r.now.assets * r.now.assets) }
+    requires { length out.old ≡ r.now.assets * r.now.assets }
     ensures { out.new ≡ rows r.now.assets r.now.assets (Semi.semicovariance r.now.periods (return_at r.now)) }
 {
     let mut buffer = [0.0; matrix::MAX_SIDE];

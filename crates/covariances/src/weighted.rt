@@ -3,11 +3,9 @@ ghost use Rattle.std.specs.Prelude.{◌≡◌, ℕ, ◌*◌, ◌≤◌, length};
 ghost use Rattle.leaves.specs.Numbers.{◌⊘◌};
 ghost use Rattle.leaves.specs.Loops.{tab, nth};
 ghost use Rattle.leaves.specs.Root.{sqrt};
-ghost use Rattle.matrix.specs.Limits.{max_side};
-ghost use Rattle.matrix.specs.Matrix.{at, rows};
+ghost use Rattle.matrix.specs.Matrix.{rows};
 ghost use Rattle.rules.specs.Weighted as Weighted;
 ghost use Rattle.rules.specs.BayesStein.{exponent_at};
-ghost use Rattle.rules.specs.Order.{max_periods};
 ghost use Rattle.tables.specs.Exponents.{Exponents};
 ghost use Rattle.tables.specs.Rows.{return_at};
 
@@ -81,7 +79,7 @@ fn means(r: &Returns, weights: &[f64], out: &mut [f64])
 {
     let mut buffer = [0; matrix::MAX_SIDE];
     let exponents = &mut buffer[..r.assets];
-    sample::amax(r.numbers, r.assets, r.periods, out);
+    sample::amax(r, out);
     scales::put_exponents(out, exponents);
     put_means(r, exponents, weights, out);
     scales::scale_back(exponents, out);
@@ -96,7 +94,7 @@ fn covariance_in(
     centers: &mut [f64],
     out: &mut [f64],
 )
-    requires { (1 ≤ r.now.periods) × (length weights.old ≡ r.now.periods) × (length roots.old ≡ r.now.periods) × (length centers.old ≡ r.now.assets) × (length out.old ≡ r.now.assets * r.now.assets) }
+    requires { (length weights.old ≡ r.now.periods) × (length roots.old ≡ r.now.periods) × (length centers.old ≡ r.now.assets) × (length out.old ≡ r.now.assets * r.now.assets) }
     ensures { out.new ≡ rows r.now.assets r.now.assets (Weighted.weighted_covariance r.now.periods l (return_at r.now)) }
 {
     put_weights(l, weights);
@@ -114,7 +112,7 @@ fn covariance_in(
 
 #[tactic(auto, using(matrix::proofs::Lent::lent))]
 pub(crate) fn covariance(l: f64, r: &Returns, out: &mut [f64])
-    requires { (1 ≤ r.now.periods) × (r.now.periods ≤ max_periods) × (length out.old ≡ r.now.assets * r.now.assets) }
+    requires { length out.old ≡ r.now.assets * r.now.assets }
     ensures { out.new ≡ rows r.now.assets r.now.assets (Weighted.weighted_covariance r.now.periods l (return_at r.now)) }
 {
     let mut weights = [0.0; rules::MAX_PERIODS];
@@ -132,17 +130,12 @@ pub(crate) fn covariance(l: f64, r: &Returns, out: &mut [f64])
 
 // The means with the weights of l.
 #[tactic(auto, using(matrix::proofs::Lent::lent))]
-pub fn mean_of(l: f64, r: &[f64], n: usize, periods: usize, out: &mut [f64])
-    requires { (length r.now ≡ periods * n) × (n ≤ max_side) × (periods ≤ max_periods) × (length out.old ≡ n) }
-    ensures { out.new ≡ tab n (Weighted.weighted_mean periods (Weighted.weights periods l) (at r.now n)) }
+pub fn mean_of(l: f64, r: &Returns, out: &mut [f64])
+    requires { length out.old ≡ r.now.assets }
+    ensures { out.new ≡ tab r.now.assets (Weighted.weighted_mean r.now.periods (Weighted.weights r.now.periods l) (return_at r.now)) }
 {
     let mut buffer = [0.0; rules::MAX_PERIODS];
-    let weights = &mut buffer[..periods];
+    let weights = &mut buffer[..r.periods];
     put_weights(l, weights);
-    let returns = &Returns {
-        numbers: r,
-        assets: n,
-        periods,
-    };
-    means(returns, weights, out);
+    means(r, weights, out);
 }

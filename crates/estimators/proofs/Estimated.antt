@@ -61,7 +61,7 @@ module _ (s : Settings) (δ : Float) (T n : ℕ) (x : Matrix) (b : List Float) (
 -- ---- from the settings on
 
 -- the given matrix is looked at for the given estimate alone
-base_given : (e : Estimate) (T : ℕ) (x g g' : Matrix) → (is_given e ≡ true → g ≡ g') → base e T x g ≡ base e T x g'
+base_given : (e : Estimate Float) (T : ℕ) (x g g' : Matrix) → (is_given e ≡ true → g ≡ g') → base e T x g ≡ base e T x g'
 unfolding base
 base_given Sample T x g g' h = refl
 base_given Given T x g g' h = h refl

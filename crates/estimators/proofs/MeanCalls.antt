@@ -36,7 +36,7 @@ module _ (r : List Float) (n T : ℕ) (slice : List Float) (shape : Shaped (leng
 
   -- ---- exponentially weighted
 
-  module _ (d : Decay) where
+  module _ (d : Decay Float) where
     abbrev restₑ : List Check
     restₑ = bad_decay d ∷ []
 

@@ -4,10 +4,10 @@ ghost use Rattle.std.specs.Prelude.{◌≡◌};
 ghost use Rattle.rules.specs.Calls as Calls;
 ghost use Rattle.rules.specs.Calls.{answered};
 
-use crate::panel::Panel;
 use crate::{covariance, expected_returns};
 use inputs::shapes::{AnswerShape, check_shape};
 use rules::{Answer, Decay, Refusal, Settings, Target};
+use tables::returns::Returns;
 
 // The covariance of n assets, estimated, shrunk and regularized as the settings say: n * n numbers, row by row. `given`, `side` rows of as many
 // numbers, is looked at for the given estimate alone.
@@ -23,13 +23,13 @@ pub fn adjusted_covariance(
     ensures { answered result answer.new ≡ Calls.adjusted_covariance returns.now n periods settings given.now side answer.old }
 {
     check_shape(returns.len(), n, periods, AnswerShape::Table, answer.len())?;
-    let p = Panel {
-        returns,
-        n,
+    let r = Returns {
+        numbers: returns,
+        assets: n,
         periods,
     };
     let size = n * n;
-    covariance::adjusted_covariance(settings, &p, given, side, &mut answer[..size])
+    covariance::adjusted_covariance(settings, &r, given, side, &mut answer[..size])
 }
 
 // The intensity of Ledoit and Wolf's shrinkage towards the target.
@@ -42,12 +42,12 @@ pub fn ledoit_wolf(
     ensures { result ≡ Calls.ledoit_wolf_intensity returns.now n periods target }
 {
     check_shape(returns.len(), n, periods, AnswerShape::Nothing, 0)?;
-    let p = Panel {
-        returns,
-        n,
+    let r = Returns {
+        numbers: returns,
+        assets: n,
         periods,
     };
-    covariance::ledoit_wolf(target, &p)
+    covariance::ledoit_wolf(target, &r)
 }
 
 // Each asset's mean, with weights that fall as the decay says: n numbers.
@@ -55,18 +55,18 @@ pub fn exponentially_weighted_mean(
     returns: &[f64],
     n: usize,
     periods: usize,
-    decay: Decay,
+    decay: Decay<f64>,
     answer: &mut [f64],
 ) -> Result<Answer, Refusal>
     ensures { answered result answer.new ≡ Calls.exponentially_weighted_mean returns.now n periods decay answer.old }
 {
     check_shape(returns.len(), n, periods, AnswerShape::Vector, answer.len())?;
-    let p = Panel {
-        returns,
-        n,
+    let r = Returns {
+        numbers: returns,
+        assets: n,
         periods,
     };
-    expected_returns::exponentially_weighted_mean(&p, decay, &mut answer[..n])
+    expected_returns::exponentially_weighted_mean(&r, decay, &mut answer[..n])
 }
 
 // Each asset's mean, moved towards their average as by James and Stein: n numbers.
@@ -80,12 +80,12 @@ pub fn james_stein_mean(
     ensures { answered result answer.new ≡ Calls.james_stein_mean returns.now n periods limit answer.old }
 {
     check_shape(returns.len(), n, periods, AnswerShape::Vector, answer.len())?;
-    let p = Panel {
-        returns,
-        n,
+    let r = Returns {
+        numbers: returns,
+        assets: n,
         periods,
     };
-    expected_returns::james_stein_mean(&p, limit, &mut answer[..n])
+    expected_returns::james_stein_mean(&r, limit, &mut answer[..n])
 }
 
 // Each asset's mean, moved towards the mean of the portfolio of least variance as by Jorion: n numbers.
@@ -99,10 +99,10 @@ pub fn bayes_stein_mean(
     ensures { answered result answer.new ≡ Calls.bayes_stein_mean returns.now n periods limit answer.old }
 {
     check_shape(returns.len(), n, periods, AnswerShape::Vector, answer.len())?;
-    let p = Panel {
-        returns,
-        n,
+    let r = Returns {
+        numbers: returns,
+        assets: n,
         periods,
     };
-    expected_returns::bayes_stein_mean(&p, limit, &mut answer[..n])
+    expected_returns::bayes_stein_mean(&r, limit, &mut answer[..n])
 }

@@ -1,5 +1,5 @@
 // The adjusted covariance and the Ledoit-Wolf intensity, on inputs of the right shape (covariance.rs, `adjusted_covariance`).
-ghost use Rattle.std.specs.Prelude.{◌≡◌, ℕ, true, ◌*◌, length, take};
+ghost use Rattle.std.specs.Prelude.{◌≡◌, true, ◌*◌, length, take};
 ghost use Rattle.matrix.specs.Limits.{max_side};
 ghost use Rattle.matrix.specs.Matrix.{Matrix, at, rows};
 ghost use Rattle.rules.specs.Refusals as Refusals;
@@ -11,11 +11,11 @@ ghost use Rattle.rules.specs.Calls as Calls;
 ghost use Rattle.rules.specs.Calls.{answered};
 ghost use Rattle.rules.specs.Given.{averaged_of};
 ghost use Rattle.inputs.specs.Checks.{checked, examined};
+ghost use Rattle.tables.specs.Rows.{return_at};
 ghost use Rattle.estimators.specs.Estimated.{finished, estimated};
 
 use crate::opening::check_returns;
-use crate::panel::Panel;
-use crate::validate::{bad_estimate, bad_regularization, bad_shrinkage, is_given, not_the_sample};
+use crate::validate::{bad_estimate, bad_regularization, bad_shrinkage, not_the_sample};
 use covariances::adjusted::{adjust, is_adjusted};
 use covariances::base::put_base;
 use covariances::{ledoit_wolf, sample};
@@ -23,56 +23,64 @@ use inputs::checks::when;
 use inputs::given::{check_sizes, examine};
 use inputs::limits::bad_sweep_limit;
 use rules::{Answer, Estimate, Refusal, Settings, Shrinkage, Target};
+use tables::returns::Returns;
 
 // Refusal 9: the first asset whose volatility under the covariance s is at most 1e-10 of its largest return.
-fn check_constant(s: &[f64], p: &Panel) -> Result<(), Refusal>
-    requires { length s.now ≡ p.now.n * p.now.n }
-    ensures { checked result ≡ Order.constant_returns p.now.n (at s.now p.now.n) (Sample.largest p.now.periods (at p.now.returns.now p.now.n)) }
+#[tactic(auto, using(matrix::proofs::Lent::lent))]
+fn check_constant(s: &[f64], r: &Returns) -> Result<(), Refusal>
+    requires { length s.now ≡ r.now.assets * r.now.assets }
+    ensures { checked result ≡ Order.constant_returns r.now.assets (at s.now r.now.assets) (Sample.largest r.now.periods (return_at r.now)) }
 {
     let mut one = [0.0; matrix::MAX_SIDE];
     let mut other = [0.0; matrix::MAX_SIDE];
-    let volatilities = &mut one[..p.n];
-    let sizes = &mut other[..p.n];
-    sample::put_volatilities(s, p.n, volatilities);
-    sample::amax(p.returns, p.n, p.periods, sizes);
-    sample::constant_returns(volatilities, p.n, sizes)
+    let volatilities = &mut one[..r.assets];
+    let sizes = &mut other[..r.assets];
+    sample::put_volatilities(s, r.assets, volatilities);
+    sample::amax(r, sizes);
+    sample::constant_returns(volatilities, r.assets, sizes)
 }
 
 // Refusal 9 by constant correlation, from the sample covariance: that target divides by its volatilities.
-fn no_correlation(shrinkage: Shrinkage, sample: &[f64], p: &Panel) -> Result<(), Refusal>
-    requires { sample.now ≡ rows p.now.n p.now.n (Sample.covariance p.now.periods (at p.now.returns.now p.now.n)) }
-    ensures { checked result ≡ Order.no_correlation shrinkage p.now.periods p.now.n (at p.now.returns.now p.now.n) }
+#[tactic(auto, using(matrix::proofs::Lent::lent))]
+fn no_correlation(shrinkage: Shrinkage<f64>, sample: &[f64], r: &Returns) -> Result<(), Refusal>
+    requires { sample.now ≡ rows r.now.assets r.now.assets (Sample.covariance r.now.periods (return_at r.now)) }
+    ensures { checked result ≡ Order.no_correlation shrinkage r.now.periods r.now.assets (return_at r.now) }
 {
     match shrinkage {
         Shrinkage::Unshrunk | Shrinkage::Fixed(_) => Ok(()),
         Shrinkage::LedoitWolf(target) => match target {
             Target::ConstantVariance => Ok(()),
-            Target::ConstantCorrelation => check_constant(sample, p),
+            Target::ConstantCorrelation => check_constant(sample, r),
         },
     }
 }
 
 // Refusal 10, for a given matrix whose side is not the number of assets.
-fn wrong_side(estimate: Estimate, side: usize, n: usize) -> Result<(), Refusal>
+fn wrong_side(estimate: Estimate<f64>, side: usize, n: usize) -> Result<(), Refusal>
     ensures { checked result ≡ Order.wrong_side estimate side n }
 {
-    when(is_given(estimate) && side != n, Refusal::WrongSide(side))
+    when(estimate.is_given() && side != n, Refusal::WrongSide(side))
 }
 
 // Refusals by the settings, in this order: 7 for fields 1 to 4; 8; 9 by constant correlation; 10 by the side.
-fn check_settings(settings: Settings, sample: &[f64], p: &Panel, side: usize) -> Result<(), Refusal>
-    requires { sample.now ≡ rows p.now.n p.now.n (Sample.covariance p.now.periods (at p.now.returns.now p.now.n)) }
-    ensures { checked result ≡ Refusals.first (by_settings settings p.now.periods p.now.n side (at p.now.returns.now p.now.n)) }
+fn check_settings(
+    settings: Settings,
+    sample: &[f64],
+    r: &Returns,
+    side: usize,
+) -> Result<(), Refusal>
+    requires { sample.now ≡ rows r.now.assets r.now.assets (Sample.covariance r.now.periods (return_at r.now)) }
+    ensures { checked result ≡ Refusals.first (by_settings settings r.now.periods r.now.assets side (return_at r.now)) }
 {
     bad_regularization(settings.regularization)?;
     bad_shrinkage(settings.shrinkage)?;
     bad_estimate(settings.estimate)?;
     not_the_sample(settings.shrinkage, settings.estimate)?;
-    no_correlation(settings.shrinkage, sample, p)?;
-    wrong_side(settings.estimate, side, p.n)
+    no_correlation(settings.shrinkage, sample, r)?;
+    wrong_side(settings.estimate, side, r.assets)
 }
 
-// Refusal 9 of a given covariance: the first variance that is 0.
+// Refusal 9 of a given covariance: the first variance that is 0. By index: the variances do not stand side by side.
 fn zero_variance(b: &[f64], n: usize) -> Result<(), Refusal>
     requires { length b.now ≡ n * n }
     ensures { checked result ≡ Order.zero_variance n (at b.now n) }
@@ -86,16 +94,21 @@ fn zero_variance(b: &[f64], n: usize) -> Result<(), Refusal>
 }
 
 // Refusal 9 of an unadjusted estimate b: a given variance may not be 0, one from the returns not 0 to rounding.
-fn no_variance(adjusted: bool, estimate: Estimate, b: &[f64], p: &Panel) -> Result<(), Refusal>
-    requires { length b.now ≡ p.now.n * p.now.n }
-    ensures { checked result ≡ Order.no_variance adjusted estimate p.now.periods p.now.n (at p.now.returns.now p.now.n) (at b.now p.now.n) }
+fn no_variance(
+    adjusted: bool,
+    estimate: Estimate<f64>,
+    b: &[f64],
+    r: &Returns,
+) -> Result<(), Refusal>
+    requires { length b.now ≡ r.now.assets * r.now.assets }
+    ensures { checked result ≡ Order.no_variance adjusted estimate r.now.periods r.now.assets (return_at r.now) (at b.now r.now.assets) }
 {
     if adjusted {
         Ok(())
-    } else if is_given(estimate) {
-        zero_variance(b, p.n)
+    } else if estimate.is_given() {
+        zero_variance(b, r.assets)
     } else {
-        check_constant(b, p)
+        check_constant(b, r)
     }
 }
 
@@ -113,15 +126,13 @@ fn check_answer(a: &[f64], n: usize) -> Result<(), Refusal>
 }
 
 // δ, the intensity of the shrinkage, 0 where there is none.
-fn intensity(shrinkage: Shrinkage, p: &Panel) -> f64
-    ensures { result ≡ Adjusted.intensity shrinkage p.now.periods p.now.n (at p.now.returns.now p.now.n) }
+fn intensity(shrinkage: Shrinkage<f64>, r: &Returns) -> f64
+    ensures { result ≡ Adjusted.intensity shrinkage r.now.periods r.now.assets (return_at r.now) }
 {
     match shrinkage {
         Shrinkage::Unshrunk => 0.0,
         Shrinkage::Fixed(fixed) => fixed,
-        Shrinkage::LedoitWolf(target) => ledoit_wolf::ledoit_wolf(
-            target, p.returns, p.n, p.periods,
-        ),
+        Shrinkage::LedoitWolf(target) => ledoit_wolf::ledoit_wolf(target, r),
     }
 }
 
@@ -130,18 +141,18 @@ fn finish_in(
     settings: Settings,
     intensity: f64,
     b: &[f64],
-    p: &Panel,
+    r: &Returns,
     made: (usize, usize),
     a: &mut [f64],
     out: &mut [f64],
 ) -> Result<Answer, Refusal>
-    requires { (length b.now ≡ p.now.n * p.now.n) × (length a.old ≡ p.now.n * p.now.n) × (length out.old ≡ p.now.n * p.now.n) }
-    ensures { answered result out.new ≡ finished settings intensity p.now.periods p.now.n (at p.now.returns.now p.now.n) made b.now out.old }
+    requires { (length b.now ≡ r.now.assets * r.now.assets) × (length a.old ≡ r.now.assets * r.now.assets) × (length out.old ≡ r.now.assets * r.now.assets) }
+    ensures { answered result out.new ≡ finished settings intensity r.now.periods r.now.assets (return_at r.now) made b.now out.old }
 {
     let adjusted = is_adjusted(intensity, settings.regularization);
-    no_variance(adjusted, settings.estimate, b, p)?;
-    adjust(settings, intensity, b, p.n, a);
-    check_answer(a, p.n)?;
+    no_variance(adjusted, settings.estimate, b, r)?;
+    adjust(settings, intensity, b, r.assets, a);
+    check_answer(a, r.assets)?;
     matrix::tables::copy(a, out);
     let (sweeps, rotations) = made;
     Ok(Answer::Covariance(intensity, sweeps, rotations))
@@ -150,7 +161,7 @@ fn finish_in(
 // The answer from the settings on: `sample` is the sample covariance, `given` the averaged given matrix, `b` and `a` are to reckon in.
 fn estimate_in(
     settings: Settings,
-    p: &Panel,
+    r: &Returns,
     side: usize,
     sample: &[f64],
     given: &[f64],
@@ -159,21 +170,13 @@ fn estimate_in(
     a: &mut [f64],
     out: &mut [f64],
 ) -> Result<Answer, Refusal>
-    requires { (sample.now ≡ rows p.now.n p.now.n (Sample.covariance p.now.periods (at p.now.returns.now p.now.n))) × (length given.now ≡ p.now.n * p.now.n) × (length b.old ≡ p.now.n * p.now.n) × (length a.old ≡ p.now.n * p.now.n) × (length out.old ≡ p.now.n * p.now.n) }
-    ensures { (g : Matrix) → (Adjusted.is_given settings.estimate ≡ true → side ≡ p.now.n → at given.now p.now.n ≡ g) → answered result out.new ≡ estimated settings p.now.periods p.now.n side (at p.now.returns.now p.now.n) made g out.old }
+    requires { (sample.now ≡ rows r.now.assets r.now.assets (Sample.covariance r.now.periods (return_at r.now))) × (length given.now ≡ r.now.assets * r.now.assets) × (length b.old ≡ r.now.assets * r.now.assets) × (length a.old ≡ r.now.assets * r.now.assets) × (length out.old ≡ r.now.assets * r.now.assets) }
+    ensures { (g : Matrix) → (Adjusted.is_given settings.estimate ≡ true → side ≡ r.now.assets → at given.now r.now.assets ≡ g) → answered result out.new ≡ estimated settings r.now.periods r.now.assets side (return_at r.now) made g out.old }
 {
-    check_settings(settings, sample, p, side)?;
-    let delta = intensity(settings.shrinkage, p);
-    put_base(
-        settings.estimate,
-        p.returns,
-        p.n,
-        p.periods,
-        sample,
-        given,
-        b,
-    );
-    finish_in(settings, delta, b, p, made, a, out)
+    check_settings(settings, sample, r, side)?;
+    let delta = intensity(settings.shrinkage, r);
+    put_base(settings.estimate, r, sample, given, b);
+    finish_in(settings, delta, b, r, made, a, out)
 }
 
 // The averaged given matrix at the beginning of `out`, and the sweeps and rotations of its decomposition; none of it for the other estimates.
@@ -186,7 +189,7 @@ fn examine_given(
     requires { length out.old ≡ max_side * max_side }
     ensures { (result ≡ examined (Refusals.first (of_given settings given.now side)) (Adjusted.decomposition_of settings given.now side)) × (Adjusted.is_given settings.estimate ≡ true → Refusals.first (of_given settings given.now side) ≡ Refusals.passes → take (side * side) out.new ≡ averaged_of given.now side) }
 {
-    if !is_given(settings.estimate) {
+    if !settings.estimate.is_given() {
         return Ok((0, 0));
     }
     bad_sweep_limit(settings.limit)?;
@@ -198,7 +201,7 @@ fn examine_given(
 // `adjusted_covariance`, with four tables to reckon in.
 fn adjusted_in(
     settings: Settings,
-    p: &Panel,
+    r: &Returns,
     given: &[f64],
     side: usize,
     sample: &mut [f64],
@@ -207,15 +210,15 @@ fn adjusted_in(
     a: &mut [f64],
     out: &mut [f64],
 ) -> Result<Answer, Refusal>
-    requires { (length sample.old ≡ p.now.n * p.now.n) × (length averaged.old ≡ max_side * max_side) × (length b.old ≡ p.now.n * p.now.n) × (length a.old ≡ p.now.n * p.now.n) × (length out.old ≡ p.now.n * p.now.n) }
-    ensures { answered result out.new ≡ Calls.adjusted_covariance p.now.returns.now p.now.n p.now.periods settings given.now side out.old }
+    requires { (length sample.old ≡ r.now.assets * r.now.assets) × (length averaged.old ≡ max_side * max_side) × (length b.old ≡ r.now.assets * r.now.assets) × (length a.old ≡ r.now.assets * r.now.assets) × (length out.old ≡ r.now.assets * r.now.assets) }
+    ensures { answered result out.new ≡ Calls.adjusted_covariance r.now.numbers.now r.now.assets r.now.periods settings given.now side out.old }
 {
-    check_returns(p, sample)?;
+    check_returns(r, sample)?;
     let made = examine_given(settings, given, side, averaged)?;
-    let size = p.n * p.n;
+    let size = r.assets * r.assets;
     estimate_in(
         settings,
-        p,
+        r,
         side,
         sample,
         &averaged[..size],
@@ -227,24 +230,25 @@ fn adjusted_in(
 }
 
 // The call after refusals 1 to 4, in arrays of the largest size.
+#[tactic(auto, using(matrix::proofs::Lent::lent))]
 pub(crate) fn adjusted_covariance(
     settings: Settings,
-    p: &Panel,
+    r: &Returns,
     given: &[f64],
     side: usize,
     out: &mut [f64],
 ) -> Result<Answer, Refusal>
-    requires { length out.old ≡ p.now.n * p.now.n }
-    ensures { answered result out.new ≡ Calls.adjusted_covariance p.now.returns.now p.now.n p.now.periods settings given.now side out.old }
+    requires { length out.old ≡ r.now.assets * r.now.assets }
+    ensures { answered result out.new ≡ Calls.adjusted_covariance r.now.numbers.now r.now.assets r.now.periods settings given.now side out.old }
 {
     let mut sample = [0.0; matrix::MAX_SIDE * matrix::MAX_SIDE];
     let mut averaged = [0.0; matrix::MAX_SIDE * matrix::MAX_SIDE];
     let mut b = [0.0; matrix::MAX_SIDE * matrix::MAX_SIDE];
     let mut a = [0.0; matrix::MAX_SIDE * matrix::MAX_SIDE];
-    let size = p.n * p.n;
+    let size = r.assets * r.assets;
     adjusted_in(
         settings,
-        p,
+        r,
         given,
         side,
         &mut sample[..size],
@@ -256,20 +260,21 @@ pub(crate) fn adjusted_covariance(
 }
 
 // The Ledoit-Wolf intensity, with a table to reckon in.
-fn ledoit_wolf_in(target: Target, p: &Panel, table: &mut [f64]) -> Result<Answer, Refusal>
-    requires { length table.old ≡ p.now.n * p.now.n }
-    ensures { result ≡ Calls.ledoit_wolf_intensity p.now.returns.now p.now.n p.now.periods target }
+fn ledoit_wolf_in(target: Target, r: &Returns, table: &mut [f64]) -> Result<Answer, Refusal>
+    requires { length table.old ≡ r.now.assets * r.now.assets }
+    ensures { result ≡ Calls.ledoit_wolf_intensity r.now.numbers.now r.now.assets r.now.periods target }
 {
-    check_returns(p, table)?;
-    no_correlation(Shrinkage::LedoitWolf(target), table, p)?;
-    Ok(Answer::Intensity(ledoit_wolf::ledoit_wolf(target, p.returns, p.n, p.periods)))
+    check_returns(r, table)?;
+    no_correlation(Shrinkage::LedoitWolf(target), table, r)?;
+    Ok(Answer::Intensity(ledoit_wolf::ledoit_wolf(target, r)))
 }
 
 // The call after refusals 1 to 4, in an array of the largest size.
-pub(crate) fn ledoit_wolf(target: Target, p: &Panel) -> Result<Answer, Refusal>
-    ensures { result ≡ Calls.ledoit_wolf_intensity p.now.returns.now p.now.n p.now.periods target }
+#[tactic(auto, using(matrix::proofs::Lent::lent))]
+pub(crate) fn ledoit_wolf(target: Target, r: &Returns) -> Result<Answer, Refusal>
+    ensures { result ≡ Calls.ledoit_wolf_intensity r.now.numbers.now r.now.assets r.now.periods target }
 {
     let mut sample = [0.0; matrix::MAX_SIDE * matrix::MAX_SIDE];
-    let size = p.n * p.n;
-    ledoit_wolf_in(target, p, &mut sample[..size])
+    let size = r.assets * r.assets;
+    ledoit_wolf_in(target, r, &mut sample[..size])
 }

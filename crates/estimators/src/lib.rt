@@ -5,5 +5,4 @@ pub mod calls;
 mod covariance;
 mod expected_returns;
 mod opening;
-mod panel;
 mod validate;

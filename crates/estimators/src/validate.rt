@@ -8,20 +8,14 @@ use covariances::decay::bad_decay;
 use inputs::checks::when;
 use rules::{Estimate, Field, Refusal, Regularization, Shrinkage};
 
-fn is_sample(estimate: Estimate) -> bool
+fn is_sample(estimate: Estimate<f64>) -> bool
     ensures { result ≡ Adjusted.is_sample estimate }
 {
     matches!(estimate, Estimate::Sample)
 }
 
-pub(crate) fn is_given(estimate: Estimate) -> bool
-    ensures { result ≡ Adjusted.is_given estimate }
-{
-    matches!(estimate, Estimate::Given)
-}
-
 // Finite and at least 0, as -0 is.
-pub(crate) fn bad_regularization(regularization: Regularization) -> Result<(), Refusal>
+pub(crate) fn bad_regularization(regularization: Regularization<f64>) -> Result<(), Refusal>
     ensures { checked result ≡ Order.bad_regularization regularization }
 {
     match regularization {
@@ -34,7 +28,7 @@ pub(crate) fn bad_regularization(regularization: Regularization) -> Result<(), R
 }
 
 // In [0, 1].
-pub(crate) fn bad_shrinkage(shrinkage: Shrinkage) -> Result<(), Refusal>
+pub(crate) fn bad_shrinkage(shrinkage: Shrinkage<f64>) -> Result<(), Refusal>
     ensures { checked result ≡ Order.bad_shrinkage shrinkage }
 {
     match shrinkage {
@@ -47,7 +41,7 @@ pub(crate) fn bad_shrinkage(shrinkage: Shrinkage) -> Result<(), Refusal>
 }
 
 // Refusal 7 for fields 3, 6 and 4: the decay accepted, the threshold finite.
-pub(crate) fn bad_estimate(estimate: Estimate) -> Result<(), Refusal>
+pub(crate) fn bad_estimate(estimate: Estimate<f64>) -> Result<(), Refusal>
     ensures { checked result ≡ Order.bad_estimate estimate }
 {
     match estimate {
@@ -61,7 +55,10 @@ pub(crate) fn bad_estimate(estimate: Estimate) -> Result<(), Refusal>
 }
 
 // Ledoit-Wolf with another estimate.
-pub(crate) fn not_the_sample(shrinkage: Shrinkage, estimate: Estimate) -> Result<(), Refusal>
+pub(crate) fn not_the_sample(
+    shrinkage: Shrinkage<f64>,
+    estimate: Estimate<f64>,
+) -> Result<(), Refusal>
     ensures { checked result ≡ Order.not_the_sample shrinkage estimate }
 {
     match shrinkage {

@@ -36,12 +36,12 @@ equal = one ∷ one ∷ one ∷ one ∷ []
 abbrev blank : List Float
 blank = zero⁺ ∷ zero⁺ ∷ zero⁺ ∷ zero⁺ ∷ []
 
-abbrev two_assets : List Float → Shrinkage → Regularization → Answered
+abbrev two_assets : List Float → Shrinkage Float → Regularization Float → Answered
 two_assets r shrinkage regularization =
     adjusted_covariance r 2 2 (settings Sample shrinkage regularization max_sweeps) [] 0 blank
 
 -- one asset, returns 1, 3, and a given variance
-abbrev one_asset : Float → Regularization → ℕ → Answered
+abbrev one_asset : Float → Regularization Float → ℕ → Answered
 one_asset g regularization limit =
     adjusted_covariance (one ∷ count 3 ∷ []) 1 2 (settings Given Unshrunk regularization limit) (g ∷ []) 1 (zero⁺ ∷ [])
 

@@ -68,7 +68,7 @@ use Rattle.law.proofs.Shrinkage as Shrinkages
 use Rattle.law.proofs.Estimates.{Based, estimate_chain}
 
 -- ---- the intensity: a number of the granted size, or NaN from Ledoit and Wolf
-abbrev Known : Shrinkage → Float → Type 0
+abbrev Known : Shrinkage Float → Float → Type 0
 Known S δ = ((δ ≡ nan) × (S ≡ Unshrunk → ⊥)) ⊎ Shrinkages.Intensity δ
 
 module _ (r : List Float) (n P : ℕ) (opens : (ds : List Check) → first (opening r n P 0 [] ++ ds) ≡ first ds) where
@@ -80,10 +80,10 @@ module _ (r : List Float) (n P : ℕ) (opens : (ds : List Check) → first (open
   ledoit_wolf_known : (F : Target) → AtLeast intensity_range (ledoit_wolf F P n (at r n)) → (ledoit_wolf F P n (at r n) ≡ nan) ⊎ Shrinkages.Intensity (ledoit_wolf F P n (at r n))
   ledoit_wolf_known F = ledoit_wolf_cases (λ z. AtLeast intensity_range z → (z ≡ nan) ⊎ Shrinkages.Intensity z) F P n (at r n) (λ a. inr (zero_bounded intensity_bounds)) (clamped_range intensity_range (lit≤ tt))
 
-  not_unshrunk : {F : Target} → LedoitWolf F ≡ Unshrunk → ⊥
+  not_unshrunk : {F : Target} → ◌≡◌ {A = Shrinkage Float} (LedoitWolf F) Unshrunk → ⊥
   not_unshrunk e = let z : true ≡ false = cc in subst lib.Dec.T z tt
 
-  intensity_known : (S : Shrinkage) (E : Estimate) → ShrinkageInRange S (is_sample E) r n P → bad_shrinkage S ≡ passes → not_the_sample S E ≡ passes → no_correlation S P n (at r n) ≡ passes → Known S (intensity S P n (at r n))
+  intensity_known : (S : Shrinkage Float) (E : Estimate Float) → ShrinkageInRange S (is_sample E) r n P → bad_shrinkage S ≡ passes → not_the_sample S E ≡ passes → no_correlation S P n (at r n) ≡ passes → Known S (intensity S P n (at r n))
   unfolding intensity bad_shrinkage not_the_sample
   intensity_known Unshrunk E q a b c = inr (zero_bounded intensity_bounds)
   intensity_known (Fixed δ) E q a b c = inr (fixed δ q.0 q.1 ((and-eq-true_iff (le zero⁺ δ) (le δ one)).0 (pass_must (le zero⁺ δ && le δ one) (BadSetting ShrinkageField) a)))
@@ -96,7 +96,7 @@ module _ (r : List Float) (n P : ℕ) (opens : (ds : List Check) → first (open
       elim (ledoit_wolf_known F l.0) [ inl z ↦ inl (z, λ w. not_unshrunk w) | inr i ↦ inr i ]
 
 -- ---- the checks of the settings, and the adjusted matrix
-module _ (k : ℕ) (small : k ≤ max_power) (r : List Float) (sizes : All (Sized return_range) r) (n P : ℕ) (s : Shape r n P) (side limit : ℕ) (S : Shrinkage) (H H' : Regularization) (h : Regularized (k + k) H H') (E E' : Estimate) (G G' : Matrix)
+module _ (k : ℕ) (small : k ≤ max_power) (r : List Float) (sizes : All (Sized return_range) r) (n P : ℕ) (s : Shape r n P) (side limit : ℕ) (S : Shrinkage Float) (H H' : Regularization Float) (h : Regularized (k + k) H H') (E E' : Estimate Float) (G G' : Matrix)
     (e : Based k n P side E E' (at r n) (at (map (shift (pos k)) r) n) G G') (δ : Float)
     (known : bad_shrinkage S ≡ passes → not_the_sample S E ≡ passes → no_correlation S P n (at r n) ≡ passes → Known S δ) where
   abbrev x : Matrix
@@ -132,14 +132,14 @@ module _ (k : ℕ) (small : k ≤ max_power) (r : List Float) (sizes : All (Size
         (tolerance_moved (returns k small r sizes n P s) (lit≤ tt) (omega arith) i l).range (plus i l) (sign_largest P x i)
         (ap (λ (v : Float). is_constant (sqrt v) (largest P x i)) (is i i l l) ∙ first_all (λ i. is_constant (volatility (covariance P x) i) (largest P x i)) n nothing i l))
 
-    shrunk_moved : (S : Shrinkage) → Shrinkages.Intensity δ → not_the_sample S E ≡ passes → no_correlation S P n (at r n) ≡ passes → (i j : ℕ) → i < n → j < n → Shrunken (k + k) (shrunk S δ n b i j) (shrunk S δ n b' i j)
+    shrunk_moved : (S : Shrinkage Float) → Shrinkages.Intensity δ → not_the_sample S E ≡ passes → no_correlation S P n (at r n) ≡ passes → (i j : ℕ) → i < n → j < n → Shrunken (k + k) (shrunk S δ n b i j) (shrunk S δ n b' i j)
     unfolding shrunk not_the_sample no_correlation
     shrunk_moved Unshrunk d e₄ e₅ i j l m = moved_within shrunk_bounds tt (estimated i j l m)
     shrunk_moved (Fixed f) d e₄ e₅ i j l m = variance_mixed (k + k) double δ d n b b' i j s.0 s.1 estimated l m
     shrunk_moved (LedoitWolf ConstantVariance) d e₄ e₅ i j l m = variance_mixed (k + k) double δ d n b b' i j s.0 s.1 estimated l m
     shrunk_moved (LedoitWolf ConstantCorrelation) d e₄ e₅ i j l m = correlation_mixed (k + k) double δ d n b b' i j (correlated (pass_must (is_sample E) NotTheSample e₄) (pass_some (constant_asset n (covariance P x) (largest P x)) ZeroVariance e₅) i j l m) (estimated i j l m)
 
-  shrunk_nan : (S : Shrinkage) → (S ≡ Unshrunk → ⊥) → (m : Matrix) (i j : ℕ) → shrunk S nan n m i j ≡ nan
+  shrunk_nan : (S : Shrinkage Float) → (S ≡ Unshrunk → ⊥) → (m : Matrix) (i j : ℕ) → shrunk S nan n m i j ≡ nan
   unfolding shrunk
   shrunk_nan Unshrunk u m i j = absurd (u refl)
   shrunk_nan (Fixed f) u m i j = nan_mixed ConstantVariance n m i j
@@ -154,12 +154,12 @@ module _ (k : ℕ) (small : k ≤ max_power) (r : List Float) (sizes : All (Size
   abbrev Done : Type 0
   Done = (i j : ℕ) → i < n → j < n → Adjusted (k + k) (a i j) (a' i j)
 
-  correlation_alike : (S : Shrinkage) → no_correlation S P n (at (map (shift (pos k)) r) n) ≡ no_correlation S P n (at r n)
+  correlation_alike : (S : Shrinkage Float) → no_correlation S P n (at (map (shift (pos k)) r) n) ≡ no_correlation S P n (at r n)
   correlation_alike Unshrunk = unfold no_correlation in refl
   correlation_alike (Fixed f) = unfold no_correlation in refl
   correlation_alike (LedoitWolf F) = correlation_same k small r sizes n P F s
 
-  sample_alike : (S : Shrinkage) → not_the_sample S E' ≡ not_the_sample S E
+  sample_alike : (S : Shrinkage Float) → not_the_sample S E' ≡ not_the_sample S E
   unfolding not_the_sample
   sample_alike Unshrunk = refl
   sample_alike (Fixed f) = refl
@@ -204,7 +204,7 @@ pub record Outcome (k n : ℕ) (δ δ' : Float) (d d' : Decomposition) (a a' : M
   pub decomposition : d' ≡ d
   pub entries : (i j : ℕ) → i < n → j < n → Adjusted (k + k) (a i j) (a' i j)
 
-module _ (k : ℕ) (small : k ≤ max_power) (r : List Float) (sizes : All (Sized return_range) r) (n P side limit : ℕ) (S : Shrinkage) (H H' : Regularization) (h : Regularized (k + k) H H') (E E' : Estimate) (g g' : List Float)
+module _ (k : ℕ) (small : k ≤ max_power) (r : List Float) (sizes : All (Sized return_range) r) (n P side limit : ℕ) (S : Shrinkage Float) (H H' : Regularization Float) (h : Regularized (k + k) H H') (E E' : Estimate Float) (g g' : List Float)
     (copied : CopiedEstimate (pos k) E E') (q : EstimateInRange P E) (q' : EstimateInRange P E') (given : is_given E ≡ true → All (Sized covariance_range) g × (g' ≡ map (shift (pos (k + k))) g)) (shrinks : ShrinkageInRange S (is_sample E) r n P) where
   abbrev r' : List Float
   r' = map (shift (pos k)) r
@@ -212,22 +212,22 @@ module _ (k : ℕ) (small : k ≤ max_power) (r : List Float) (sizes : All (Size
   abbrev δ : List Float → Float
   δ r = intensity S P n (at r n)
 
-  abbrev d : Estimate → Regularization → List Float → Decomposition
+  abbrev d : Estimate Float → Regularization Float → List Float → Decomposition
   d E H g = decomposition_of (settings E S H limit) g side
 
-  abbrev estimate : Estimate → List Float → List Float → List Float
+  abbrev estimate : Estimate Float → List Float → List Float → List Float
   estimate E r g = base_of (settings E S H limit) P n (at r n) (average g side)
 
-  abbrev adjusted : Float → Estimate → Regularization → List Float → List Float → List Float
+  abbrev adjusted : Float → Estimate Float → Regularization Float → List Float → List Float → List Float
   adjusted δ E H r g = rows n n (regularized H (shrunk S δ n (at (estimate E r g) n)))
 
-  abbrev asked : Float → Estimate → Regularization → List Float → List Float → List Check
+  abbrev asked : Float → Estimate Float → Regularization Float → List Float → List Float → List Check
   asked δ E H r g = of_settings (settings E S H limit) δ P n side (at r n) (at (estimate E r g) n) (at (adjusted δ E H r g) n)
 
   intensity_same : Shape r n P → δ r' ≡ δ r
   intensity_same s = go S
     where
-      go : (S : Shrinkage) → intensity S P n (at (map (shift (pos k)) r) n) ≡ intensity S P n (at r n)
+      go : (S : Shrinkage Float) → intensity S P n (at (map (shift (pos k)) r) n) ≡ intensity S P n (at r n)
       go Unshrunk = unfold intensity in refl
       go (Fixed f) = unfold intensity in refl
       go (LedoitWolf F) = unfold intensity in ledoit_wolf_same F small (returns k small r sizes n P s)

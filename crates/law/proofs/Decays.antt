@@ -94,12 +94,12 @@ module _ (P : ℕ) (most : P ≤ max_periods) (l : Float) (fit : T (fits binary6
       not_lt least y x-number y-number (below_least under ∙ le-ltb (max_aged_log * U) (near age U) few)
 
 -- ---- either
-accepted_log : (d : Decay) → accepted_decay d ≡ true → accepted (log_decay d) ≡ true
+accepted_log : (d : Decay Float) → accepted_decay d ≡ true → accepted (log_decay d) ≡ true
 unfolding accepted_decay
 accepted_log (HalfLife h) e = e
 accepted_log (Lambda f) e = ((and-eq-true_iff (between01 f) (accepted (log_decay (Lambda f)))).0 e).1
 
-pub in_range_decaying : (P : ℕ) → 2 ≤ P → P ≤ max_periods → (d : Decay) → DecayInRange P d → accepted_decay d ≡ true → Decaying P (log_decay d)
+pub in_range_decaying : (P : ℕ) → 2 ≤ P → P ≤ max_periods → (d : Decay Float) → DecayInRange P d → accepted_decay d ≡ true → Decaying P (log_decay d)
 in_range_decaying P two most (HalfLife h) long ok = long_decaying P two most h long (accepted_log (HalfLife h) ok)
 in_range_decaying P two most (Lambda f) slow ok =
     let e = accepted_log (Lambda f) ok in

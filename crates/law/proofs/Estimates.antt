@@ -46,7 +46,7 @@ use Rattle.law.proofs.Weighted as Weighted
 use Rattle.law.proofs.Given.{average_moved, decomposition_same, given_chain}
 use Rattle.law.proofs.Shrinkage.{Estimated}
 
-pub record Based (k n P side : ℕ) (E E' : Estimate) (x y G G' : Matrix) : Type 0 where
+pub record Based (k n P side : ℕ) (E E' : Estimate Float) (x y G G' : Matrix) : Type 0 where
   pub bad : bad_estimate E' ≡ bad_estimate E
   pub sample : is_sample E' ≡ is_sample E
   pub given : is_given E' ≡ is_given E
@@ -87,7 +87,7 @@ module _ (k : ℕ) (small : k ≤ max_power) (r : List Float) (sizes : All (Size
     sampled = λ e. no e refl;
   }
 
-  from_weights : (d : Decay) → EstimateInRange P (Weighted d) → Based k n P side (Weighted d) (Weighted d) x y G G'
+  from_weights : (d : Decay Float) → EstimateInRange P (Weighted d) → Based k n P side (Weighted d) (Weighted d) x y G G'
   unfolding bad_estimate bad_decay base no_variance
   from_weights d slow = record {
     bad = refl;
@@ -114,7 +114,7 @@ module _ (k : ℕ) (small : k ≤ max_power) (n P side : ℕ) (x y : Matrix) (g 
   }
 
 -- ---- the checks of a given matrix, and after them what is known of the estimate
-pub estimate_chain : {Q : Type 0} (k : ℕ) (small : k ≤ max_power) (r : List Float) (sizes : All (Sized return_range) r) (n P : ℕ) (s : Shape r n P) (side limit : ℕ) (S : Shrinkage) (H H' : Regularization) (E E' : Estimate) (g g' : List Float)
+pub estimate_chain : {Q : Type 0} (k : ℕ) (small : k ≤ max_power) (r : List Float) (sizes : All (Sized return_range) r) (n P : ℕ) (s : Shape r n P) (side limit : ℕ) (S : Shrinkage Float) (H H' : Regularization Float) (E E' : Estimate Float) (g g' : List Float)
     → CopiedEstimate (pos k) E E' → EstimateInRange P E → EstimateInRange P E' → (is_given E ≡ true → All (Sized covariance_range) g × (g' ≡ map (shift (pos (k + k))) g))
     → (Based k n P side E E' (at r n) (at (map (shift (pos k)) r) n) (average g side) (average g' side) → decomposition_of (settings E' S H' limit) g' side ≡ decomposition_of (settings E S H limit) g side → Q)
     → Chain Q (of_given (settings E S H limit) g side) (of_given (settings E' S H' limit) g' side)

@@ -78,7 +78,7 @@ module _ (k : ℕ) (small : k ≤ max_power + max_power) (side : ℕ) (g : List 
         (ap₂ lt (sym (shift_zero⁺ (pos k))) scale ∙ lt_shift (pos k) zero⁺ (amax side side x))
         (decompose_alike limit side (divided y (amax side side y)) (divided x (amax side side x)) (λ i j a b. ap₂ ◌⊘◌ (average_moved i j a b).copy scale ∙ div_alike (pos k) (x i j) (amax side side x)))
 
-  pub given_chain : {P : Type 0} (limit : ℕ) (S : Shrinkage) (H H' : Regularization) → (length g ≡ side * side → P)
+  pub given_chain : {P : Type 0} (limit : ℕ) (S : Shrinkage Float) (H H' : Regularization Float) → (length g ≡ side * side → P)
       → Chain P (of_given (settings Given S H limit) g side) (of_given (settings Given S H' limit) g' side)
   unfolding of_given decomposition_of
   given_chain limit S H H' then =

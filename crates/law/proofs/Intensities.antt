@@ -72,7 +72,7 @@ bayes_share r limit n P few =
     let u = shrinkage_unit limit n m (exponents_of P n (at r n)) few (unfold moments in sign_count P) in
     share_of (bayes_stein n limit m (exponents_of P n (at r n))).intensity u.0 u.1
 
-adjusted_share : (S : Shrinkage) (P n : ℕ) (x : Matrix) → bad_shrinkage S ≡ passes → Share (intensity S P n x)
+adjusted_share : (S : Shrinkage Float) (P n : ℕ) (x : Matrix) → bad_shrinkage S ≡ passes → Share (intensity S P n x)
 unfolding intensity bad_shrinkage
 adjusted_share Unshrunk P n x h = zero_share
 adjusted_share (Fixed δ) P n x h = inr ((and-eq-true_iff (le zero⁺ δ) (le δ one)).0 (pass_must (le zero⁺ δ && le δ one) (BadSetting ShrinkageField) h))

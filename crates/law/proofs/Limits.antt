@@ -100,8 +100,8 @@ module _ (r : List Float) (n P : ℕ) (slice : List Float) where
 abbrev pub limited : Settings → ℕ → Settings
 limited s limit = settings s.estimate s.shrinkage s.regularization limit
 
-module _ (S : Shrinkage) (H : Regularization) (given : List Float) (side : ℕ) where
-  given_checks : (E : Estimate) (limit limit' : ℕ) → bad_sweep_limit limit' ≡ bad_sweep_limit limit → decomposition_of (settings E S H limit') given side ≡ decomposition_of (settings E S H limit) given side
+module _ (S : Shrinkage Float) (H : Regularization Float) (given : List Float) (side : ℕ) where
+  given_checks : (E : Estimate Float) (limit limit' : ℕ) → bad_sweep_limit limit' ≡ bad_sweep_limit limit → decomposition_of (settings E S H limit') given side ≡ decomposition_of (settings E S H limit) given side
       → of_given (settings E S H limit') given side ≡ of_given (settings E S H limit) given side
   unfolding of_given
   given_checks Sample limit limit' e p = refl
@@ -110,7 +110,7 @@ module _ (S : Shrinkage) (H : Regularization) (given : List Float) (side : ℕ) 
   given_checks Semi limit limit' e p = refl
   given_checks (SemiBelow threshold) limit limit' e p = refl
 
-  given_same : (E : Estimate) (limit limit' : ℕ) → limit ≤ limit' → first (of_given (settings E S H limit) given side) ≡ passes
+  given_same : (E : Estimate Float) (limit limit' : ℕ) → limit ≤ limit' → first (of_given (settings E S H limit) given side) ≡ passes
       → decomposition_of (settings E S H limit') given side ≡ decomposition_of (settings E S H limit) given side
   unfolding of_given decomposition_of
   given_same Sample limit limit' l h = refl

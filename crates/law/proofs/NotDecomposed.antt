@@ -86,7 +86,7 @@ opening_avoids r n P needed slice = (
   ),
 )
 
-given_avoids : (E : Estimate) (S : Shrinkage) (H : Regularization) (limit : ℕ) (g : List Float) (side : ℕ) → (is_given E ≡ true → (decomposition_of (settings E S H limit) g side).found ≡ true) → AllAvoid (of_given (settings E S H limit) g side)
+given_avoids : (E : Estimate Float) (S : Shrinkage Float) (H : Regularization Float) (limit : ℕ) (g : List Float) (side : ℕ) → (is_given E ≡ true → (decomposition_of (settings E S H limit) g side).found ≡ true) → AllAvoid (of_given (settings E S H limit) g side)
 unfolding of_given decomposition_of
 given_avoids Sample S H limit g side h = tt
 given_avoids Given S H limit g side h =
@@ -101,18 +101,18 @@ given_avoids Semi S H limit g side h = tt
 given_avoids (SemiBelow threshold) S H limit g side h = tt
 
 -- ---- the checks of the settings
-regularization_avoids : (H : Regularization) → Avoids (bad_regularization H)
+regularization_avoids : (H : Regularization Float) → Avoids (bad_regularization H)
 unfolding bad_regularization
 regularization_avoids Unregularized = tt
 regularization_avoids (Ridge x) = test (not (is_finite x && le zero⁺ x)) (BadSetting RegularizationField) refl
 
-shrinkage_avoids : (S : Shrinkage) → Avoids (bad_shrinkage S)
+shrinkage_avoids : (S : Shrinkage Float) → Avoids (bad_shrinkage S)
 unfolding bad_shrinkage
 shrinkage_avoids Unshrunk = tt
 shrinkage_avoids (Fixed δ) = test (not (le zero⁺ δ && le δ one)) (BadSetting ShrinkageField) refl
 shrinkage_avoids (LedoitWolf F) = tt
 
-estimate_avoids : (E : Estimate) → Avoids (bad_estimate E)
+estimate_avoids : (E : Estimate Float) → Avoids (bad_estimate E)
 unfolding bad_estimate bad_decay
 estimate_avoids Sample = tt
 estimate_avoids Given = tt
@@ -120,20 +120,20 @@ estimate_avoids (Weighted decay) = test (not (accepted_decay decay)) (BadSetting
 estimate_avoids Semi = tt
 estimate_avoids (SemiBelow threshold) = test (not (is_finite threshold)) (BadSetting ThresholdField) refl
 
-sample_avoids : (S : Shrinkage) (E : Estimate) → Avoids (not_the_sample S E)
+sample_avoids : (S : Shrinkage Float) (E : Estimate Float) → Avoids (not_the_sample S E)
 unfolding not_the_sample
 sample_avoids Unshrunk E = tt
 sample_avoids (Fixed δ) E = tt
 sample_avoids (LedoitWolf F) E = test (not (is_sample E)) NotTheSample refl
 
-correlation_avoids : (S : Shrinkage) (P n : ℕ) (x : Matrix) → Avoids (no_correlation S P n x)
+correlation_avoids : (S : Shrinkage Float) (P n : ℕ) (x : Matrix) → Avoids (no_correlation S P n x)
 unfolding no_correlation
 correlation_avoids Unshrunk P n x = tt
 correlation_avoids (Fixed δ) P n x = tt
 correlation_avoids (LedoitWolf ConstantVariance) P n x = tt
 correlation_avoids (LedoitWolf ConstantCorrelation) P n x = search (constant_asset n (covariance P x) (largest P x)) ZeroVariance (λ i. refl)
 
-variance_avoids : (b : Bool) (E : Estimate) (P n : ℕ) (x v : Matrix) → Avoids (no_variance b E P n x v)
+variance_avoids : (b : Bool) (E : Estimate Float) (P n : ℕ) (x v : Matrix) → Avoids (no_variance b E P n x v)
 unfolding no_variance
 variance_avoids true E P n x v = tt
 variance_avoids false Sample P n x v = search (constant_asset n v (largest P x)) ZeroVariance (λ i. refl)

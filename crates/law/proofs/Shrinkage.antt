@@ -85,7 +85,7 @@ nan_mixed ConstantVariance n b i j = refl
 nan_mixed ConstantCorrelation n b i j = refl
 
 -- ---- what is asked of a regularization H and its copy
-pub record Regularized (k : ℕ) (H H' : Regularization) : Type 0 where
+pub record Regularized (k : ℕ) (H H' : Regularization Float) : Type 0 where
   pub bad : bad_regularization H' ≡ bad_regularization H
   pub adjusts : (δ : Float) → is_adjusted δ H' ≡ is_adjusted δ H
   pub entries : (a a' : Matrix) (i j : ℕ) → Shrunken k (a i j) (a' i j) → Adjusted k (regularized H a i j) (regularized H' a' i j)

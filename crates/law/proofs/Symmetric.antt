@@ -14,7 +14,7 @@ use Rattle.rules.specs.declared.Estimate.{Estimate}
 use Rattle.rules.specs.declared.Estimate.TheVariants.{Sample, Given, Weighted, Semi, SemiBelow}
 use Rattle.rules.proofs.GramSymmetric.{gram_symmetric}
 
-pub estimate_symmetric : (E : Estimate) → is_given E ≡ false → (P : ℕ) (x g : Matrix) (i j : ℕ) → base E P x g i j ≡ base E P x g j i
+pub estimate_symmetric : (E : Estimate Float) → is_given E ≡ false → (P : ℕ) (x g : Matrix) (i j : ℕ) → base E P x g i j ≡ base E P x g j i
 unfolding base covariance weighted_covariance semicovariance semicovariance_below
 estimate_symmetric Sample e P x g i j = ap (λ (z : Float). z ⊘ count (P - 1)) (gram_symmetric P _ i j)
 estimate_symmetric Given e P x g i j = absurd (subst T e tt)

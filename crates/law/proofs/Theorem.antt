@@ -33,11 +33,11 @@ use Rattle.law.proofs.Adjusted.{covariance_law}
 fits_all : (l : ℕ) (xs : List Float) → All (Sized l) xs → All (λ x. T (fits binary64 x)) xs
 fits_all l xs h = all_map (Sized l) (λ x. T (fits binary64 x)) (sized_fits l) xs h
 
-regularized : (k : ℕ) → k ≤ max_power → (H H' : Regularization) → CopiedRegularization (pos k) H H' → RegularizationInRange H → RegularizationInRange H' → Regularized (k + k) H H'
+regularized : (k : ℕ) → k ≤ max_power → (H H' : Regularization Float) → CopiedRegularization (pos k) H H' → RegularizationInRange H → RegularizationInRange H' → Regularized (k + k) H H'
 regularized k small H H' unregularized q q' = Shrinkages.unregularized (k + k)
 regularized k small H H' (Law.ridge {x = x} {y = y} c) q q' = Shrinkages.ridge (k + k) (omega arith) x y (sized_moved (k + k) covariance_range (lit≤ tt) x y q (copy-shift (k + k) x y (sized_fits covariance_range x q) (sized_fits covariance_range y q') c))
 
-given_too : (k : ℤ) (E E' : Estimate) → CopiedEstimate k E E' → is_given E ≡ true → is_given E' ≡ true
+given_too : (k : ℤ) (E E' : Estimate Float) → CopiedEstimate k E E' → is_given E ≡ true → is_given E' ≡ true
 given_too k E E' sample e = e
 given_too k E E' given e = e
 given_too k E E' weighted e = e
@@ -54,7 +54,7 @@ module _ (k : ℕ) (small : k ≤ max_power) (n P : ℕ) (r : List Float) (sizes
 
   by_question : (q q' : Question) → CopiedQuestion (pos k) q q' → QuestionInRange (first q) q → QuestionInRange (second q') q' → Alike (pos k) (answer (first q)) (answer (second q'))
   by_question q q' (covariance {s = s} {s' = s'} {g = g} {g' = g'} {side = side} c) a b =
-      let same : s' ≡ settings s'.estimate s.shrinkage s'.regularization s.limit = ap₂ (λ (S : Shrinkage) (l : ℕ). settings s'.estimate S s'.regularization l) (sym c.shrinkage) (sym c.limit) in
+      let same : s' ≡ settings s'.estimate s.shrinkage s'.regularization s.limit = ap₂ (λ (S : Shrinkage Float) (l : ℕ). settings s'.estimate S s'.regularization l) (sym c.shrinkage) (sym c.limit) in
       subst (λ (t : Settings). Alike (pos k) (answer (first (Law.adjusted s g side))) (answer (second (Law.adjusted t g' side)))) (sym same)
       (covariance_law k small r sizes n P side s.limit s.shrinkage s.regularization s'.regularization (regularized k small s.regularization s'.regularization c.regularization a.regularization b.regularization)
       s.estimate s'.estimate g g' c.estimate a.estimate b.estimate
@@ -81,14 +81,14 @@ up k a b s =
 
 -- ---- a power below 0: the two inputs change places
 module _ (j k : ℤ) (same_size : nat_abs j ≤ max_power → nat_abs k ≤ max_power) (once : (x y : Float) → Copy j x y → Copy k y x) (both : (x y : Float) → Copy (j +ℤ j) x y → Copy (k +ℤ k) y x) where
-  estimate_back : (E E' : Estimate) → CopiedEstimate j E E' → CopiedEstimate k E' E
+  estimate_back : (E E' : Estimate Float) → CopiedEstimate j E E' → CopiedEstimate k E' E
   estimate_back E E' sample = sample
   estimate_back E E' given = given
   estimate_back E E' weighted = weighted
   estimate_back E E' semi = semi
   estimate_back E E' (semi_below {x = x} {y = y} c) = semi_below (once x y c)
 
-  regularization_back : (H H' : Regularization) → CopiedRegularization j H H' → CopiedRegularization k H' H
+  regularization_back : (H H' : Regularization Float) → CopiedRegularization j H H' → CopiedRegularization k H' H
   regularization_back H H' unregularized = unregularized
   regularization_back H H' (Law.ridge {x = x} {y = y} c) = Law.ridge (both x y c)
 

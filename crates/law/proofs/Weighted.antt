@@ -120,7 +120,7 @@ covariance_moved {k} {n} {P} {x} {y} small r l q i j a b =
     (λ t l. moved_mul (term i a t l) (term j b t l) (lit≤ tt) (omega arith))
 
 -- ---- the call
-module _ (k : ℕ) (small : k ≤ max_power) (r : List Float) (sizes : All (Sized return_range) r) (n P : ℕ) (d : Decay) (slow : DecayInRange P d) where
+module _ (k : ℕ) (small : k ≤ max_power) (r : List Float) (sizes : All (Sized return_range) r) (n P : ℕ) (d : Decay Float) (slow : DecayInRange P d) where
   abbrev mean : List Float → ℕ → Float
   mean r = weighted_mean P (weights P (log_decay d)) (at r n)
 

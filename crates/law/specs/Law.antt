@@ -67,7 +67,7 @@ Each R (x ∷ xs) (y ∷ ys) = R x y × Each R xs ys
 pub data Question : Type 0 where
   adjusted : Settings → List Float → ℕ → Question
   intensity : Target → Question
-  weighted_mean : Decay → Question
+  weighted_mean : Decay Float → Question
   james_stein bayes_stein : ℕ → Question
 
 pub record Input : Type 0 where
@@ -158,23 +158,23 @@ LongHalfLife periods h = T (fits binary64 h && (eqb periods 0 || le (count (peri
 abbrev pub SlowFactor : ℕ → Float → Type 0
 SlowFactor periods f = T (not (accepted_decay (Lambda f)) || le (neg (count max_aged_log)) (count (periods - 1) ⊗ log_decay (Lambda f)))
 
-abbrev pub DecayInRange : ℕ → Decay → Type 0
+abbrev pub DecayInRange : ℕ → Decay Float → Type 0
 DecayInRange periods (HalfLife h) = LongHalfLife periods h
 DecayInRange periods (Lambda f) = SlowFactor periods f
 
-abbrev pub EstimateInRange : ℕ → Estimate → Type 0
+abbrev pub EstimateInRange : ℕ → Estimate Float → Type 0
 EstimateInRange periods Sample = Unit {0}
 EstimateInRange periods Given = Unit {0}
 EstimateInRange periods (Weighted decay) = DecayInRange periods decay
 EstimateInRange periods Semi = Unit {0}
 EstimateInRange periods (SemiBelow threshold) = Sized return_range threshold
 
-abbrev pub RegularizationInRange : Regularization → Type 0
+abbrev pub RegularizationInRange : Regularization Float → Type 0
 RegularizationInRange Unregularized = Unit {0}
 RegularizationInRange (Ridge x) = Sized covariance_range x
 
 -- a fixed intensity, or Ledoit-Wolf's where one is found: for the sample, if the call for it does not refuse
-abbrev pub ShrinkageInRange : Shrinkage → Bool → List Float → ℕ → ℕ → Type 0
+abbrev pub ShrinkageInRange : Shrinkage Float → Bool → List Float → ℕ → ℕ → Type 0
 ShrinkageInRange Unshrunk sample r n T = Unit {0}
 ShrinkageInRange (Fixed δ) sample r n T = lib.Dec.T (fits binary64 δ) × AtLeast intensity_range δ
 ShrinkageInRange (LedoitWolf F) sample r n T = All (AtLeast intensity_range) (cond sample (answer_parts n (ledoit_wolf_intensity r n T F) []).intensity [])
@@ -211,15 +211,15 @@ abbrev pub Copy : ℤ → Float → Float → Type 0
 Copy k x y = Times k x y × (signum x ≡ signum y)
 
 -- "the second's threshold is the first's times 2^k"; half-lives and decay factors are not scaled
-pub data CopiedEstimate (k : ℤ) : Estimate → Estimate → Type 0 where
+pub data CopiedEstimate (k : ℤ) : Estimate Float → Estimate Float → Type 0 where
   sample : CopiedEstimate k Sample Sample
   given : CopiedEstimate k Given Given
-  weighted : {decay : Decay} → CopiedEstimate k (Weighted decay) (Weighted decay)
+  weighted : {decay : Decay Float} → CopiedEstimate k (Weighted decay) (Weighted decay)
   semi : CopiedEstimate k Semi Semi
   semi_below : {x y : Float} → Copy k x y → CopiedEstimate k (SemiBelow x) (SemiBelow y)
 
 -- "its regularization and given covariance are the first's times 2^(2k)"
-pub data CopiedRegularization (k : ℤ) : Regularization → Regularization → Type 0 where
+pub data CopiedRegularization (k : ℤ) : Regularization Float → Regularization Float → Type 0 where
   unregularized : CopiedRegularization k Unregularized Unregularized
   ridge : {x y : Float} → Copy (k +ℤ k) x y → CopiedRegularization k (Ridge x) (Ridge y)
 
@@ -235,7 +235,7 @@ pub record CopiedSettings (k : ℤ) (s s' : Settings) (g g' : List Float) : Type
 pub data CopiedQuestion (k : ℤ) : Question → Question → Type 0 where
   covariance : {s s' : Settings} {g g' : List Float} {side : ℕ} → CopiedSettings k s s' g g' → CopiedQuestion k (adjusted s g side) (adjusted s' g' side)
   ledoit_wolf : {F : Target} → CopiedQuestion k (intensity F) (intensity F)
-  weighted : {decay : Decay} → CopiedQuestion k (weighted_mean decay) (weighted_mean decay)
+  weighted : {decay : Decay Float} → CopiedQuestion k (weighted_mean decay) (weighted_mean decay)
   james : {limit : ℕ} → CopiedQuestion k (james_stein limit) (james_stein limit)
   bayes : {limit : ℕ} → CopiedQuestion k (bayes_stein limit) (bayes_stein limit)
 

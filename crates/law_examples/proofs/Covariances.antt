@@ -3,7 +3,7 @@ use mathlib.Core.Path.{◌≡◌, refl}
 use mathlib.Core.Bool.{false}
 use mathlib.Core.List.{[]}
 use lib.IntN.{ℤ}
-use lib.Ieee.{fin}
+use lib.Ieee.{Float, fin}
 use Rattle.leaves.specs.Numbers.{half, one}
 use Rattle.matrix.specs.Limits.{max_sweeps}
 use Rattle.rules.specs.declared.Decay.TheVariants.{HalfLife, Lambda}
@@ -24,7 +24,7 @@ use Rattle.law_examples.proofs.Inputs.{factor, low_return, high_return, low_cova
 use Rattle.law_examples.proofs.Pairs.{Pair, pair}
 
 -- ---- no matrix given: the question, its settings in range, and its settings scaled
-abbrev ungiven : Estimate → Shrinkage → Regularization → Question
+abbrev ungiven : Estimate Float → Shrinkage Float → Regularization Float → Question
 ungiven e h r = adjusted (settings e h r max_sweeps) [] 0
 
 in_range : {a : Input} {s : Settings} → EstimateInRange a.periods s.estimate → RegularizationInRange s.regularization → ShrinkageInRange s.shrinkage (is_sample s.estimate) a.returns a.assets a.periods → SettingsInRange a s []

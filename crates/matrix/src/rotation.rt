@@ -18,7 +18,7 @@ fn turn(a: &mut [f64], i: usize, j: usize, c: f64, s: f64)
     a[j] = s * x + c * y;
 }
 
-// Columns and rows stay two functions: with a base and a stride for both, the loop along a row would not be known to be one.
+// Columns and rows stay two functions: one for both would be no plainer, with two bases and a stride in place of p and q.
 fn turn_columns(a: &mut [f64], n: usize, p: usize, q: usize, c: f64, s: f64)
     requires { (p < n) × (q < n) × (length a.old ≡ n * n) }
     ensures { a.new ≡ Rotation.turn_columns n p q c s a.old }

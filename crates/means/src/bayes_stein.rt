@@ -32,9 +32,8 @@ fn put_correlations(covariance: &[f64], volatilities: &[f64], n: usize, out: &mu
     requires { (length covariance.now ≡ n * n) × (length volatilities.now ≡ n) × (length out.old ≡ n * n) }
     ensures { out.new ≡ rows n n (Sample.correlation_by (nth volatilities.now) (at covariance.now n)) }
 {
-    let size = n * n;
-    for k in 0..size {
-        out[k] = covariance[k] / volatilities[k / n] / volatilities[k % n];
+    for (k, y) in out.iter_mut().enumerate() {
+        *y = covariance[k] / volatilities[k / n] / volatilities[k % n];
     }
 }
 
@@ -91,6 +90,7 @@ fn shrinkage_in(
 }
 
 // The same, in four arrays of the largest size.
+#[tactic(auto, using(matrix::proofs::Lent::lent))]
 fn shrinkage(
     means: &[f64],
     volatilities: &[f64],
@@ -150,8 +150,8 @@ fn put_shrunk(means: &[f64], exponents: &[i32], intensity: f64, target: f64, out
     requires { (length means.now ≡ length out.old) × (length exponents.now ≡ length out.old) × Exponents exponents.now }
     ensures { out.new ≡ tab (length out.old) (λ (i : ℕ). BayesStein.shrunk_mean (mean_shrinkage intensity target) (nth means.now i) (exponent_at exponents.now i)) }
 {
-    for i in 0..out.len() {
-        out[i] = pow2_scaled((1.0 - intensity) * means[i], exponents[i]) + intensity * target;
+    for (i, y) in out.iter_mut().enumerate() {
+        *y = pow2_scaled((1.0 - intensity) * means[i], exponents[i]) + intensity * target;
     }
 }
 
@@ -188,6 +188,7 @@ fn shrink_in(
 }
 
 // The answer from the moments in the units 2^exponents, and the sizes of the largest returns in them.
+#[tactic(auto, using(matrix::proofs::Lent::lent))]
 pub fn shrink(
     m: Moments,
     exponents: &[i32],

@@ -22,13 +22,13 @@ fn subtract(y: &[f64], a: f64, x: &[f64], out: &mut [f64])
     requires { (length y.now ≡ length out.old) × (length x.now ≡ length out.old) }
     ensures { out.new ≡ tab (length out.old) (λ (i : ℕ). nth y.now i ⊖ a ⊗ nth x.now i) }
 {
-    for i in 0..out.len() {
-        out[i] = y[i] - a * x[i];
+    for (i, z) in out.iter_mut().enumerate() {
+        *z = y[i] - a * x[i];
     }
 }
 
 impl Decomposed<'_> {
-    // x times column e of V.
+    // x times column e of V. By index: the column's numbers are n apart.
     fn project_on(&self, e: usize, x: &[f64]) -> f64
         requires { (e < self.now.n) × (length x.now ≡ self.now.n) }
         ensures { result ≡ sum_to self.now.n (λ (i : ℕ). at self.now.vectors.now self.now.n i e ⊗ nth x.now i) }
@@ -45,12 +45,12 @@ impl Decomposed<'_> {
         requires { (length x.now ≡ self.now.n) × (length out.old ≡ self.now.n) }
         ensures { (d : Decomposition) → d.vectors ≡ self.now.vectors.now → out.new ≡ BayesStein.project self.now.n d (nth x.now) }
     {
-        for e in 0..self.n {
-            out[e] = self.project_on(e, x);
+        for (e, y) in out.iter_mut().enumerate() {
+            *y = self.project_on(e, x);
         }
     }
 
-    // xᵀC⁻¹y, from the projections x and y.
+    // xᵀC⁻¹y, from the projections x and y. By index: three slices at e.
     fn form(&self, x: &[f64], y: &[f64]) -> f64
         requires { (length x.now ≡ self.now.n) × (length y.now ≡ self.now.n) }
         ensures { (d : Decomposition) → d.values ≡ self.now.values.now → result ≡ BayesStein.form self.now.n d x.now y.now }

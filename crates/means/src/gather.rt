@@ -28,7 +28,7 @@ fn with_exponent(largest: Option<i32>, x: f64, e: i32) -> Option<i32>
     larger(largest, exponent(x) - e)
 }
 
-// The largest exponent of the numbers that are not 0; 0 if all are.
+// The largest exponent of the numbers that are not 0; 0 if all are. By index: two slices at i.
 fn common_exponent(xs: &[f64], exponents: &[i32]) -> i32
     requires { (length xs.now ≡ length exponents.now) × Exponents exponents.now }
     ensures { (result ≡ BayesStein.common_exponent (length xs.now) (nth xs.now) (λ (i : ℕ). neg_ℤ (exponent_at exponents.now i))) × (unsigned_abs result ≤ two_exponents) }
@@ -45,8 +45,8 @@ fn divide(xs: &[f64], volatilities: &[f64], out: &mut [f64])
     requires { (length xs.now ≡ length out.old) × (length volatilities.now ≡ length out.old) }
     ensures { out.new ≡ tab (length out.old) (λ (i : ℕ). nth xs.now i ⊘ nth volatilities.now i) }
 {
-    for i in 0..out.len() {
-        out[i] = xs[i] / volatilities[i];
+    for (i, y) in out.iter_mut().enumerate() {
+        *y = xs[i] / volatilities[i];
     }
 }
 
@@ -55,8 +55,8 @@ pub fn scale_down(exponents: &[i32], e: i32, out: &mut [f64])
     requires { (length exponents.now ≡ length out.old) × Exponents exponents.now × (unsigned_abs e ≤ two_exponents) }
     ensures { out.new ≡ BayesStein.gathered (length out.old) (nth out.old) (λ (i : ℕ). neg_ℤ (exponent_at exponents.now i)) e }
 {
-    for i in 0..out.len() {
-        out[i] = leaves::scaling::pow2_scaled(out[i], -exponents[i] - e);
+    for (i, x) in out.iter_mut().enumerate() {
+        *x = leaves::scaling::pow2_scaled(*x, -exponents[i] - e);
     }
 }
 
@@ -72,6 +72,7 @@ fn gather(xs: &[f64], volatilities: &[f64], exponents: &[i32], out: &mut [f64]) 
 }
 
 // The numbers 1 / vᵢ · 2^-eᵢ.
+#[tactic(auto, using(matrix::proofs::Lent::lent))]
 pub(crate) fn gather_ones(volatilities: &[f64], exponents: &[i32], n: usize, out: &mut [f64]) -> i32
     requires { (n ≤ max_side) × (length volatilities.now ≡ n) × (length exponents.now ≡ n) × Exponents exponents.now × (length out.old ≡ n) }
     ensures { Gathered n (λ (i : ℕ). one ⊘ nth volatilities.now i) (λ (i : ℕ). neg_ℤ (exponent_at exponents.now i)) result out.new }
@@ -81,6 +82,7 @@ pub(crate) fn gather_ones(volatilities: &[f64], exponents: &[i32], n: usize, out
 }
 
 // The numbers μᵢ / vᵢ.
+#[tactic(auto, using(matrix::proofs::Lent::lent))]
 pub(crate) fn gather_means(means: &[f64], volatilities: &[f64], n: usize, out: &mut [f64]) -> i32
     requires { (n ≤ max_side) × (length means.now ≡ n) × (length volatilities.now ≡ n) × (length out.old ≡ n) }
     ensures { Gathered n (λ (i : ℕ). nth means.now i ⊘ nth volatilities.now i) (λ (i : ℕ). pos 0) result out.new }

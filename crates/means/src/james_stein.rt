@@ -20,6 +20,7 @@ use rules::{Answer, Refusal};
 use tables::scales::exponent;
 
 // The average of the means.
+#[tactic(auto, using(matrix::proofs::Lent::lent))]
 fn grand_mean(m: Moments) -> f64
     ensures { result ≡ JamesStein.grand_mean m.n (nth (held m).mean) }
 {
@@ -114,6 +115,7 @@ fn shrinkage(
 }
 
 // `shrinkage` of the moments, in arrays of the largest size.
+#[tactic(auto, using(matrix::proofs::Lent::lent))]
 fn shrinkage_held(m: Moments, target: f64, limit: usize) -> Result<Found, Refusal>
     requires { (0 < m.n) × (limit ≤ max_sweeps) }
     ensures { JamesSteinShrinks m.n limit (held m) target result }
@@ -141,13 +143,14 @@ fn put_shrunk(means: &[f64], intensity: f64, target: f64, exponent: i32, out: &m
     requires { length means.now ≡ length out.old }
     ensures { out.new ≡ tab (length out.old) (λ (i : ℕ). pow2_scaled (JamesStein.towards intensity target (nth means.now i)) exponent) }
 {
-    for i in 0..out.len() {
+    for (i, y) in out.iter_mut().enumerate() {
         let m = means[i];
-        out[i] = pow2_scaled(m + intensity * (target - m), exponent);
+        *y = pow2_scaled(m + intensity * (target - m), exponent);
     }
 }
 
 // The answer from the moments in units of 2^exponent.
+#[tactic(auto, using(matrix::proofs::Lent::lent))]
 pub fn shrink(m: Moments, exponent: i32, limit: usize, out: &mut [f64]) -> Result<Answer, Refusal>
     requires { (0 < m.n) × (limit ≤ max_sweeps) × (length out.old ≡ m.n) }
     ensures { answered result out.new ≡ james_stein_of m.n limit (held m) exponent out.old }

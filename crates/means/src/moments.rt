@@ -2,14 +2,16 @@
 ghost use Rattle.std.specs.Prelude.{◌≡◌, ℕ, ◌+◌, ◌*◌, ◌≤◌, length, unsigned_abs};
 ghost use Rattle.leaves.specs.Loops.{tab};
 ghost use Rattle.matrix.specs.Limits.{max_side};
-ghost use Rattle.matrix.specs.Matrix.{at, rows};
+ghost use Rattle.matrix.specs.Matrix.{rows};
 ghost use Rattle.rules.specs.Sample as Sample;
 ghost use Rattle.rules.specs.Moments.{moments};
 ghost use Rattle.rules.specs.BayesStein.{exponent_at};
 ghost use Rattle.tables.specs.Exponents.{max_exponent, Exponents};
+ghost use Rattle.tables.specs.Rows.{return_at};
 
 use covariances::sample::{covariance_in_units, means_in_units};
 use tables::powers::put_units;
+use tables::returns::Returns;
 
 // Of n assets, the first n numbers of the mean vector and the first n * n of the covariance, row by row.
 #[derive(Clone, Copy)]
@@ -23,39 +25,37 @@ pub struct Moments {
 
 // The means and the covariance, of the returns over their powers of two. `units` is to reckon in.
 fn put_moments(
-    r: &[f64],
-    n: usize,
-    periods: usize,
+    r: &Returns,
     exponents: &[i32],
     units: &mut [f64],
     mean: &mut [f64],
     covariance: &mut [f64],
 )
-    requires { (length r.now ≡ periods * n) × (n ≤ max_side) × (1 ≤ periods) × (length exponents.now ≡ n) × Exponents exponents.now × (length units.old ≡ n + n) × (length mean.old ≡ n) × (length covariance.old ≡ n * n) }
-    ensures { (mean.new ≡ tab n (Sample.mean periods (Sample.scaled (exponent_at exponents.now) (at r.now n)))) × (covariance.new ≡ rows n n (Sample.covariance periods (Sample.scaled (exponent_at exponents.now) (at r.now n)))) }
+    requires { (length exponents.now ≡ r.now.assets) × Exponents exponents.now × (length units.old ≡ r.now.assets + r.now.assets) × (length mean.old ≡ r.now.assets) × (length covariance.old ≡ r.now.assets * r.now.assets) }
+    ensures { (mean.new ≡ tab r.now.assets (Sample.mean r.now.periods (Sample.scaled (exponent_at exponents.now) (return_at r.now)))) × (covariance.new ≡ rows r.now.assets r.now.assets (Sample.covariance r.now.periods (Sample.scaled (exponent_at exponents.now) (return_at r.now)))) }
 {
-    put_units(exponents, n, units);
-    means_in_units(r, n, periods, units, mean);
-    covariance_in_units(r, n, periods, units, mean, covariance);
+    put_units(exponents, r.assets, units);
+    means_in_units(r, units, mean);
+    covariance_in_units(r, units, mean, covariance);
 }
 
 impl Moments {
     ghost use Rattle.means.specs.Held.{held};
 
     // The moments of the returns, each asset's over its power of two.
-    pub fn of_returns(r: &[f64], n: usize, periods: usize, exponents: &[i32]) -> Moments
-        requires { (length r.now ≡ periods * n) × (n ≤ max_side) × (1 ≤ periods) × (length exponents.now ≡ n) × Exponents exponents.now }
-        ensures { (result.n ≡ n) × (held result ≡ moments periods n (Sample.scaled (exponent_at exponents.now) (at r.now n))) }
+    #[tactic(auto, using(matrix::proofs::Lent::lent))]
+    pub fn of_returns(r: &Returns, exponents: &[i32]) -> Moments
+        requires { (length exponents.now ≡ r.now.assets) × Exponents exponents.now }
+        ensures { (result.n ≡ r.now.assets) × (held result ≡ moments r.now.periods r.now.assets (Sample.scaled (exponent_at exponents.now) (return_at r.now))) }
     {
         let mut units = [0.0; 2 * matrix::MAX_SIDE];
         let mut mean = [0.0; matrix::MAX_SIDE];
         let mut covariance = [0.0; matrix::MAX_SIDE * matrix::MAX_SIDE];
+        let n = r.assets;
         let twice = n + n;
         let size = n * n;
         put_moments(
             r,
-            n,
-            periods,
             exponents,
             &mut units[..twice],
             &mut mean[..n],
@@ -65,16 +65,17 @@ impl Moments {
             n,
             mean,
             covariance,
-            periods: std::num::nearest_u64_to_f64(periods as u64),
+            periods: std::num::nearest_u64_to_f64(r.periods as u64),
         }
     }
 
     // All assets' over one power of two.
-    pub fn over(r: &[f64], n: usize, periods: usize, exponent: i32) -> Moments
-        requires { (length r.now ≡ periods * n) × (n ≤ max_side) × (1 ≤ periods) × (unsigned_abs exponent ≤ max_exponent) }
-        ensures { (result.n ≡ n) × (held result ≡ moments periods n (Sample.scaled (λ (i : ℕ). exponent) (at r.now n))) }
+    #[tactic(auto, using(matrix::proofs::Lent::lent))]
+    pub fn over(r: &Returns, exponent: i32) -> Moments
+        requires { unsigned_abs exponent ≤ max_exponent }
+        ensures { (result.n ≡ r.now.assets) × (held result ≡ moments r.now.periods r.now.assets (Sample.scaled (λ (i : ℕ). exponent) (return_at r.now))) }
     {
         let exponents = [exponent; matrix::MAX_SIDE];
-        Moments::of_returns(r, n, periods, &exponents[..n])
+        Moments::of_returns(r, &exponents[..r.assets])
     }
 }

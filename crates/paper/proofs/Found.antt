@@ -1,6 +1,6 @@
 -- What a question that was read into slices with room tells the marking: the record and the two slices are those of the file, and no other answer comes of a question.
 -- Assumes nothing.
-use mathlib.Core.Path.{◌≡◌, refl, sym, ap, ◌∙◌, subst}
+use mathlib.Core.Path.{◌≡◌, refl, sym, ap, subst}
 use mathlib.Core.Bool.{Bool, true, false, cond}
 use mathlib.Core.List.{List}
 use Rattle.std.specs.Prelude.{Option, Some, None, Result, Ok, Err}
@@ -11,7 +11,7 @@ use lib.Dec.{T}
 use borrow.Author.Tests.{le-leb}
 use Rattle.paper.specs.declared.question.Question.{Question}
 use Rattle.paper.specs.declared.reading.ReadError.{ReadError}
-use Rattle.paper.specs.declared.reading.ReadError.TheVariants.{Malformed, TooShort}
+use Rattle.paper.specs.declared.reading.ReadError.TheVariants.{TooShort}
 use Rattle.paper.specs.Grammar.{file_assets, file_periods}
 use Rattle.paper.specs.Question.{Contents, contents, read_question, given_count, front, Into, into, room, read_into}
 use Rattle.paper.specs.Answer.{malformed_number, refused, outcome_text}

@@ -124,7 +124,7 @@ module _ (r : List Float) (n T : ℕ) (slice : List Float) where
   covariance_length s g side h = rw (adjusted_is r n T s g side slice) (settle_length _ _ (n * n) _ slice (λ e. h))
 
   module _ (h : n ≤ length slice) where
-    weighted_length : (d : Decay) → length (exponentially_weighted_mean r n T d slice).slice ≡ length slice
+    weighted_length : (d : Decay Float) → length (exponentially_weighted_mean r n T d slice).slice ≡ length slice
     unfolding exponentially_weighted_mean
     weighted_length d = settle_length _ _ n _ slice (λ e. h)
 

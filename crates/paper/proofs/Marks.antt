@@ -23,7 +23,7 @@ module _ (q : Question) (r g slice : List Float) where
   unfolding asked_for
   asked_covariance s e es = ap (λ (x : Settings). adjusted_covariance r q.assets q.periods x g q.assets slice) es ∙ rw e
 
-  pub asked_weighted : (d : Decay) → q.asked ≡ WeightedMean → d ≡ decay_of q.estimate → exponentially_weighted_mean r q.assets q.periods d slice ≡ asked q r g slice
+  pub asked_weighted : (d : Decay Float) → q.asked ≡ WeightedMean → d ≡ decay_of q.estimate → exponentially_weighted_mean r q.assets q.periods d slice ≡ asked q r g slice
   unfolding asked_for
   asked_weighted d e ed = rw (e, ed)
 

@@ -9,9 +9,8 @@ use native.Mathlib.Nat.{eq-or-lt_of_le, le_of_suc-le-suc, not-suc-le-zero, le_tr
 use native.Mathlib.Omega.{arith}
 use lib.Dec.{leb, eqb, T, leb→le, le→leb}
 use lib.Pow.{pow-add, pow_pos, pow_mono, shl_exact}
-use lib.Ieee.{Float, nan, inf, fin, binary64, up, down, odd, of_fields, of_bits, to_bits, fits, ne}
+use lib.Ieee.{Float, nan, inf, fin, binary64, up, down, odd, of_fields, of_bits, to_bits, fits, is_nan}
 use lib.Ieee.Bits.{of_bits-to_bits}
-use lib.Ieee.Compare.{differs_from_itself}
 use lib.Ieee.Exact.{HasValue, odd_sign}
 use lib.Ieee.Fits.{down_pos}
 use borrow.Author.Tests.{le-leb, lt-leb, eq-eqb, ne_eqb}
@@ -109,9 +108,15 @@ fields : (b : ℕ) → float b ≡ of_fields binary64 (leb (2 ^ 63) b) (b % 2 ^ 
 unfolding of_bits
 fields b = refl
 
-pub shown_nan : (x : Float) → ne x x ≡ true → Big ≡ shown x
+pub only_nan : (x : Float) → is_nan x ≡ true → x ≡ nan
+unfolding is_nan
+only_nan nan e = refl
+only_nan (inf s) e = absurd (subst T (sym e) tt)
+only_nan (fin s m e') e = absurd (subst T (sym e) tt)
+
+pub shown_nan : (x : Float) → is_nan x ≡ true → Big ≡ shown x
 unfolding shown
-shown_nan x e = rw (differs_from_itself x (subst T (sym e) tt))
+shown_nan x e = rw (only_nan x e)
 
 module _ (x : Float) (good : fits binary64 x ≡ true) where
   abbrev bits : ℕ

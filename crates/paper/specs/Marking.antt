@@ -1,24 +1,18 @@
 -- Document 01, "The exam program", with document 02, "Paper 1", kind 12, as a whole: from the bytes of a question file to the bytes that are printed.
--- A prime marks what the engine takes. Definitions only.
+-- Definitions only.
 use Rattle.std.specs.Prelude.{ℕ, ◌*◌, List, map, replicate, Float, Option, Some, None}
 use Rattle.leaves.specs.Numbers.{zero⁺, float}
 use Rattle.matrix.specs.Limits.{max_sweeps}
 use Rattle.rules.specs.Calls.{Answered, adjusted_covariance, exponentially_weighted_mean, james_stein_mean, bayes_stein_mean}
 use Rattle.rules.specs.declared.Decay.{Decay}
-use Rattle.rules.specs.declared.Decay.TheVariants.{HalfLife as HalfLife', Lambda as Lambda'}
+use Rattle.rules.specs.declared.Decay.TheVariants.{HalfLife, Lambda}
 use Rattle.rules.specs.declared.Estimate.{Estimate}
-use Rattle.rules.specs.declared.Estimate.TheVariants.{Weighted, Sample as Sample', Given as Given', Semi as Semi', SemiBelow as SemiBelow'}
+use Rattle.rules.specs.declared.Estimate.TheVariants.{Sample, Given, Weighted, Semi, SemiBelow}
 use Rattle.rules.specs.declared.Shrinkage.{Shrinkage}
-use Rattle.rules.specs.declared.Shrinkage.TheVariants.{Unshrunk as Unshrunk', Fixed as Fixed', LedoitWolf as LedoitWolf'}
+use Rattle.rules.specs.declared.Shrinkage.TheVariants.{Unshrunk, Fixed, LedoitWolf}
 use Rattle.rules.specs.declared.Regularization.{Regularization}
-use Rattle.rules.specs.declared.Regularization.TheVariants.{Unregularized as Unregularized', Ridge as Ridge'}
+use Rattle.rules.specs.declared.Regularization.TheVariants.{Unregularized, Ridge}
 use Rattle.rules.specs.declared.Settings.{Settings}
-use Rattle.paper.specs.declared.question.EstimateBits.{EstimateBits}
-use Rattle.paper.specs.declared.question.EstimateBits.TheVariants.{Sample, Given, HalfLife, Lambda, Semi, SemiBelow}
-use Rattle.paper.specs.declared.question.ShrinkageBits.{ShrinkageBits}
-use Rattle.paper.specs.declared.question.ShrinkageBits.TheVariants.{Unshrunk, Fixed, LedoitWolf}
-use Rattle.paper.specs.declared.question.RegularizationBits.{RegularizationBits}
-use Rattle.paper.specs.declared.question.RegularizationBits.TheVariants.{Unregularized, Ridge}
 use Rattle.paper.specs.declared.question.Asked.{Asked}
 use Rattle.paper.specs.declared.question.Asked.TheVariants.{Covariance, WeightedMean, JamesStein, BayesStein}
 use Rattle.paper.specs.declared.question.Question.{Question}
@@ -28,30 +22,30 @@ use Rattle.paper.specs.Answer.{malformed_number, Outcome, refused, outcome, outc
 -- ---- the settings record: floats of the bits
 
 -- a weighted mean has a half-life or a decay factor; what stands for another estimate is never asked for
-abbrev pub decay_of : EstimateBits → Decay
-decay_of (HalfLife bits) = HalfLife' (float bits)
-decay_of (Lambda bits) = Lambda' (float bits)
-decay_of Sample = Lambda' (float 0)
-decay_of Given = Lambda' (float 0)
-decay_of Semi = Lambda' (float 0)
-decay_of (SemiBelow bits) = Lambda' (float 0)
+abbrev pub decay_of : Estimate ℕ → Decay Float
+decay_of (Weighted (HalfLife bits)) = HalfLife (float bits)
+decay_of (Weighted (Lambda bits)) = Lambda (float bits)
+decay_of Sample = Lambda (float 0)
+decay_of Given = Lambda (float 0)
+decay_of Semi = Lambda (float 0)
+decay_of (SemiBelow bits) = Lambda (float 0)
 
-abbrev pub estimate_of : EstimateBits → Estimate
-estimate_of Sample = Sample'
-estimate_of Given = Given'
-estimate_of (HalfLife bits) = Weighted (HalfLife' (float bits))
-estimate_of (Lambda bits) = Weighted (Lambda' (float bits))
-estimate_of Semi = Semi'
-estimate_of (SemiBelow bits) = SemiBelow' (float bits)
+abbrev pub estimate_of : Estimate ℕ → Estimate Float
+estimate_of Sample = Sample
+estimate_of Given = Given
+estimate_of (Weighted (HalfLife bits)) = Weighted (HalfLife (float bits))
+estimate_of (Weighted (Lambda bits)) = Weighted (Lambda (float bits))
+estimate_of Semi = Semi
+estimate_of (SemiBelow bits) = SemiBelow (float bits)
 
-abbrev pub shrinkage_of : ShrinkageBits → Shrinkage
-shrinkage_of Unshrunk = Unshrunk'
-shrinkage_of (Fixed bits) = Fixed' (float bits)
-shrinkage_of (LedoitWolf target) = LedoitWolf' target
+abbrev pub shrinkage_of : Shrinkage ℕ → Shrinkage Float
+shrinkage_of Unshrunk = Unshrunk
+shrinkage_of (Fixed bits) = Fixed (float bits)
+shrinkage_of (LedoitWolf target) = LedoitWolf target
 
-abbrev pub regularization_of : RegularizationBits → Regularization
-regularization_of Unregularized = Unregularized'
-regularization_of (Ridge bits) = Ridge' (float bits)
+abbrev pub regularization_of : Regularization ℕ → Regularization Float
+regularization_of Unregularized = Unregularized
+regularization_of (Ridge bits) = Ridge (float bits)
 
 -- "Without 10 the limit is 100", the largest
 abbrev pub limit_of : Option ℕ → ℕ

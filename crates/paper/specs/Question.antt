@@ -1,14 +1,16 @@
 -- Document 02, "Paper 5. Question authors write files": the question record, which stands between the reader and the marking; what a file says in its terms; and
 -- a file read into lent slices. A number is its 64 bits, so that a NaN keeps its own. The returns and the given entries stand beside the record. Definitions only.
 use Rattle.std.specs.Prelude.{ℕ, ◌*◌, Bool, true, false, ◌&&◌, cond, List, [], ◌++◌, length, get_or, drop, leb, eqb, Option, Some, None, Result, Ok, Err}
+use Rattle.rules.specs.Adjusted.{is_given}
 use Rattle.rules.specs.Settings.{target_of}
 use Rattle.paper.specs.declared.format.Outline.{Outline}
-use Rattle.paper.specs.declared.question.EstimateBits.{EstimateBits}
-use Rattle.paper.specs.declared.question.EstimateBits.TheVariants.{Sample, Given, HalfLife, Lambda, Semi, SemiBelow}
-use Rattle.paper.specs.declared.question.ShrinkageBits.{ShrinkageBits}
-use Rattle.paper.specs.declared.question.ShrinkageBits.TheVariants.{Unshrunk, Fixed, LedoitWolf}
-use Rattle.paper.specs.declared.question.RegularizationBits.{RegularizationBits}
-use Rattle.paper.specs.declared.question.RegularizationBits.TheVariants.{Unregularized, Ridge}
+use Rattle.rules.specs.declared.Estimate.{Estimate}
+use Rattle.rules.specs.declared.Decay.TheVariants.{HalfLife, Lambda}
+use Rattle.rules.specs.declared.Estimate.TheVariants.{Sample, Given, Weighted, Semi, SemiBelow}
+use Rattle.rules.specs.declared.Shrinkage.{Shrinkage}
+use Rattle.rules.specs.declared.Shrinkage.TheVariants.{Unshrunk, Fixed, LedoitWolf}
+use Rattle.rules.specs.declared.Regularization.{Regularization}
+use Rattle.rules.specs.declared.Regularization.TheVariants.{Unregularized, Ridge}
 use Rattle.paper.specs.declared.question.Asked.{Asked}
 use Rattle.paper.specs.declared.question.Asked.TheVariants.{Covariance, WeightedMean, JamesStein, BayesStein}
 use Rattle.paper.specs.declared.question.Question.{Question}
@@ -28,18 +30,18 @@ contents q returns given = record { question = q; returns = returns; given = giv
 
 -- ---- what a file says, from the outline of its bodies
 
-unfoldable pub estimate_in : Outline → EstimateBits
+unfoldable pub estimate_in : Outline → Estimate ℕ
 estimate_in o =
-    cond (has o 6) (HalfLife (value o 6))
-    (cond (has o 12) (Lambda (value o 12))
+    cond (has o 6) (Weighted (HalfLife (value o 6)))
+    (cond (has o 12) (Weighted (Lambda (value o 12)))
     (cond (has o 7) Semi
     (cond (has o 8) (SemiBelow (value o 8))
     (cond (has o 9) Given Sample))))
 
-unfoldable pub shrinkage_in : Outline → ShrinkageBits
+unfoldable pub shrinkage_in : Outline → Shrinkage ℕ
 shrinkage_in o = cond (has o 4) (Fixed (value o 4)) (cond (has o 5) (LedoitWolf (target_of (value o 5))) Unshrunk)
 
-unfoldable pub regularization_in : Outline → RegularizationBits
+unfoldable pub regularization_in : Outline → Regularization ℕ
 regularization_in o = cond (has o 3) (Ridge (value o 3)) Unregularized
 
 unfoldable pub limit_in : Outline → Option ℕ
@@ -75,14 +77,6 @@ unfoldable pub read_question : List ℕ → Option Contents
 read_question file = said (read_paper file)
 
 -- ---- how many numbers stand beside a record
-
-abbrev pub is_given : EstimateBits → Bool
-is_given Sample = false
-is_given Given = true
-is_given (HalfLife b) = false
-is_given (Lambda b) = false
-is_given Semi = false
-is_given (SemiBelow b) = false
 
 unfoldable pub given_count : Question → ℕ
 given_count q = cond (is_given q.estimate) (q.assets * q.assets) 0

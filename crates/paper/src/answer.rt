@@ -13,7 +13,7 @@ use rules::{Answer, Refusal};
 fn bits(x: f64) -> u64
     ensures { result ≡ to_bits binary64 x }
 {
-    if x != x {
+    if x.is_nan() {
         0x7FF8000000000000
     } else {
         f64::to_bits(x)

@@ -6,7 +6,8 @@ ghost use Rattle.paper.specs.Inner.{byte_of};
 
 use crate::kinds::{FILE_ASSETS, FILE_PERIODS, KINDS, KindName, place};
 
-// Of each kind, in the order of the file, how many records there are and the first body, 0 where there is none.
+// Of each kind, in the order of the file, how many records there are and the first body, 0 where there is none. No list of pairs: the
+// rules look at each list alone.
 #[derive(Clone, Copy)]
 pub struct Outline {
     pub counts: [u64; KINDS],

@@ -5,32 +5,8 @@ ghost use Rattle.paper.specs.Question as Questions;
 
 use crate::format::{Outline, assets, has, periods, value};
 use crate::kinds::KindName;
-use rules::Target;
 use rules::targets::target;
-
-// An estimate: sample, given, weighted by half-life or by decay factor, semi, semi below a threshold.
-#[derive(Clone, Copy)]
-pub enum EstimateBits {
-    Sample,
-    Given,
-    HalfLife(u64),
-    Lambda(u64),
-    Semi,
-    SemiBelow(u64),
-}
-
-#[derive(Clone, Copy)]
-pub enum ShrinkageBits {
-    Unshrunk,
-    Fixed(u64),
-    LedoitWolf(Target),
-}
-
-#[derive(Clone, Copy)]
-pub enum RegularizationBits {
-    Unregularized,
-    Ridge(u64),
-}
+use rules::{Decay, Estimate, Regularization, Shrinkage};
 
 // What is asked for.
 #[derive(Clone, Copy)]
@@ -46,56 +22,56 @@ pub enum Asked {
 pub struct Question {
     pub assets: usize,
     pub periods: usize,
-    pub estimate: EstimateBits,
-    pub shrinkage: ShrinkageBits,
-    pub regularization: RegularizationBits,
+    pub estimate: Estimate<u64>,
+    pub shrinkage: Shrinkage<u64>,
+    pub regularization: Regularization<u64>,
     pub limit: Option<usize>,
     pub asked: Asked,
 }
 
 #[tactic(auto, unfolding(crate::specs::Question::estimate_in))]
-fn estimate_in(o: Outline) -> EstimateBits
+fn estimate_in(o: Outline) -> Estimate<u64>
     ensures { result ≡ Questions.estimate_in o }
 {
     if has(o, KindName::HalfLife) {
-        return EstimateBits::HalfLife(value(o, KindName::HalfLife));
+        return Estimate::Weighted(Decay::HalfLife(value(o, KindName::HalfLife)));
     }
     if has(o, KindName::DecayFactor) {
-        return EstimateBits::Lambda(value(o, KindName::DecayFactor));
+        return Estimate::Weighted(Decay::Lambda(value(o, KindName::DecayFactor)));
     }
     if has(o, KindName::Semi) {
-        return EstimateBits::Semi;
+        return Estimate::Semi;
     }
     if has(o, KindName::SemiThreshold) {
-        return EstimateBits::SemiBelow(value(o, KindName::SemiThreshold));
+        return Estimate::SemiBelow(value(o, KindName::SemiThreshold));
     }
     if has(o, KindName::GivenEntry) {
-        return EstimateBits::Given;
+        return Estimate::Given;
     }
-    EstimateBits::Sample
+    Estimate::Sample
 }
 
 #[tactic(auto, unfolding(crate::specs::Question::shrinkage_in))]
-fn shrinkage_in(o: Outline) -> ShrinkageBits
+fn shrinkage_in(o: Outline) -> Shrinkage<u64>
     ensures { result ≡ Questions.shrinkage_in o }
 {
     if has(o, KindName::FixedShrinkage) {
-        return ShrinkageBits::Fixed(value(o, KindName::FixedShrinkage));
+        return Shrinkage::Fixed(value(o, KindName::FixedShrinkage));
     }
     if has(o, KindName::Target) {
-        return ShrinkageBits::LedoitWolf(target(value(o, KindName::Target)));
+        return Shrinkage::LedoitWolf(target(value(o, KindName::Target)));
     }
-    ShrinkageBits::Unshrunk
+    Shrinkage::Unshrunk
 }
 
 #[tactic(auto, unfolding(crate::specs::Question::regularization_in))]
-fn regularization_in(o: Outline) -> RegularizationBits
+fn regularization_in(o: Outline) -> Regularization<u64>
     ensures { result ≡ Questions.regularization_in o }
 {
     if has(o, KindName::Regularization) {
-        return RegularizationBits::Ridge(value(o, KindName::Regularization));
+        return Regularization::Ridge(value(o, KindName::Regularization));
     }
-    RegularizationBits::Unregularized
+    Regularization::Unregularized
 }
 
 #[tactic(auto, unfolding(crate::specs::Question::limit_in))]
@@ -136,19 +112,13 @@ pub(crate) fn question_in(o: Outline) -> Question
     }
 }
 
-pub fn is_given(estimate: EstimateBits) -> bool
-    ensures { result ≡ Questions.is_given estimate }
-{
-    matches!(estimate, EstimateBits::Given)
-}
-
 // How many given entries stand beside a record.
 #[tactic(auto, unfolding(crate::specs::Question::given_count))]
 pub fn given_count(q: Question) -> usize
     requires { q.assets ≤ file_assets }
     ensures { result ≡ Questions.given_count q }
 {
-    if is_given(q.estimate) {
+    if q.estimate.is_given() {
         q.assets * q.assets
     } else {
         0

@@ -75,6 +75,7 @@ pub(crate) struct Scanned {
     pub outline: Outline,
 }
 
+// By index: two lists are filled beside the table of kinds.
 fn scan(file: &[u8], numbers: &mut [u64]) -> Scanned
     ensures { ScannedIs (sheet kinds file.now) file.now numbers.old numbers.new result }
 {

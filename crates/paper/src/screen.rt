@@ -40,7 +40,7 @@ fn units(m: u64, shift: u64) -> u64
 fn show(x: f64) -> Shown
     ensures { result ≡ Screen.shown x }
 {
-    if x != x {
+    if x.is_nan() {
         return Shown::Big;
     }
     let bits = f64::to_bits(x);

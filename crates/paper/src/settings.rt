@@ -2,50 +2,52 @@
 ghost use Rattle.std.specs.Prelude.{◌≡◌};
 ghost use Rattle.paper.specs.Marking as Marking;
 
-use crate::question::{EstimateBits, Question, RegularizationBits, ShrinkageBits};
+use crate::question::Question;
 use leaves::numbers::float;
 use rules::{Decay, Estimate, Regularization, Settings, Shrinkage};
 
 // That of a weighted mean, which has a half-life or a decay factor.
-pub(crate) fn decay(estimate: EstimateBits) -> Decay
+pub(crate) fn decay(estimate: Estimate<u64>) -> Decay<f64>
     ensures { result ≡ Marking.decay_of estimate }
 {
     match estimate {
-        EstimateBits::HalfLife(bits) => Decay::HalfLife(float(bits)),
-        EstimateBits::Lambda(bits) => Decay::Lambda(float(bits)),
+        Estimate::Weighted(Decay::HalfLife(bits)) => Decay::HalfLife(float(bits)),
+        Estimate::Weighted(Decay::Lambda(bits)) => Decay::Lambda(float(bits)),
         _ => Decay::Lambda(0.0),
     }
 }
 
-fn estimate(estimate: EstimateBits) -> Estimate
+fn estimate(estimate: Estimate<u64>) -> Estimate<f64>
     ensures { result ≡ Marking.estimate_of estimate }
 {
     match estimate {
-        EstimateBits::Sample => Estimate::Sample,
-        EstimateBits::Given => Estimate::Given,
-        EstimateBits::HalfLife(bits) => Estimate::Weighted(Decay::HalfLife(float(bits))),
-        EstimateBits::Lambda(bits) => Estimate::Weighted(Decay::Lambda(float(bits))),
-        EstimateBits::Semi => Estimate::Semi,
-        EstimateBits::SemiBelow(bits) => Estimate::SemiBelow(float(bits)),
+        Estimate::Sample => Estimate::Sample,
+        Estimate::Given => Estimate::Given,
+        Estimate::Weighted(Decay::HalfLife(bits)) => Estimate::Weighted(Decay::HalfLife(float(
+            bits,
+        ))),
+        Estimate::Weighted(Decay::Lambda(bits)) => Estimate::Weighted(Decay::Lambda(float(bits))),
+        Estimate::Semi => Estimate::Semi,
+        Estimate::SemiBelow(bits) => Estimate::SemiBelow(float(bits)),
     }
 }
 
-fn shrinkage(shrinkage: ShrinkageBits) -> Shrinkage
+fn shrinkage(shrinkage: Shrinkage<u64>) -> Shrinkage<f64>
     ensures { result ≡ Marking.shrinkage_of shrinkage }
 {
     match shrinkage {
-        ShrinkageBits::Unshrunk => Shrinkage::Unshrunk,
-        ShrinkageBits::Fixed(bits) => Shrinkage::Fixed(float(bits)),
-        ShrinkageBits::LedoitWolf(target) => Shrinkage::LedoitWolf(target),
+        Shrinkage::Unshrunk => Shrinkage::Unshrunk,
+        Shrinkage::Fixed(bits) => Shrinkage::Fixed(float(bits)),
+        Shrinkage::LedoitWolf(target) => Shrinkage::LedoitWolf(target),
     }
 }
 
-fn regularization(regularization: RegularizationBits) -> Regularization
+fn regularization(regularization: Regularization<u64>) -> Regularization<f64>
     ensures { result ≡ Marking.regularization_of regularization }
 {
     match regularization {
-        RegularizationBits::Unregularized => Regularization::Unregularized,
-        RegularizationBits::Ridge(bits) => Regularization::Ridge(float(bits)),
+        Regularization::Unregularized => Regularization::Unregularized,
+        Regularization::Ridge(bits) => Regularization::Ridge(float(bits)),
     }
 }
 

@@ -19,14 +19,15 @@ use Rattle.rules.specs.declared.Regularization.{Regularization}
 use Rattle.rules.specs.declared.Regularization.TheVariants.{Unregularized, Ridge}
 use Rattle.rules.specs.declared.Settings.{Settings}
 
-abbrev pub is_sample : Estimate → Bool
+abbrev pub is_sample : Estimate Float → Bool
 is_sample Sample = true
 is_sample Given = false
 is_sample (Weighted decay) = false
 is_sample Semi = false
 is_sample (SemiBelow threshold) = false
 
-abbrev pub is_given : Estimate → Bool
+-- of any numbers
+abbrev pub is_given : {A : Type 0} → Estimate A → Bool
 is_given Sample = false
 is_given Given = true
 is_given (Weighted decay) = false
@@ -38,7 +39,7 @@ unfoldable pub decomposition_of : Settings → List Float → ℕ → Decomposit
 decomposition_of s given side = elim (is_given s.estimate) [ true ↦ decompose_given s.limit side (average given side) | false ↦ unturned 0 true ]
 
 -- what the adjustments apply to
-unfoldable pub base : Estimate → ℕ → Matrix → Matrix → Matrix
+unfoldable pub base : Estimate Float → ℕ → Matrix → Matrix → Matrix
 base Sample T x g = covariance T x
 base Given T x g = g
 base (Weighted decay) T x g = weighted_covariance T (log_decay decay) x
@@ -46,7 +47,7 @@ base Semi T x g = semicovariance T x
 base (SemiBelow threshold) T x g = semicovariance_below threshold T x
 
 -- δ, 0 if there is none
-unfoldable pub intensity : Shrinkage → ℕ → ℕ → Matrix → Float
+unfoldable pub intensity : Shrinkage Float → ℕ → ℕ → Matrix → Float
 intensity Unshrunk T n x = zero⁺
 intensity (Fixed δ) T n x = δ
 intensity (LedoitWolf F) T n x = ledoit_wolf F T n x
@@ -60,13 +61,13 @@ weighted_target ConstantCorrelation δ n b i j = δ ⊗ constant_correlation n b
 unfoldable pub mixed : Target → Float → ℕ → Matrix → Matrix
 mixed F δ n b i j = weighted_target F δ n b i j ⊕ (one ⊖ δ) ⊗ b i j
 
-unfoldable pub shrunk : Shrinkage → Float → ℕ → Matrix → Matrix
+unfoldable pub shrunk : Shrinkage Float → Float → ℕ → Matrix → Matrix
 shrunk Unshrunk δ n b = b
 shrunk (Fixed fixed) δ n b = mixed ConstantVariance δ n b
 shrunk (LedoitWolf F) δ n b = mixed F δ n b
 
 -- A + ε I
-unfoldable pub regularized : Regularization → Matrix → Matrix
+unfoldable pub regularized : Regularization Float → Matrix → Matrix
 regularized Unregularized a i j = a i j
 regularized (Ridge ridge) a i j = a i j ⊕ ridge ⊗ identity i j
 
@@ -74,7 +75,7 @@ unfoldable pub adjusted : Settings → Float → ℕ → Matrix → Matrix
 adjusted s δ n b = regularized s.regularization (shrunk s.shrinkage δ n b)
 
 -- an intensity or a regularization above 0
-unfoldable pub is_adjusted : Float → Regularization → Bool
+unfoldable pub is_adjusted : Float → Regularization Float → Bool
 is_adjusted δ Unregularized = lt zero⁺ δ
 is_adjusted δ (Ridge ridge) = lt zero⁺ δ || lt zero⁺ ridge
 

@@ -58,7 +58,7 @@ ledoit_wolf_intensity r n T F =
     let accepted = answered (Ok (Intensity (ledoit_wolf F T n (at r n)))) [] in
     (settle (first (ledoit_wolf_order r n T F)) [] accepted).answer
 
-unfoldable pub exponentially_weighted_mean : List Float → ℕ → ℕ → Decay → List Float → Answered
+unfoldable pub exponentially_weighted_mean : List Float → ℕ → ℕ → Decay Float → List Float → Answered
 exponentially_weighted_mean r n T decay slice =
     let w = weights T (log_decay decay) in
     let accepted = answered (Ok Mean) (fill n (weighted_mean T w (at r n)) slice) in

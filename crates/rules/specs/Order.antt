@@ -93,26 +93,26 @@ of_given s g side =
     ]
 
 -- field 1: finite and at least 0, as -0 is
-unfoldable pub bad_regularization : Regularization → Check
+unfoldable pub bad_regularization : Regularization Float → Check
 bad_regularization Unregularized = passes
 bad_regularization (Ridge ridge) = when (not (is_finite ridge && le zero⁺ ridge)) (BadSetting RegularizationField)
 
 -- field 2: in [0, 1]
-unfoldable pub bad_shrinkage : Shrinkage → Check
+unfoldable pub bad_shrinkage : Shrinkage Float → Check
 bad_shrinkage Unshrunk = passes
 bad_shrinkage (Fixed δ) = when (not (le zero⁺ δ && le δ one)) (BadSetting ShrinkageField)
 bad_shrinkage (LedoitWolf F) = passes
 
 -- field 3, or 6 in its place
-abbrev pub decay_field : Decay → Field
+abbrev pub decay_field : Decay Float → Field
 decay_field (HalfLife h) = HalfLifeField
 decay_field (Lambda f) = DecayFactorField
 
-unfoldable pub bad_decay : Decay → Check
+unfoldable pub bad_decay : Decay Float → Check
 bad_decay decay = when (not (accepted_decay decay)) (BadSetting (decay_field decay))
 
 -- fields 3, 6 and 4
-unfoldable pub bad_estimate : Estimate → Check
+unfoldable pub bad_estimate : Estimate Float → Check
 bad_estimate Sample = passes
 bad_estimate Given = passes
 bad_estimate (Weighted decay) = bad_decay decay
@@ -120,7 +120,7 @@ bad_estimate Semi = passes
 bad_estimate (SemiBelow threshold) = when (not (is_finite threshold)) (BadSetting ThresholdField)
 
 -- 8
-unfoldable pub not_the_sample : Shrinkage → Estimate → Check
+unfoldable pub not_the_sample : Shrinkage Float → Estimate Float → Check
 not_the_sample Unshrunk estimate = passes
 not_the_sample (Fixed δ) estimate = passes
 not_the_sample (LedoitWolf F) estimate = when (not (is_sample estimate)) NotTheSample
@@ -133,19 +133,19 @@ abbrev pub zero_variance : ℕ → Matrix → Check
 zero_variance n b = when_some (first_to n (λ i. eq (b i i) zero⁺)) ZeroVariance
 
 -- 9 by constant correlation
-unfoldable pub no_correlation : Shrinkage → ℕ → ℕ → Matrix → Check
+unfoldable pub no_correlation : Shrinkage Float → ℕ → ℕ → Matrix → Check
 no_correlation Unshrunk T n x = passes
 no_correlation (Fixed δ) T n x = passes
 no_correlation (LedoitWolf ConstantVariance) T n x = passes
 no_correlation (LedoitWolf ConstantCorrelation) T n x = constant_returns n (covariance T x) (largest T x)
 
 -- unadjusted 9: a given variance is exact, one from the returns is 0 to rounding
-unfoldable pub no_variance : Bool → Estimate → ℕ → ℕ → Matrix → Matrix → Check
+unfoldable pub no_variance : Bool → Estimate Float → ℕ → ℕ → Matrix → Matrix → Check
 no_variance true estimate T n x b = passes
 no_variance false estimate T n x b = elim (is_given estimate) [ true ↦ zero_variance n b | false ↦ constant_returns n b (largest T x) ]
 
 -- 10 (side)
-abbrev pub wrong_side : Estimate → ℕ → ℕ → Check
+abbrev pub wrong_side : Estimate Float → ℕ → ℕ → Check
 wrong_side estimate side n = when (is_given estimate && not (eqb side n)) (WrongSide side)
 
 -- fields 1, 2, 3 or 6, 4; 8; 9 by constant correlation; 10 (side)
@@ -196,7 +196,7 @@ adjusted_order n T s given side x δ b a = by_returns T n x ++ of_given s given 
 unfoldable pub ledoit_wolf_order : List Float → ℕ → ℕ → Target → List Check
 ledoit_wolf_order r n T F = opening r n T 0 [] ++ no_correlation (LedoitWolf F) T n (at r n) ∷ []
 
-unfoldable pub weighted_order : List Float → ℕ → ℕ → Decay → List Float → List Check
+unfoldable pub weighted_order : List Float → ℕ → ℕ → Decay Float → List Float → List Check
 weighted_order r n T decay slice = opening r n T n slice ++ bad_decay decay ∷ []
 
 unfoldable pub james_stein_order : List Float → ℕ → ℕ → ℕ → List Float → Decomposition → List Check

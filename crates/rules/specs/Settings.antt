@@ -1,6 +1,6 @@
 -- Document 01, "Records": the settings record by its parts, as examples and laws write it, and the number that stands for a target in
 -- a question file (document 01, "The exam program") and in the C interface. Definitions only.
-use Rattle.std.specs.Prelude.{ℕ, Bool, cond, leb, eqb}
+use Rattle.std.specs.Prelude.{ℕ, Bool, cond, leb, eqb, Float}
 use Rattle.rules.specs.declared.Estimate.{Estimate}
 use Rattle.rules.specs.declared.Target.{Target}
 use Rattle.rules.specs.declared.Target.TheVariants.{ConstantVariance, ConstantCorrelation}
@@ -8,7 +8,7 @@ use Rattle.rules.specs.declared.Shrinkage.{Shrinkage}
 use Rattle.rules.specs.declared.Regularization.{Regularization}
 use Rattle.rules.specs.declared.Settings.{Settings}
 
-abbrev pub settings : Estimate → Shrinkage → Regularization → ℕ → Settings
+abbrev pub settings : Estimate Float → Shrinkage Float → Regularization Float → ℕ → Settings
 settings estimate shrinkage regularization limit =
     record { estimate = estimate; shrinkage = shrinkage; regularization = regularization; limit = limit }
 

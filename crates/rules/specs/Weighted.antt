@@ -16,7 +16,7 @@ use Rattle.rules.specs.declared.Decay.{Decay}
 use Rattle.rules.specs.declared.Decay.TheVariants.{HalfLife, Lambda}
 
 -- ln λ, for a half-life and for the decay factor λ = f
-unfoldable pub log_decay : Decay → Float
+unfoldable pub log_decay : Decay Float → Float
 log_decay (HalfLife h) = neg ln2 ⊘ h
 log_decay (Lambda f) = ln f
 
@@ -29,7 +29,7 @@ unfoldable pub accepted : Float → Bool
 accepted l = le min_log_decay l && lt l zero⁺
 
 -- a decay factor lies above 0 and below 1 besides
-unfoldable pub accepted_decay : Decay → Bool
+unfoldable pub accepted_decay : Decay Float → Bool
 accepted_decay (HalfLife h) = accepted (log_decay (HalfLife h))
 accepted_decay (Lambda f) = between01 f && accepted (log_decay (Lambda f))
 

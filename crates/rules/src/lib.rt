@@ -1,6 +1,9 @@
 // The records of documents 01 and 02 that cross a call, and the limits of periods.
 #![tactic(auto)]
 
+ghost use Rattle.std.specs.Prelude.{◌≡◌};
+ghost use Rattle.rules.specs.Adjusted as Adjusted;
+
 mod refusals;
 pub mod targets;
 
@@ -11,19 +14,27 @@ pub const MAX_PERIODS: usize = 4096;
 
 // How weights fall with age: the periods in which one halves, or the factor of each period.
 #[derive(Clone, Copy)]
-pub enum Decay {
-    HalfLife(f64),
-    Lambda(f64),
+pub enum Decay<T> {
+    HalfLife(T),
+    Lambda(T),
 }
 
 // The weighted case carries its decay, and the case below a threshold the threshold.
 #[derive(Clone, Copy)]
-pub enum Estimate {
+pub enum Estimate<T> {
     Sample,
     Given,
-    Weighted(Decay),
+    Weighted(Decay<T>),
     Semi,
-    SemiBelow(f64),
+    SemiBelow(T),
+}
+
+impl<T: Copy> Estimate<T> {
+    pub fn is_given(self) -> bool
+        ensures { result ≡ Adjusted.is_given self }
+    {
+        matches!(self, Estimate::Given)
+    }
 }
 
 // What a covariance is shrunk to: its average variance on the diagonal, or its variances with their average correlation.
@@ -35,25 +46,26 @@ pub enum Target {
 
 // None, a fixed intensity towards constant variance, or the intensity of Ledoit and Wolf.
 #[derive(Clone, Copy)]
-pub enum Shrinkage {
+pub enum Shrinkage<T> {
     Unshrunk,
-    Fixed(f64),
+    Fixed(T),
     LedoitWolf(Target),
 }
 
 // A ridge is added to each variance.
+// Not an Option: the case says what its number is.
 #[derive(Clone, Copy)]
-pub enum Regularization {
+pub enum Regularization<T> {
     Unregularized,
-    Ridge(f64),
+    Ridge(T),
 }
 
 // The sweep limit is that of a given matrix's decomposition.
 #[derive(Clone, Copy)]
 pub struct Settings {
-    pub estimate: Estimate,
-    pub shrinkage: Shrinkage,
-    pub regularization: Regularization,
+    pub estimate: Estimate<f64>,
+    pub shrinkage: Shrinkage<f64>,
+    pub regularization: Regularization<f64>,
     pub limit: usize,
 }
 

@@ -1,7 +1,7 @@
-// Where the guess of a square root begins. From 2^25 to 2^26, and from there to 2^27, lie 64 equal steps each, 129 numbers
-// with the ends. For number i: the whole number nearest to its root (2^13 at i = 64, the root itself), that number's square,
-// and half its reciprocal, as the patterns of the nearest floats; past the last number, as for the last. A `match` becomes a
-// table in the program; an array would be written anew at each call.
+// Where a guess of a square root can begin; no other crate needs it since the language has a square root. From 2^25 to 2^26, and
+// from there to 2^27, lie 64 equal steps each, 129 numbers with the ends. For number i: the whole number nearest to its root (2^13
+// at i = 64, the root itself), that number's square, and half its reciprocal, as the patterns of the nearest floats; past the last
+// number, as for the last. A `match` becomes a table in the program; an array would be written anew at each call.
 #![tactic(auto)]
 
 ghost use Rattle.std.specs.Prelude.{◌≡◌};

@@ -23,7 +23,7 @@ pub fn factors(k: i32) -> Power
     }
 }
 
-// 2^-e for each of n exponents e: first all near factors, then all far ones.
+// 2^-e for each of n exponents e: first all near factors, then all far ones. No list of pairs: a row's loop reads each half in order.
 pub fn put_units(exponents: &[i32], n: usize, out: &mut [f64])
     requires { (length exponents.now ≡ n) × Exponents exponents.now × (length out.old ≡ n + n) }
     ensures { (length out.new ≡ n + n) × Units n exponents.now out.new }

@@ -1,18 +1,17 @@
 // Returns, and the rows of numbers that the sums over their periods are formed of.
-ghost use Rattle.std.specs.Prelude.{◌≡◌, ◌*◌, ◌<◌, ◌≤◌, length, take};
+ghost use Rattle.std.specs.Prelude.{◌≡◌, ◌<◌, length, take};
 ghost use Rattle.leaves.specs.Loops.{tab, nth};
-ghost use Rattle.matrix.specs.Limits.{max_side};
+ghost use Rattle.rules.specs.Shapes.{Shaped};
 
 use crate::rows::{Row, numbers};
 
-// The returns of all assets in the first period, then those in the second, and so on.
+// Returns whose shape and length pass: those of all assets in the first period, then those in the second, and so on.
 #[derive(Clone, Copy)]
 pub struct Returns<'a> {
     pub numbers: &'a [f64],
     pub assets: usize,
     pub periods: usize,
-    pub ghost whole: { length numbers.now ≡ periods * assets },
-    pub ghost few: { assets ≤ max_side },
+    pub ghost shaped: { Shaped (length numbers.now) assets periods },
 }
 
 // What the rows of the periods are formed of: the returns, two factors of a unit for each asset or nothing, a center for each asset, and a weight

@@ -1,9 +1,11 @@
 // A period's row of numbers, formed from its returns. The sums of the estimators differ in their rows and in what a row adds.
-ghost use Rattle.std.specs.Prelude.{◌≡◌, ℕ, ◌+◌, ◌≤◌, length};
+ghost use Rattle.std.specs.Prelude.{◌≡◌, ℕ, ◌+◌, ◌≤◌, length, Float};
 ghost use Rattle.leaves.specs.Numbers.{◌⊗◌};
 ghost use Rattle.leaves.specs.Loops.{tab, nth};
 ghost use Rattle.matrix.specs.Limits.{max_side};
 ghost use Rattle.tables.specs.Rows.{in_unit, formed};
+
+use leaves::numbers::min0;
 
 // The return itself, or its period's weight times it; or the return less its column's center: as it is, its part below 0, times its period's
 // weight, or times a power of two as two factors. An enum and not a closure: it is data of the definitions, which are by its cases.
@@ -17,25 +19,40 @@ pub enum Row {
     Scaled(f64, f64),
 }
 
-fn entry(row: Row, x: f64, c: f64, w: f64) -> f64
-    ensures { result ≡ formed row x c w }
+// f of each number and its column's center.
+fn each<F: Fn(f64, f64) -> f64>(f: F, xs: &[f64], centers: &[f64], out: &mut [f64])
+    requires { F.IsAlwaysCallable f × (length xs.now ≡ length out.old) × (length centers.now ≡ length out.old) }
+    ensures { (h : Float → Float → Float) → ((x c y : Float) → F.post f x c y → y ≡ h x c) → out.new ≡ tab (length out.old) (λ (k : ℕ). h (nth xs.now k) (nth centers.now k)) }
 {
-    match row {
-        Row::Plain => x,
-        Row::Weighted => w * x,
-        Row::Deviation => x - c,
-        Row::Shortfall => leaves::numbers::min0(x - c),
-        Row::WeightedDeviation => (x - c) * w,
-        Row::Scaled(near, far) => (x - c) * near * far,
+    for k in 0..out.len() {
+        out[k] = f(xs[k], centers[k]);
     }
 }
 
+// The loops run inside of the cases: a number is not asked for its row's case.
 fn entries(row: Row, xs: &[f64], centers: &[f64], w: f64, out: &mut [f64])
     requires { (length xs.now ≡ length out.old) × (length centers.now ≡ length out.old) }
     ensures { out.new ≡ tab (length out.old) (λ (k : ℕ). formed row (nth xs.now k) (nth centers.now k) w) }
 {
-    for k in 0..out.len() {
-        out[k] = entry(row, xs[k], centers[k], w);
+    match row {
+        Row::Plain => {
+            each(|x, _| x, xs, centers, out);
+        }
+        Row::Weighted => {
+            each(|x, _| w * x, xs, centers, out);
+        }
+        Row::Deviation => {
+            each(|x, c| x - c, xs, centers, out);
+        }
+        Row::Shortfall => {
+            each(|x, c| min0(x - c), xs, centers, out);
+        }
+        Row::WeightedDeviation => {
+            each(|x, c| (x - c) * w, xs, centers, out);
+        }
+        Row::Scaled(near, far) => {
+            each(|x, c| (x - c) * near * far, xs, centers, out);
+        }
     }
 }
 

@@ -14,19 +14,21 @@ use lib.Ieee.Bits.{is_true}
 use borrow.Author.Tests.{eq-eqb, ne_eqb}
 use Rattle.rules.specs.Settings.{target_of}
 use Rattle.rules.specs.declared.Target.TheVariants.{ConstantVariance, ConstantCorrelation}
-use Rattle.paper.specs.declared.question.EstimateBits.{EstimateBits}
-use Rattle.paper.specs.declared.question.EstimateBits.TheVariants.{Sample, Given, HalfLife, Lambda, Semi, SemiBelow}
-use Rattle.paper.specs.declared.question.ShrinkageBits.{ShrinkageBits}
-use Rattle.paper.specs.declared.question.ShrinkageBits.TheVariants.{Unshrunk, Fixed, LedoitWolf}
-use Rattle.paper.specs.declared.question.RegularizationBits.{RegularizationBits}
-use Rattle.paper.specs.declared.question.RegularizationBits.TheVariants.{Unregularized, Ridge}
+use Rattle.rules.specs.declared.Estimate.{Estimate}
+use Rattle.rules.specs.declared.Decay.TheVariants.{HalfLife, Lambda}
+use Rattle.rules.specs.declared.Estimate.TheVariants.{Sample, Given, Weighted, Semi, SemiBelow}
+use Rattle.rules.specs.declared.Shrinkage.{Shrinkage}
+use Rattle.rules.specs.declared.Shrinkage.TheVariants.{Unshrunk, Fixed, LedoitWolf}
+use Rattle.rules.specs.declared.Regularization.{Regularization}
+use Rattle.rules.specs.declared.Regularization.TheVariants.{Unregularized, Ridge}
 use Rattle.std.specs.Prelude.{Option, Some, None}
 use Rattle.paper.specs.declared.question.Asked.{Asked}
 use Rattle.paper.specs.declared.question.Asked.TheVariants.{Covariance, WeightedMean, JamesStein, BayesStein}
 use Rattle.paper.specs.Grammar.{file_assets, file_periods, kinds, place_in, sheet}
 use Rattle.paper.specs.declared.format.Outline.{Outline}
 use Rattle.paper.specs.Rules.{first_of, outline, count, has, value, assets, periods, present, settings, shrinkages, estimates, takes, well_formed}
-use Rattle.paper.specs.Question.{Contents, estimate_in, shrinkage_in, regularization_in, limit_in, asked_of, question_in, of_kind, contents_in, is_given, given_count}
+use Rattle.rules.specs.Adjusted.{is_given}
+use Rattle.paper.specs.Question.{Contents, estimate_in, shrinkage_in, regularization_in, limit_in, asked_of, question_in, of_kind, contents_in, given_count}
 use Rattle.paper.proofs.Outlines.{Ruled, ruled, OneOf, one_of}
 use Rattle.paper.proofs.Questions.{count_is, value_is, count_none, has_none, given_counted, beside}
 use Rattle.writer.specs.Bodies.{ridge, fixed, target, half_life, semi, threshold, factor, sweeps, asked_number, shape, bodies}
@@ -46,7 +48,7 @@ periods_back n t h =
 abbrev comes : List ℕ → Bool
 comes vs = not (eqb (length vs) 0)
 
-regularization_back : (r : RegularizationBits) → cond (comes (ridge r)) (Ridge (first_of (ridge r))) Unregularized ≡ r
+regularization_back : (r : Regularization ℕ) → cond (comes (ridge r)) (Ridge (first_of (ridge r))) Unregularized ≡ r
 regularization_back Unregularized = refl
 regularization_back (Ridge bits) = refl
 
@@ -54,7 +56,7 @@ limit_back : (l : Option ℕ) → cond (comes (sweeps l)) (Some (first_of (sweep
 limit_back None = refl
 limit_back (Some limit) = refl
 
-shrinkage_back : (s : ShrinkageBits) →
+shrinkage_back : (s : Shrinkage ℕ) →
     cond (comes (fixed s)) (Fixed (first_of (fixed s))) (cond (comes (target s)) (LedoitWolf (target_of (first_of (target s)))) Unshrunk) ≡ s
 unfolding target_of
 shrinkage_back Unshrunk = refl
@@ -70,16 +72,16 @@ asked_back JamesStein = refl
 asked_back BayesStein = refl
 
 -- given entries come where the estimate is given
-estimate_back : (e : EstimateBits) (given : Bool) → given ≡ is_given e →
-    cond (comes (half_life e)) (HalfLife (first_of (half_life e)))
-    (cond (comes (factor e)) (Lambda (first_of (factor e)))
+estimate_back : (e : Estimate ℕ) (given : Bool) → given ≡ is_given e →
+    cond (comes (half_life e)) (Weighted (HalfLife (first_of (half_life e))))
+    (cond (comes (factor e)) (Weighted (Lambda (first_of (factor e))))
     (cond (comes (semi e)) Semi
     (cond (comes (threshold e)) (SemiBelow (first_of (threshold e)))
     (cond given Given Sample)))) ≡ e
 estimate_back Sample given h = rw h
 estimate_back Given given h = rw h
-estimate_back (HalfLife bits) given h = refl
-estimate_back (Lambda bits) given h = refl
+estimate_back (Weighted (HalfLife bits)) given h = refl
+estimate_back (Weighted (Lambda bits)) given h = refl
 estimate_back Semi given h = refl
 estimate_back (SemiBelow bits) given h = refl
 
@@ -189,7 +191,7 @@ module _ (lists : List (List ℕ)) (b : ℕ) where
 
 -- ---- each kind's bodies, from what they say
 
-abbrev Estimated : List (List ℕ) → EstimateBits → Type 0
+abbrev Estimated : List (List ℕ) → Estimate ℕ → Type 0
 Estimated lists e = (half_life e ≡ of_kind lists 6) × (semi e ≡ of_kind lists 7) × (threshold e ≡ of_kind lists 8) × (factor e ≡ of_kind lists 12)
 
 target_number : (v : ℕ) → v ≤ 1 → target (LedoitWolf (target_of v)) ≡ v ∷ []
@@ -288,7 +290,7 @@ module _ (lists : List (List ℕ)) (k : Kept lists) (r : Ruled (outline lists)) 
 -- ---- and what it says keeps the format
 
 only_given : (a b c d g : Bool) (x y z : ℕ) →
-    T (is_given (cond a (HalfLife x) (cond b (Lambda y) (cond c Semi (cond d (SemiBelow z) (cond g Given Sample)))))) → g ≡ true
+    T (is_given (cond a (Weighted (HalfLife x)) (cond b (Weighted (Lambda y)) (cond c Semi (cond d (SemiBelow z) (cond g Given Sample)))))) → g ≡ true
 only_given true b c d g x y z h = absurd h
 only_given false true c d g x y z h = absurd h
 only_given false false true d g x y z h = absurd h

@@ -9,10 +9,10 @@ use lib.Dec.{ltb, T, leb→le}
 use lib.Ieee.Fits.{and_l, and_r, and_i}
 use borrow.Author.Tests.{lt-ltb}
 use Rattle.rules.specs.declared.Target.TheVariants.{ConstantVariance, ConstantCorrelation}
-use Rattle.paper.specs.declared.question.EstimateBits.{EstimateBits}
-use Rattle.paper.specs.declared.question.EstimateBits.TheVariants.{Sample, Given, HalfLife, Lambda, Semi, SemiBelow}
-use Rattle.paper.specs.declared.question.ShrinkageBits.{ShrinkageBits}
-use Rattle.paper.specs.declared.question.ShrinkageBits.TheVariants.{Unshrunk, Fixed, LedoitWolf}
+use Rattle.rules.specs.declared.Estimate.{Estimate}
+use Rattle.rules.specs.declared.Estimate.TheVariants.{Sample, Given, Weighted, Semi, SemiBelow}
+use Rattle.rules.specs.declared.Shrinkage.{Shrinkage}
+use Rattle.rules.specs.declared.Shrinkage.TheVariants.{Unshrunk, Fixed, LedoitWolf}
 use Rattle.std.specs.Prelude.{Option, Some, None}
 use Rattle.paper.specs.declared.question.Asked.{Asked}
 use Rattle.paper.specs.declared.question.Asked.TheVariants.{Covariance, WeightedMean, JamesStein, BayesStein}
@@ -40,17 +40,16 @@ pub record Words (c : Contents) : Type 0 where
 one_below : (n v : ℕ) → v < n → T (below n (v ∷ []))
 one_below n v h = and_i (ltb v n) true (subst T (sym (lt-ltb v n h)) tt) tt
 
-target_below : (s : ShrinkageBits) → T (below 256 (target s))
+target_below : (s : Shrinkage ℕ) → T (below 256 (target s))
 target_below Unshrunk = tt
 target_below (Fixed b) = tt
 target_below (LedoitWolf ConstantVariance) = tt
 target_below (LedoitWolf ConstantCorrelation) = tt
 
-semi_below_lem : (e : EstimateBits) → T (below 1 (semi e))
+semi_below_lem : (e : Estimate ℕ) → T (below 1 (semi e))
 semi_below_lem Sample = tt
 semi_below_lem Given = tt
-semi_below_lem (HalfLife b) = tt
-semi_below_lem (Lambda b) = tt
+semi_below_lem (Weighted decay) = tt
 semi_below_lem Semi = tt
 semi_below_lem (SemiBelow b) = tt
 

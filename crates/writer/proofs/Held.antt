@@ -10,12 +10,13 @@ use lib.Dec.{eqb}
 use borrow.Author.Tests.{eq-eqb, ne_eqb}
 use Rattle.rules.specs.declared.Target.TheVariants.{ConstantVariance, ConstantCorrelation}
 use Rattle.paper.specs.declared.kinds.Kind.{Kind}
-use Rattle.paper.specs.declared.question.EstimateBits.{EstimateBits}
-use Rattle.paper.specs.declared.question.EstimateBits.TheVariants.{Sample, Given, HalfLife, Lambda, Semi, SemiBelow}
-use Rattle.paper.specs.declared.question.ShrinkageBits.{ShrinkageBits}
-use Rattle.paper.specs.declared.question.ShrinkageBits.TheVariants.{Unshrunk, Fixed, LedoitWolf}
-use Rattle.paper.specs.declared.question.RegularizationBits.{RegularizationBits}
-use Rattle.paper.specs.declared.question.RegularizationBits.TheVariants.{Unregularized, Ridge}
+use Rattle.rules.specs.declared.Estimate.{Estimate}
+use Rattle.rules.specs.declared.Decay.TheVariants.{HalfLife, Lambda}
+use Rattle.rules.specs.declared.Estimate.TheVariants.{Sample, Given, Weighted, Semi, SemiBelow}
+use Rattle.rules.specs.declared.Shrinkage.{Shrinkage}
+use Rattle.rules.specs.declared.Shrinkage.TheVariants.{Unshrunk, Fixed, LedoitWolf}
+use Rattle.rules.specs.declared.Regularization.{Regularization}
+use Rattle.rules.specs.declared.Regularization.TheVariants.{Unregularized, Ridge}
 use Rattle.std.specs.Prelude.{Option, Some, None}
 use Rattle.paper.specs.Grammar.{file_assets, file_periods, kinds}
 use Rattle.paper.specs.Inner.{missing}
@@ -82,50 +83,48 @@ module _ (k : Kind) (count first : ℕ) (returns given : List ℕ) where
 abbrev again : List ℕ → List ℕ
 again vs = cond (eqb (length vs) 0) [] (first_of vs ∷ [])
 
-ridge_again : (r : RegularizationBits) → again (ridge r) ≡ ridge r
+ridge_again : (r : Regularization ℕ) → again (ridge r) ≡ ridge r
 ridge_again Unregularized = refl
 ridge_again (Ridge b) = refl
 
-fixed_again : (s : ShrinkageBits) → again (fixed s) ≡ fixed s
+fixed_again : (s : Shrinkage ℕ) → again (fixed s) ≡ fixed s
 fixed_again Unshrunk = refl
 fixed_again (Fixed b) = refl
 fixed_again (LedoitWolf t) = refl
 
-target_again : (s : ShrinkageBits) → again (target s) ≡ target s
+target_again : (s : Shrinkage ℕ) → again (target s) ≡ target s
 target_again Unshrunk = refl
 target_again (Fixed b) = refl
 target_again (LedoitWolf ConstantVariance) = refl
 target_again (LedoitWolf ConstantCorrelation) = refl
 
-half_life_again : (e : EstimateBits) → again (half_life e) ≡ half_life e
+half_life_again : (e : Estimate ℕ) → again (half_life e) ≡ half_life e
 half_life_again Sample = refl
 half_life_again Given = refl
-half_life_again (HalfLife b) = refl
-half_life_again (Lambda b) = refl
+half_life_again (Weighted (HalfLife b)) = refl
+half_life_again (Weighted (Lambda b)) = refl
 half_life_again Semi = refl
 half_life_again (SemiBelow b) = refl
 
-semi_again : (e : EstimateBits) → again (semi e) ≡ semi e
+semi_again : (e : Estimate ℕ) → again (semi e) ≡ semi e
 semi_again Sample = refl
 semi_again Given = refl
-semi_again (HalfLife b) = refl
-semi_again (Lambda b) = refl
+semi_again (Weighted decay) = refl
 semi_again Semi = refl
 semi_again (SemiBelow b) = refl
 
-threshold_again : (e : EstimateBits) → again (threshold e) ≡ threshold e
+threshold_again : (e : Estimate ℕ) → again (threshold e) ≡ threshold e
 threshold_again Sample = refl
 threshold_again Given = refl
-threshold_again (HalfLife b) = refl
-threshold_again (Lambda b) = refl
+threshold_again (Weighted decay) = refl
 threshold_again Semi = refl
 threshold_again (SemiBelow b) = refl
 
-factor_again : (e : EstimateBits) → again (factor e) ≡ factor e
+factor_again : (e : Estimate ℕ) → again (factor e) ≡ factor e
 factor_again Sample = refl
 factor_again Given = refl
-factor_again (HalfLife b) = refl
-factor_again (Lambda b) = refl
+factor_again (Weighted (HalfLife b)) = refl
+factor_again (Weighted (Lambda b)) = refl
 factor_again Semi = refl
 factor_again (SemiBelow b) = refl
 
@@ -152,21 +151,21 @@ held_is c =
 
 -- ---- how long a file can be
 
-pub one_ridge : (r : RegularizationBits) → length (ridge r) ≤ 1
+pub one_ridge : (r : Regularization ℕ) → length (ridge r) ≤ 1
 one_ridge Unregularized = omega arith
 one_ridge (Ridge b) = omega arith
 
-pub one_shrinkage : (s : ShrinkageBits) → length (fixed s) + length (target s) ≤ 1
+pub one_shrinkage : (s : Shrinkage ℕ) → length (fixed s) + length (target s) ≤ 1
 one_shrinkage Unshrunk = omega arith
 one_shrinkage (Fixed b) = omega arith
 one_shrinkage (LedoitWolf ConstantVariance) = omega arith
 one_shrinkage (LedoitWolf ConstantCorrelation) = omega arith
 
-pub one_estimate : (e : EstimateBits) → length (half_life e) + length (semi e) + length (threshold e) + length (factor e) ≤ 1
+pub one_estimate : (e : Estimate ℕ) → length (half_life e) + length (semi e) + length (threshold e) + length (factor e) ≤ 1
 one_estimate Sample = omega arith
 one_estimate Given = omega arith
-one_estimate (HalfLife b) = omega arith
-one_estimate (Lambda b) = omega arith
+one_estimate (Weighted (HalfLife b)) = omega arith
+one_estimate (Weighted (Lambda b)) = omega arith
 one_estimate Semi = omega arith
 one_estimate (SemiBelow b) = omega arith
 

@@ -2,63 +2,62 @@
 -- has none. Definitions only.
 use Rattle.std.specs.Prelude.{ℕ, ◌+◌, ◌*◌, List, [], ◌∷◌, Option, Some, None}
 use Rattle.rules.specs.declared.Target.TheVariants.{ConstantVariance, ConstantCorrelation}
-use Rattle.paper.specs.declared.question.EstimateBits.{EstimateBits}
-use Rattle.paper.specs.declared.question.EstimateBits.TheVariants.{Sample, Given, HalfLife, Lambda, Semi, SemiBelow}
-use Rattle.paper.specs.declared.question.ShrinkageBits.{ShrinkageBits}
-use Rattle.paper.specs.declared.question.ShrinkageBits.TheVariants.{Unshrunk, Fixed, LedoitWolf}
-use Rattle.paper.specs.declared.question.RegularizationBits.{RegularizationBits}
-use Rattle.paper.specs.declared.question.RegularizationBits.TheVariants.{Unregularized, Ridge}
+use Rattle.rules.specs.declared.Estimate.{Estimate}
+use Rattle.rules.specs.declared.Decay.TheVariants.{HalfLife, Lambda}
+use Rattle.rules.specs.declared.Estimate.TheVariants.{Sample, Given, Weighted, Semi, SemiBelow}
+use Rattle.rules.specs.declared.Shrinkage.{Shrinkage}
+use Rattle.rules.specs.declared.Shrinkage.TheVariants.{Unshrunk, Fixed, LedoitWolf}
+use Rattle.rules.specs.declared.Regularization.{Regularization}
+use Rattle.rules.specs.declared.Regularization.TheVariants.{Unregularized, Ridge}
 use Rattle.paper.specs.declared.question.Asked.{Asked}
 use Rattle.paper.specs.declared.question.Asked.TheVariants.{Covariance, WeightedMean, JamesStein, BayesStein}
 use Rattle.paper.specs.Question.{Contents}
 
 -- ---- one kind each
 
-abbrev pub ridge : RegularizationBits → List ℕ
+abbrev pub ridge : Regularization ℕ → List ℕ
 ridge Unregularized = []
 ridge (Ridge bits) = bits ∷ []
 
-abbrev pub fixed : ShrinkageBits → List ℕ
+abbrev pub fixed : Shrinkage ℕ → List ℕ
 fixed Unshrunk = []
 fixed (Fixed bits) = bits ∷ []
 fixed (LedoitWolf t) = []
 
-abbrev pub target : ShrinkageBits → List ℕ
+abbrev pub target : Shrinkage ℕ → List ℕ
 target Unshrunk = []
 target (Fixed bits) = []
 target (LedoitWolf ConstantVariance) = 0 ∷ []
 target (LedoitWolf ConstantCorrelation) = 1 ∷ []
 
-abbrev pub half_life : EstimateBits → List ℕ
+abbrev pub half_life : Estimate ℕ → List ℕ
 half_life Sample = []
 half_life Given = []
-half_life (HalfLife bits) = bits ∷ []
-half_life (Lambda bits) = []
+half_life (Weighted (HalfLife bits)) = bits ∷ []
+half_life (Weighted (Lambda bits)) = []
 half_life Semi = []
 half_life (SemiBelow bits) = []
 
 -- a record without a body, which is the number of no bytes
-abbrev pub semi : EstimateBits → List ℕ
+abbrev pub semi : Estimate ℕ → List ℕ
 semi Sample = []
 semi Given = []
-semi (HalfLife bits) = []
-semi (Lambda bits) = []
+semi (Weighted decay) = []
 semi Semi = 0 ∷ []
 semi (SemiBelow bits) = []
 
-abbrev pub threshold : EstimateBits → List ℕ
+abbrev pub threshold : Estimate ℕ → List ℕ
 threshold Sample = []
 threshold Given = []
-threshold (HalfLife bits) = []
-threshold (Lambda bits) = []
+threshold (Weighted decay) = []
 threshold Semi = []
 threshold (SemiBelow bits) = bits ∷ []
 
-abbrev pub factor : EstimateBits → List ℕ
+abbrev pub factor : Estimate ℕ → List ℕ
 factor Sample = []
 factor Given = []
-factor (HalfLife bits) = []
-factor (Lambda bits) = bits ∷ []
+factor (Weighted (HalfLife bits)) = []
+factor (Weighted (Lambda bits)) = bits ∷ []
 factor Semi = []
 factor (SemiBelow bits) = []
 

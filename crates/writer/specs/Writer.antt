@@ -4,7 +4,8 @@ use Rattle.std.specs.Prelude.{ℕ, Bool, true, not, ◌&&◌, cond, List, length
 use Rattle.paper.specs.declared.question.Question.{Question}
 use Rattle.paper.specs.Grammar.{file_assets, file_periods}
 use Rattle.paper.specs.Rules.{outline, well_formed}
-use Rattle.paper.specs.Question.{Contents, is_given, given_count, front}
+use Rattle.rules.specs.Adjusted.{is_given}
+use Rattle.paper.specs.Question.{Contents, given_count, front}
 use Rattle.writer.specs.declared.calls.WriteError.{WriteError}
 use Rattle.writer.specs.declared.calls.WriteError.TheVariants.{BreaksFormat, TooShort}
 use Rattle.writer.specs.Bodies.{bodies}

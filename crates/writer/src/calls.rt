@@ -8,7 +8,7 @@ use crate::files::{file_length, put_file};
 use crate::outlines::outline_of;
 use paper::format::well_formed;
 use paper::kinds::{FILE_ASSETS, FILE_PERIODS};
-use paper::question::{Question, is_given};
+use paper::question::Question;
 
 #[tactic(auto, unfolding(crate::specs::Writer::shape_kept))]
 fn shape_kept(q: Question) -> bool
@@ -28,7 +28,7 @@ fn given_kept(q: Question, given: &[u64]) -> bool
     requires { q.assets ≤ file_assets }
     ensures { result ≡ Writer.given_kept q given.now }
 {
-    if !is_given(q.estimate) {
+    if !q.estimate.is_given() {
         return given.is_empty();
     }
     q.assets != 0 && given.len() == q.assets * q.assets

@@ -68,7 +68,7 @@ fn put_kind(
     put_record(k, first, out, from)
 }
 
-// The file of this outline, where each kind but these two comes once at most.
+// The file of this outline, where each kind but these two comes once at most. By index: two lists are read beside the table of kinds.
 pub(crate) fn put_file(o: Outline, returns: &[u64], given: &[u64], out: &mut [u8]) -> usize
     ensures { into out.new result ≡ write (into out.old 0) (Files.file_of kinds (Inner.held o returns.now given.now)) }
 {

@@ -6,69 +6,69 @@ ghost use Rattle.paper.specs.Question.{contents};
 ghost use Rattle.writer.specs.Bodies as Bodies;
 
 use paper::format::Outline;
-use paper::question::{Asked, EstimateBits, Question, RegularizationBits, ShrinkageBits};
-use rules::Target;
+use paper::question::{Asked, Question};
+use rules::{Decay, Estimate, Regularization, Shrinkage, Target};
 
-fn ridge(regularization: RegularizationBits) -> Option<u64>
+fn ridge(regularization: Regularization<u64>) -> Option<u64>
     ensures { option_to_list result ≡ Bodies.ridge regularization }
 {
     match regularization {
-        RegularizationBits::Ridge(bits) => Some(bits),
-        RegularizationBits::Unregularized => None,
+        Regularization::Ridge(bits) => Some(bits),
+        Regularization::Unregularized => None,
     }
 }
 
-fn fixed(shrinkage: ShrinkageBits) -> Option<u64>
+fn fixed(shrinkage: Shrinkage<u64>) -> Option<u64>
     ensures { option_to_list result ≡ Bodies.fixed shrinkage }
 {
     match shrinkage {
-        ShrinkageBits::Fixed(bits) => Some(bits),
+        Shrinkage::Fixed(bits) => Some(bits),
         _ => None,
     }
 }
 
-fn target(shrinkage: ShrinkageBits) -> Option<u64>
+fn target(shrinkage: Shrinkage<u64>) -> Option<u64>
     ensures { option_to_list result ≡ Bodies.target shrinkage }
 {
     match shrinkage {
-        ShrinkageBits::LedoitWolf(Target::ConstantVariance) => Some(0),
-        ShrinkageBits::LedoitWolf(Target::ConstantCorrelation) => Some(1),
+        Shrinkage::LedoitWolf(Target::ConstantVariance) => Some(0),
+        Shrinkage::LedoitWolf(Target::ConstantCorrelation) => Some(1),
         _ => None,
     }
 }
 
-fn half_life(estimate: EstimateBits) -> Option<u64>
+fn half_life(estimate: Estimate<u64>) -> Option<u64>
     ensures { option_to_list result ≡ Bodies.half_life estimate }
 {
     match estimate {
-        EstimateBits::HalfLife(bits) => Some(bits),
+        Estimate::Weighted(Decay::HalfLife(bits)) => Some(bits),
         _ => None,
     }
 }
 
-fn semi(estimate: EstimateBits) -> Option<u64>
+fn semi(estimate: Estimate<u64>) -> Option<u64>
     ensures { option_to_list result ≡ Bodies.semi estimate }
 {
     match estimate {
-        EstimateBits::Semi => Some(0),
+        Estimate::Semi => Some(0),
         _ => None,
     }
 }
 
-fn threshold(estimate: EstimateBits) -> Option<u64>
+fn threshold(estimate: Estimate<u64>) -> Option<u64>
     ensures { option_to_list result ≡ Bodies.threshold estimate }
 {
     match estimate {
-        EstimateBits::SemiBelow(bits) => Some(bits),
+        Estimate::SemiBelow(bits) => Some(bits),
         _ => None,
     }
 }
 
-fn factor(estimate: EstimateBits) -> Option<u64>
+fn factor(estimate: Estimate<u64>) -> Option<u64>
     ensures { option_to_list result ≡ Bodies.factor estimate }
 {
     match estimate {
-        EstimateBits::Lambda(bits) => Some(bits),
+        Estimate::Weighted(Decay::Lambda(bits)) => Some(bits),
         _ => None,
     }
 }

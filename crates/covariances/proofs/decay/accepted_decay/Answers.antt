@@ -7,7 +7,7 @@ use Rattle.rules.specs.declared.Decay.{Decay}
 use Rattle.rules.specs.declared.Decay.TheVariants.{HalfLife, Lambda}
 use Rattle.covariances.proofs.decay.accepted_decay.Goals as goal
 
-module _ (d : Decay) (l : Float) (is-l : l ≡ log_decay d) (good : Bool) (is-good : good ≡ accepted l) where
+module _ (d : Decay Float) (l : Float) (is-l : l ≡ log_decay d) (good : Bool) (is-good : good ≡ accepted l) where
   of-half-life : (h : Float) → d ≡ HalfLife h → good ≡ accepted_decay d
   unfolding accepted_decay
   of-half-life h e = rw (is-good, is-l, e)

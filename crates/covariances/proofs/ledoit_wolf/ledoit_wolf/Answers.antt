@@ -22,6 +22,7 @@ answer F T n r {means} em e ee near far f ed =
 pub returns : goal.returns
 returns c =
     let a = c.args in
+    let r = a.r.now in
     let e = c.largest_exponent-e in
     let f = c.factors-power in
-    answer a.target a.periods a.n a.r.now c.means.ensures e.result e.ensures.1 f.result.near f.result.far (rw (neg_read e.result (omega arith)) at f.ensures) c.of_rows.ensures
+    answer a.target r.periods r.assets r.numbers.now c.means.ensures e.result e.ensures.1 f.result.near f.result.far (rw (neg_read e.result (omega arith)) at f.ensures) c.of_rows.ensures

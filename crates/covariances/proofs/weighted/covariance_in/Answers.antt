@@ -7,13 +7,8 @@ use Rattle.covariances.proofs.weighted.covariance_in.Goals as goal
 
 pub returns : goal.returns
 returns c =
-    let root = c in
-    let d = root in
-    let m = d in
-    let w = m in
-    let s = w in
-    let a = s.args in
+    let a = c.args in
     let r = a.r.now in
-    let h = s.requires in
-    weighted_alike r.periods r.assets _ a.l (return_at r) h.2
-    (w.put_weights.ensures ∙ ap (λ (m : ℕ). weights m a.l) h.1) d.denominator.ensures m.means.ensures root.put_roots.ensures c.gram.ensures
+    let h = c.requires in
+    weighted_alike r.periods r.assets _ a.l (return_at r) h.1
+    (c.put_weights.ensures ∙ ap (λ (m : ℕ). weights m a.l) h.0) c.denominator.ensures c.means.ensures c.put_roots.ensures c.gram.ensures

@@ -12,4 +12,4 @@ returns c =
     let m = c.put_means in
     let l = c.amax in
     c.scale_back.ensures
-    ∙ mean_back r.periods r.assets (return_at r) _ c.args.weights.now _ _ (length-take-le _ _ r.few) (tab_long _ _ _ m.ensures) l.ensures p.ensures.0 m.ensures
+    ∙ mean_back r.periods r.assets (return_at r) _ c.args.weights.now _ _ (length-take-le _ _ r.shaped.1) (tab_long _ _ _ m.ensures) l.ensures p.ensures.0 m.ensures

@@ -14,8 +14,8 @@ returns-in_err-check_shape c =
     by_its_shape a.returns.now a.n a.periods (a.n * a.n) a.answer.now _ _ _ _ c.from_residual.ensures.1 c.in_err-check_shape.ensures
     ∙ sym (adjusted_is a.returns.now a.n a.periods a.settings a.given.now a.side a.answer.now)
 
-pub invariant_of-p : goal.invariant_of-p
-invariant_of-p c = record { shaped = (fits c.in_ok-check_shape.ensures).0 }
+pub invariant_of-r : goal.invariant_of-r
+invariant_of-r c = record { shaped = (fits c.in_ok-check_shape.ensures).0 }
 
 pub overflow_mul-size : goal.overflow_mul-size
 overflow_mul-size c = square_fits _ (fits c.in_ok-check_shape.ensures).0.1

@@ -13,8 +13,8 @@ returns-in_err-check_shape c =
     let a = c.args in
     by_its_shape a.returns.now a.n a.periods a.n a.answer.now _ _ _ _ c.from_residual.ensures.1 c.in_err-check_shape.ensures
 
-pub invariant_of-p : goal.invariant_of-p
-invariant_of-p c = record { shaped = (fits c.in_ok-check_shape.ensures).0 }
+pub invariant_of-r : goal.invariant_of-r
+invariant_of-r c = record { shaped = (fits c.in_ok-check_shape.ensures).0 }
 
 pub slice_bounds-james_stein_mean-end : goal.slice_bounds-james_stein_mean-end
 slice_bounds-james_stein_mean-end c = (fits c.in_ok-check_shape.ensures).1

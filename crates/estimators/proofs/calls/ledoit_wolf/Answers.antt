@@ -8,5 +8,5 @@ returns-in_err-check_shape c =
     let a = c.args in
     shape_refuses a.returns.now a.n a.periods a.target _ c.from_residual.ensures.1 c.in_err-check_shape.ensures
 
-pub invariant_of-p : goal.invariant_of-p
-invariant_of-p c = record { shaped = (fits {m = 0} {room = 0} c.in_ok-check_shape.ensures).0 }
+pub invariant_of-r : goal.invariant_of-r
+invariant_of-r c = record { shaped = (fits {m = 0} {room = 0} c.in_ok-check_shape.ensures).0 }

@@ -5,17 +5,17 @@ use Rattle.estimators.proofs.covariance.ledoit_wolf_in.Goals as goal
 pub returns-in_err-check_returns : goal.returns-in_err-check_returns
 returns-in_err-check_returns c =
     let a = c.args in
-    let p = a.p.now in
-    returns_refuse p.returns.now p.n p.periods a.target _ c.from_residual.ensures.1 p.shaped c.in_err-check_returns.ensures.1
+    let r = a.r.now in
+    returns_refuse r.numbers.now r.assets r.periods a.target _ c.from_residual.ensures.1 r.shaped c.in_err-check_returns.ensures.1
 
 pub returns-in_err-no_correlation : goal.returns-in_err-no_correlation
 returns-in_err-no_correlation c =
     let a = c.args in
-    let p = a.p.now in
-    correlation_refuses p.returns.now p.n p.periods a.target _ c.from_residual-in_err-no_correlation.ensures.1 p.shaped c.in_ok-check_returns.ensures.1 c.in_err-no_correlation.ensures
+    let r = a.r.now in
+    correlation_refuses r.numbers.now r.assets r.periods a.target _ c.from_residual-in_err-no_correlation.ensures.1 r.shaped c.in_ok-check_returns.ensures.1 c.in_err-no_correlation.ensures
 
 pub returns : goal.returns
 returns c =
     let a = c.args in
-    let p = a.p.now in
-    accepted p.returns.now p.n p.periods a.target p.shaped c.in_ok-check_returns.ensures.1 c.in_ok-no_correlation.ensures c.ledoit_wolf.ensures
+    let r = a.r.now in
+    accepted r.numbers.now r.assets r.periods a.target r.shaped c.in_ok-check_returns.ensures.1 c.in_ok-no_correlation.ensures c.ledoit_wolf.ensures

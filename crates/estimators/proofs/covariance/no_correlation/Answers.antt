@@ -1,15 +1,11 @@
 -- `estimators::covariance::no_correlation` meets its contract, by the cases of the shrinkage.
 use mathlib.Core.Logic.{inl, inr}
 use mathlib.Core.Path.{ap, ◌∙◌}
-use Rattle.matrix.proofs.Lent.{lent}
 use Rattle.rules.specs.Refusals.{when_some}
 use Rattle.rules.specs.Order.{no_correlation}
 use Rattle.rules.specs.declared.Refusal.TheVariants.{ZeroVariance}
 use Rattle.rules.proofs.Constant.{constant_stored}
 use Rattle.estimators.proofs.covariance.no_correlation.Goals as goal
-
-pub check_constant-requires : goal.check_constant-requires
-check_constant-requires c = search lent
 
 pub returns-in-Unshrunk : goal.returns-in-Unshrunk
 unfolding no_correlation

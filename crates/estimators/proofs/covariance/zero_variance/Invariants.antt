@@ -2,7 +2,7 @@ use mathlib.Core.Path.{◌≡◌}
 use mathlib.Core.Bool.{Bool}
 use mathlib.Core.List.{List}
 use mathlib.Core.Option.{none}
-use Prim.Native.Nat.{ℕ, ◌≤◌}
+use Prim.Native.Nat.{ℕ}
 use lib.Ieee.{Float, eq}
 use Rattle.leaves.specs.Numbers.{zero⁺}
 use Rattle.leaves.specs.Loops.{first_to}
@@ -13,4 +13,4 @@ abbrev pub flat : List Float → ℕ → ℕ → Bool
 flat b n i = eq (at b n i i) zero⁺
 
 abbrev pub invariant-loop-i : goal.invariant-loop-i
-invariant-loop-i l = (l.i ≤ l.n) × (first_to l.i (flat l.b l.n) ≡ none)
+invariant-loop-i l = first_to l.i (flat l.b l.n) ≡ none

@@ -3,7 +3,6 @@ use Rattle.std.proofs.Common.{◌/◌, ◌%◌, sym, arith, rules}
 use Rattle.leaves.specs.Numbers.{◌⊘◌}
 use Rattle.leaves.specs.Loops.{nth}
 use Rattle.leaves.proofs.Invariants.{filled_more, filled_none}
-use Rattle.leaves.proofs.Cells.{row_below, col_below}
 use Rattle.matrix.specs.Matrix.{at}
 use Rattle.matrix.proofs.Stored.{entry_at}
 use Rattle.matrix.proofs.FilledRows.{filled_rows}
@@ -13,24 +12,12 @@ use Rattle.means.proofs.bayes_stein.put_correlations.Goals as goal
 pub loop-k-init : goal.loop-k-init
 loop-k-init c = filled_none _ _ _
 
-pub offset_bounds-volatilities-k : goal.offset_bounds-volatilities-k
-offset_bounds-volatilities-k c = omega (arith, row_below _ _ _ c.loop-k-test.true)
-
-pub bounds-volatilities-k : goal.bounds-volatilities-k
-bounds-volatilities-k c = omega (arith, row_below _ _ _ c.loop-k-test.true)
-
-pub offset_bounds-volatilities-k-in-loop-k : goal.offset_bounds-volatilities-k-in-loop-k
-offset_bounds-volatilities-k-in-loop-k c = omega (arith, col_below _ _ _ c.loop-k-test.true)
-
-pub bounds-volatilities-k-in-loop-k : goal.bounds-volatilities-k-in-loop-k
-bounds-volatilities-k-in-loop-k c = omega (arith, col_below _ _ _ c.loop-k-test.true)
-
 pub loop-k-preserved : goal.loop-k-preserved
 loop-k-preserved c =
     let a = c.args in
     let l = c.loop-k in
-    filled_more l.invariant c.loop-k-test.true (omega arith)
+    filled_more l.invariant (omega arith) (omega arith)
     (λ t. sym (entry_at a.covariance.now a.n l.k) t ⊘ nth a.volatilities.now (l.k / a.n) ⊘ nth a.volatilities.now (l.k % a.n))
 
 pub returns : goal.returns
-returns c = let a = c.args in filled_rows (correlation_by (nth a.volatilities.now) (at a.covariance.now a.n)) a.n c.loop-k.invariant c.loop-k-test.false (search rules)
+returns c = let a = c.args in filled_rows (correlation_by (nth a.volatilities.now) (at a.covariance.now a.n)) a.n c.loop-k.invariant (omega arith) (search rules)

@@ -4,7 +4,6 @@ use Rattle.std.specs.Prelude.{Result, Ok}
 use Rattle.std.specs.Result.{IsErrAnd}
 use lib.Ieee.{Float}
 use Rattle.leaves.specs.Loops.{tab, nth}
-use Rattle.leaves.proofs.Lists.{tab_long}
 use Rattle.matrix.specs.Matrix.{at, rows}
 use Rattle.matrix.specs.Jacobi.{Decomposition, decompose}
 use Rattle.rules.specs.Sample.{volatility, correlation}
@@ -79,18 +78,6 @@ returns-in_err-judge c =
     let e = c.in_ok-correlate.ensures in
     singular a.n a.limit a.means.now a.covariance.now a.periods a.exponents.now (nth a.sizes.now) a.out.now _ _ e.0 e.1
     e.2 _ c.decompose-d.ensures _ c.from_residual-in_err-judge.ensures.1 (c.in_err-judge.ensures _)
-
-pub shrinkage-w-requires : goal.shrinkage-w-requires
-shrinkage-w-requires c =
-    let p = c.requires in
-    (p.1, p.3, tab_long _ _ _ c.in_ok-correlate.ensures.0, p.5, p.6)
-
-pub put_shrunk-requires : goal.put_shrunk-requires
-put_shrunk-requires c = let p = c.requires in (p.3 ∙ sym p.12, p.5 ∙ sym p.12, p.6)
-
-pub shape_of-volatilities : goal.shape_of-volatilities
-shape_of-volatilities c =
-    tab_long _ _ _ c.in_ok-correlate.ensures.0 ∙ sym c.requires.8
 
 pub returns : goal.returns
 returns c =

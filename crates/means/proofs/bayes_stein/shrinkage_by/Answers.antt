@@ -4,19 +4,13 @@ use lib.Ieee.{Float, of_bits}
 use Rattle.leaves.specs.Numbers.{◌⊕◌, ◌⊗◌, ◌⊘◌, count, two, max0}
 use Rattle.leaves.specs.Scaling.{pow2_scaled}
 use Rattle.rules.specs.BayesStein.{shrinkage_by}
-use Rattle.tables.proofs.Exponents.{plus_fits, plus_read, minus_fits, minus_read}
+use Rattle.tables.proofs.Exponents.{plus_read, minus_read}
 use Rattle.means.specs.Stein.{mean_shrinkage}
 use Rattle.means.proofs.bayes_stein.shrinkage_by.Goals as goal
 
 made : (n : ℕ) (T ratio squared : Float) (a b : ℤ) (k x y t : Float) → k ≡ count n → x ≡ max0 squared → y ≡ pow2_scaled x (b +ℤ b) → t ≡ pow2_scaled ratio (b -ℤ a)
     → mean_shrinkage ((k ⊕ two) ⊘ (k ⊕ two ⊕ T ⊗ y)) t ≡ shrinkage_by n T ratio squared a b
 made n T ratio squared a b k x y t is-k is_x is_y is-t = rw (is-k, is_y, is_x, is-t)
-
-pub overflow_add-b : goal.overflow_add-b
-overflow_add-b c = let s = c in plus_fits s.args.b s.args.b (omega arith)
-
-pub overflow_sub-b : goal.overflow_sub-b
-overflow_sub-b c = let s = c in minus_fits s.args.b s.args.a (omega arith)
 
 pub returns : goal.returns
 unfolding of_bits

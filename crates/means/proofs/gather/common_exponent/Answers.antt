@@ -21,20 +21,13 @@ reads : (exponents : List ℤ) → Exponents exponents → (i : ℕ) → i < len
 reads exponents h i l = read (exponent_at exponents i) (omega (arith, h i l))
 
 pub loop-i-init : goal.loop-i-init
-loop-i-init c = (omega arith, loop_start _ _, omega arith)
-
-pub with_exponent-largest-requires : goal.with_exponent-largest-requires
-with_exponent-largest-requires c =
-    let s = c in
-    let i = c.loop-i.i in
-    let h : i < length s.args.exponents.now = omega arith in
-    (rw (reads s.args.exponents.now s.requires.1 i h) (s.requires.1 i h), c.loop-i.invariant.2)
+loop-i-init c = (loop_start _ _, omega arith)
 
 pub loop-i-preserved : goal.loop-i-preserved
 loop-i-preserved c =
     let s = c in
     let l = c.loop-i in
-    (omega arith, loop_turn _ _ _ _ _ l.invariant.1 (rw (reads s.args.exponents.now s.requires.1 l.i (omega arith)) at c.with_exponent-largest.ensures.0), c.with_exponent-largest.ensures.1)
+    (loop_turn _ _ _ _ _ l.invariant.0 (rw (reads s.args.exponents.now s.requires.1 l.i (omega arith)) at c.with_exponent-largest.ensures.0), c.with_exponent-largest.ensures.1)
 
 pub returns : goal.returns
 unfolding common_exponent
@@ -43,5 +36,5 @@ returns c =
     let l = c.loop-i in
     let a = c.args in
     let e = o.ensures ∙ or_nothing l.largest in
-    let h : nat_abs o.result ≤ two_exponents = rw e l.invariant.2 in
-    rw (read o.result (omega arith)) (e ∙ ap or_zero (loop_end (step a.xs.now a.exponents.now) l.i (length a.xs.now) none (largest_of l.largest) l.invariant.1 (omega arith)), h)
+    let h : nat_abs o.result ≤ two_exponents = rw e l.invariant.1 in
+    rw (read o.result (omega arith)) (e ∙ ap or_zero (loop_end (step a.xs.now a.exponents.now) l.i (length a.xs.now) none (largest_of l.largest) l.invariant.0 (omega arith)), h)

@@ -1,4 +1,4 @@
-use Rattle.std.proofs.Common.{◌≡◌, ℕ, ◌≤◌, List, length, ℤ, neg_ℤ}
+use Rattle.std.proofs.Common.{◌≡◌, ℕ, List, ℤ, neg_ℤ}
 use mathlib.Core.Option.{Option, none}
 use lib.Ieee.{Float}
 use Rattle.leaves.specs.Loops.{loop, nth}
@@ -10,4 +10,4 @@ abbrev pub step : List Float → List ℤ → ℕ → Option ℤ → Option ℤ
 step xs exponents i found = with_exponent found (nth xs i) (neg_ℤ (exponent_at exponents i))
 
 abbrev pub invariant-loop-i : goal.invariant-loop-i
-invariant-loop-i l = (l.i ≤ length l.xs) × (largest_of l.largest ≡ loop l.i (step l.xs l.exponents) none) × WithinTwoExponents (largest_of l.largest)
+invariant-loop-i l = (largest_of l.largest ≡ loop l.i (step l.xs l.exponents) none) × WithinTwoExponents (largest_of l.largest)

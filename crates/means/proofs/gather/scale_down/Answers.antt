@@ -4,17 +4,11 @@ use lib.Ieee.{nan}
 use Rattle.leaves.specs.Scaling.{pow2_scaled}
 use Rattle.leaves.proofs.Invariants.{filled_here, filled_more, filled_whole, filled_none}
 use Rattle.rules.specs.BayesStein.{gathered, exponent_at}
-use Rattle.tables.proofs.Exponents.{read, neg_fits, both_fits, both_read}
+use Rattle.tables.proofs.Exponents.{read, both_read}
 use Rattle.means.proofs.gather.scale_down.Goals as goal
 
 pub loop-i-init : goal.loop-i-init
 loop-i-init c = filled_none _ _ _
-
-pub overflow_sub-exponents : goal.overflow_sub-exponents
-overflow_sub-exponents c = let s = c in neg_fits (exponent_at s.args.exponents.now c.loop-i.i) (omega (arith, s.requires.1 c.loop-i.i (omega arith)))
-
-pub overflow_sub-exponents-in-loop-i : goal.overflow_sub-exponents-in-loop-i
-overflow_sub-exponents-in-loop-i c = let s = c in both_fits (exponent_at s.args.exponents.now c.loop-i.i) s.args.e (omega (arith, s.requires.1 c.loop-i.i (omega arith)))
 
 pub loop-i-preserved : goal.loop-i-preserved
 loop-i-preserved c =

@@ -5,12 +5,6 @@ use Rattle.matrix.proofs.Lent.{lent}
 use Rattle.rules.specs.JamesStein.{grand_mean}
 use Rattle.means.proofs.james_stein.grand_mean.Goals as goal
 
-pub slice_bounds-mean-end : goal.slice_bounds-mean-end
-slice_bounds-mean-end c = search lent
-
-pub slice_bounds-sum-end : goal.slice_bounds-sum-end
-slice_bounds-sum-end c = search lent
-
 pub returns : goal.returns
 unfolding grand_mean
 returns c = let a = c.args in λ i. rw (length-take-le a.m.n a.m.mean (search lent)) at c.sum.ensures i ⊘ c.nearest_u64_to_f64.ensures i

@@ -8,7 +8,7 @@ use Rattle.matrix.specs.Matrix.{at, trace}
 use Rattle.matrix.specs.Jacobi.{Decomposition}
 use Rattle.rules.specs.Moments.{Moments, moments_of}
 use Rattle.rules.specs.JamesStein.{largest_deviation, spread, james_stein_intensity}
-use Rattle.tables.proofs.Exponents.{size_plus, read, plus_fits, neg_fits, neg_read}
+use Rattle.tables.proofs.Exponents.{size_plus, read, neg_read}
 use Rattle.means.proofs.james_stein.intensity.Goals as goal
 
 -- by the numbers that the code finds
@@ -17,12 +17,6 @@ answer : (n : ℕ) (m : Moments) (values : List Float) (μ₀ largest : Float) �
     → r ≡ clamp01 y → (d : Decomposition) → d.values ≡ values → r ≡ james_stein_intensity n m μ₀ d
 unfolding james_stein_intensity
 answer n m values μ₀ largest is-largest unequal s is-s t l q y r is-t is-l is-q is_y is-r d is-d = rw (is-r, is_y, is-t, is-l, is-q, is-s, james_stein_intensity, ← is-largest, unequal, is-d, is-largest)
-
-pub overflow_add-shift : goal.overflow_add-shift
-overflow_add-shift c = let e = c.exponent-shift in plus_fits e.result e.result (omega arith)
-
-pub overflow_sub-shift : goal.overflow_sub-shift
-overflow_sub-shift c = let e = c.exponent-shift in rw (read e.result (omega arith)) (neg_fits (e.result +ℤ e.result) (omega (arith, size_plus e.result e.result)))
 
 pub returns : goal.returns
 unfolding of_bits

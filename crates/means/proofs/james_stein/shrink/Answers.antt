@@ -1,11 +1,10 @@
 -- `means::james_stein::shrink` meets its contract: what the decomposition leaves is the case of `settle`.
-use Rattle.std.proofs.Common.{◌≡◌, ℕ, Bool, true, false, not, List, ℤ, sym, refl, ap, ◌∙◌, length-take-le, to_z-of_z}
+use Rattle.std.proofs.Common.{◌≡◌, ℕ, Bool, true, false, not, List, ℤ, refl, ap, ◌∙◌, to_z-of_z}
 use Rattle.std.specs.Prelude.{Result, Ok, Err}
 use lib.Ieee.{Float}
 use Rattle.leaves.specs.Loops.{tab, nth}
 use Rattle.leaves.specs.Scaling.{pow2_scaled}
 use Rattle.matrix.specs.Matrix.{at}
-use Rattle.matrix.proofs.Lent.{lent}
 use Rattle.rules.specs.Refusals.{when}
 use Rattle.rules.specs.Order.{not_found}
 use Rattle.rules.specs.Moments.{Moments}
@@ -47,15 +46,6 @@ returns-in_err-p c =
     let g = c.grand_mean-target in
     ap (λ (r : Result Answer Refusal). answered r a.out.now) (refusal _ c.from_residual.ensures.1)
     ∙ settled a.m.n a.limit (held a.m) a.exponent a.out.now g.result g.ensures _ c.in_err-p.ensures
-
-pub slice_bounds-mean-end : goal.slice_bounds-mean-end
-slice_bounds-mean-end c = search lent
-
-pub slice_bounds-put_shrunk-end : goal.slice_bounds-put_shrunk-end
-slice_bounds-put_shrunk-end c = search lent
-
-pub put_shrunk-requires : goal.put_shrunk-requires
-put_shrunk-requires c = length-take-le _ _ (search lent) ∙ sym c.requires.2
 
 pub returns : goal.returns
 returns c =

@@ -1,5 +1,5 @@
 -- `means::james_stein::shrinkage` meets its contract: each return is the case of `decompose_unequal` that the tests pick.
-use Rattle.std.proofs.Common.{◌≡◌, ℕ, true, false, sym, refl, ap, ◌∙◌, rules}
+use Rattle.std.proofs.Common.{◌≡◌, ℕ, true, false, sym, refl, ap, ◌∙◌}
 use Rattle.std.specs.Prelude.{Result, Ok, Err}
 use borrow.Author.Tests.{not-true, not-false}
 use lib.Ieee.{Float, eq, of_bits}
@@ -45,13 +45,6 @@ returns-then-not-d c =
     let a = b.args in
     let u = c.largest_deviation-largest in
     unequal a.limit a.n (moments_of a.means.now a.covariance.now a.periods) a.target u.result (rw b.requires.3 at u.ensures) c.if-largest.false _ c.decompose-d.ensures _ (rw (not-true _ c.if-not-d.true))
-
-pub intensity-requires : goal.intensity-requires
-unfolding of_bits
-intensity-requires c =
-    let b = c in
-    let u = c.largest_deviation-largest in
-    (b.requires.0, b.requires.3, b.requires.4, search rules, rw b.requires.3 at u.ensures, c.if-largest.false)
 
 pub returns : goal.returns
 unfolding of_bits

@@ -1,4 +1,4 @@
-use Rattle.std.proofs.Common.{◌≡◌, ℕ, ◌≤◌, List, length, ℤ}
+use Rattle.std.proofs.Common.{◌≡◌, ℕ, List, ℤ}
 use lib.Ieee.{Float}
 use Rattle.leaves.specs.Numbers.{◌⊖◌, ◌⊗◌}
 use Rattle.leaves.specs.Loops.{sum_to, nth}
@@ -9,4 +9,4 @@ abbrev pub square : List Float → Float → ℤ → ℕ → Float
 square means target k i = let d = pow2_scaled (nth means i ⊖ target) k in d ⊗ d
 
 abbrev pub invariant-loop-x : goal.invariant-loop-x
-invariant-loop-x l = (l.x-index ≤ length l.means) × (l.s ≡ sum_to l.x-index (square l.means l.target l.down))
+invariant-loop-x l = l.s ≡ sum_to l.x-index (square l.means l.target l.down)

@@ -1,5 +1,5 @@
 -- `paper::answer::put_lines` meets its contract. The invariant: what is written, with the lines that are left, is all of them.
-use mathlib.Core.Path.{refl, ◌∙◌}
+use mathlib.Core.Path.{◌∙◌}
 use native.Mathlib.Omega.{arith}
 use lib.ListN.{drop}
 use Rattle.paper.specs.Text.{out as into}
@@ -7,9 +7,6 @@ use Rattle.paper.specs.Answer.{lines_text}
 use Rattle.paper.proofs.Writes.{onward, ended}
 use Rattle.paper.proofs.Lines.{lines_more, lines_none}
 use Rattle.paper.proofs.answer.put_lines.Goals as goal
-
-pub loop-k-init : goal.loop-k-init
-loop-k-init c = refl
 
 pub loop-k-preserved : goal.loop-k-preserved
 loop-k-preserved c =

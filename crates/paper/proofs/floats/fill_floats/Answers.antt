@@ -1,6 +1,6 @@
 -- `paper::floats::fill_floats` meets its contract. The invariant: the floats passed are filled in.
 use native.Mathlib.Omega.{arith}
-use Rattle.leaves.proofs.Invariants.{filled_more, filled_all, filled_none}
+use Rattle.leaves.proofs.Invariants.{filled_more, filled_none}
 use Rattle.paper.proofs.floats.fill_floats.Goals as goal
 
 pub loop-i-init : goal.loop-i-init
@@ -8,6 +8,3 @@ loop-i-init c = filled_none _ _ _
 
 pub loop-i-preserved : goal.loop-i-preserved
 loop-i-preserved c = filled_more c.loop-i.invariant c.loop-i-test.true (omega arith) c.float.ensures
-
-pub returns : goal.returns
-returns c = filled_all c.loop-i.invariant c.loop-i-test.false

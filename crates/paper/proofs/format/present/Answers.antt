@@ -1,16 +1,9 @@
 -- `paper::format::present` meets its contract. The invariant: what is counted, with what is left to count, is the whole.
 use mathlib.Core.Path.{sym, ◌∙◌}
-use native.Mathlib.Nat.{zero-add}
 use native.Mathlib.Omega.{arith}
 use Rattle.paper.proofs.Outlines.{present_yes, present_no, present_all}
 use Rattle.paper.proofs.format.present.Goals as goal
 use Rattle.paper.proofs.format.present.Goals.{then-has, else-has}
-
-pub loop-kind-init : goal.loop-kind-init
-loop-kind-init c = (omega arith, zero-add _)
-
-pub overflow_add-n : goal.overflow_add-n
-overflow_add-n c = omega arith
 
 pub loop-kind-preserved : goal.loop-kind-preserved
 loop-kind-preserved c =

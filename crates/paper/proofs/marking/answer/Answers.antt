@@ -1,10 +1,9 @@
 -- `paper::marking::answer` meets its contract: the slice that is lent is as long as the answer, and zero.
 use mathlib.Core.Path.{ap, ◌∙◌}
-use native.Mathlib.Omega.{arith}
 use Rattle.paper.specs.Text.{write}
 use Rattle.paper.specs.Answer.{outcome_text}
 use Rattle.paper.specs.Marking.{printed}
-use Rattle.paper.proofs.Marks.{answer_fits, answer_is}
+use Rattle.paper.proofs.Marks.{answer_is}
 use Rattle.paper.proofs.marking.answer.Goals as goal
 
 pub returns : goal.returns

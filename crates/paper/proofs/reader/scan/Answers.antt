@@ -20,22 +20,10 @@ first-requires c =
     let h : i < length kinds = omega (arith, how_many) in
     (rw c.kind_at-k.ensures (small_body i h), rw c.kind_at-k.ensures (some_most i h), c.loop-i.invariant.1)
 
-pub offset_bounds-firsts-i : goal.offset_bounds-firsts-i
-offset_bounds-firsts-i c = omega arith
-
-pub bounds-firsts-i : goal.bounds-firsts-i
-bounds-firsts-i c = omega arith
-
 pub take_kind-t-requires : goal.take_kind-t-requires
 take_kind-t-requires c =
     let k = c in
     (rw k.kind_at-k.ensures (small_body k.loop-i.i (omega (arith, how_many))), k.loop-i.invariant.1)
-
-pub offset_bounds-counts-i : goal.offset_bounds-counts-i
-offset_bounds-counts-i c = omega arith
-
-pub bounds-counts-i : goal.bounds-counts-i
-bounds-counts-i c = omega arith
 
 pub loop-i-preserved : goal.loop-i-preserved
 loop-i-preserved c =
@@ -50,9 +38,6 @@ loop-i-preserved c =
       simp length-set l.invariant.4,
       going_turn file _ _ l.i l.at l.numbers l.next _ t.take_kind-t.result l.counts l.firsts _ _ (omega (arith, how_many)) (omega (arith, how_many)) (omega (arith, how_many)) l.invariant.5 k.kind_at-k.ensures t.take_kind-t.ensures t.first.ensures,
     )
-
-pub shape_of-numbers : goal.shape_of-numbers
-shape_of-numbers c = omega arith
 
 pub returns : goal.returns
 returns c =

@@ -1,16 +1,9 @@
 -- `paper::reader::take_kind` meets its contract. The invariant: what is taken, with the records that are left, is all of them.
 use mathlib.Core.Path.{◌≡◌, sym, ◌∙◌}
-use Prim.Native.Nat.{◌+◌, ◌-◌, ◌≤◌}
+use Prim.Native.Nat.{◌-◌}
 use native.Mathlib.Omega.{arith}
-use lib.ListN.{length}
-use Rattle.paper.proofs.Taking.{fits_in, taken_stop, taken_full, left_all, left_more, left_none}
+use Rattle.paper.proofs.Taking.{fits_in, taken_stop, taken_full, left_more, left_none}
 use Rattle.paper.proofs.reader.take_kind.Goals as goal
-
-pub loop-count-init : goal.loop-count-init
-loop-count-init c = let a = c.args in (omega arith, left_all a.file.now _ a.k a.k.most a.from)
-
-pub starts-requires : goal.starts-requires
-starts-requires c = c.loop-count.invariant.0
 
 pub returns-then-not-starts : goal.returns-then-not-starts
 returns-then-not-starts c =

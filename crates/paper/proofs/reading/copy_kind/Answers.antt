@@ -1,8 +1,5 @@
 -- `paper::reading::copy_kind` meets its contract: the kind's numbers lie in the slice, where the counts before it end.
-use Prim.Native.Nat.{◌+◌, ◌≤◌, ◌<◌}
 use native.Mathlib.Omega.{arith}
-use lib.ListN.{length, get_or}
-use Rattle.paper.proofs.Table.{how_many}
 use Rattle.paper.proofs.Pieces.{piece_in, kind_copied}
 use Rattle.paper.proofs.reading.copy_kind.Goals as goal
 

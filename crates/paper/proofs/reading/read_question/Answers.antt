@@ -1,7 +1,7 @@
 -- `paper::reading::read_question` meets its contract: the file is read, the slices are looked at, and then they are filled.
 use mathlib.Core.Path.{◌≡◌}
 use native.Mathlib.Omega.{arith}
-use Rattle.std.specs.Prelude.{Some, None, Err}
+use Rattle.std.specs.Prelude.{Some, None}
 use Rattle.std.proofs.lemmas.Result.{err_from_is_err_and}
 use Rattle.paper.specs.declared.reading.ReadError.TheVariants.{Malformed}
 use Rattle.paper.proofs.Readings.{room_is, answer_malformed, answer_short_returns, answer_short_given, answer_found}

@@ -2,8 +2,5 @@
 use Rattle.paper.proofs.Writes.{write_none}
 use Rattle.paper.proofs.screen.put_minus.Goals as goal
 
-pub returns-then-minus : goal.returns-then-minus
-returns-then-minus c = rw c.if-minus.true c.put.ensures
-
 pub returns-else-minus : goal.returns-else-minus
 returns-else-minus c = rw c.if-minus.false (write_none _)

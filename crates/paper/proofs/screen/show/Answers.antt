@@ -4,18 +4,14 @@ use mathlib.Core.Bool.{◌&&◌, not}
 use Prim.Native.Nat.{◌/◌, ◌%◌, ◌^◌, ◌≤◌}
 use lib.Dec.{leb, eqb}
 use lib.Ieee.{binary64, to_bits}
-use Rattle.leaves.proofs.IsNan.{itself_number}
 use Rattle.paper.specs.declared.screen.Shown.TheVariants.{Number}
 use Rattle.paper.specs.Screen.{shown}
 use Rattle.paper.proofs.Screens.{shown_nan, shown_big, shown_units, no_minus, own_minus}
 use Rattle.paper.proofs.screen.show.Goals as goal
 use Rattle.paper.proofs.screen.show.Goals.{Joined-exponent-eq0, then-exponent-eq0, else-exponent-eq0}
 
-pub returns-then-x : goal.returns-then-x
-returns-then-x c = shown_nan _ c.if-x.true
-
-pub float_to_bits-bits : goal.float_to_bits-bits
-float_to_bits-bits c = itself_number _ c.if-x.false
+pub returns-then-is_nan : goal.returns-then-is_nan
+returns-then-is_nan c = shown_nan _ (sym c.is_nan.ensures.value ∙ c.if-is_nan.true)
 
 pub returns-then-exponent-gt1053 : goal.returns-then-exponent-gt1053
 returns-then-exponent-gt1053 c = shown_big c.args.x c.well_formed.0.1 c.if-exponent-gt1053.true

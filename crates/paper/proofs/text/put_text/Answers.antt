@@ -1,13 +1,10 @@
 -- `paper::text::put_text` meets its contract. The invariant: what is written, with what is left of the text, is the whole.
-use mathlib.Core.Path.{refl, ◌∙◌}
+use mathlib.Core.Path.{◌∙◌}
 use native.Mathlib.Omega.{arith}
 use lib.ListN.{drop, drop_of_length-le}
 use Rattle.paper.specs.Text.{out as into}
 use Rattle.paper.proofs.Writes.{onward, ended, drop_next}
 use Rattle.paper.proofs.text.put_text.Goals as goal
-
-pub loop-b-init : goal.loop-b-init
-loop-b-init c = refl
 
 pub loop-b-preserved : goal.loop-b-preserved
 loop-b-preserved c =

@@ -1,11 +1,8 @@
 -- `paper::text::significant` meets its contract. The invariant: only zeros in front were passed.
-use mathlib.Core.Path.{◌≡◌, refl, sym, ◌∙◌}
+use mathlib.Core.Path.{◌≡◌, sym, ◌∙◌}
 use native.Mathlib.Omega.{arith}
 use Rattle.paper.proofs.Digits.{unpadded_zero, unpadded_digit, unpadded_last}
 use Rattle.paper.proofs.text.significant.Goals as goal
-
-pub loop-i-init : goal.loop-i-init
-loop-i-init c = refl
 
 pub returns-then-text-i-ne48 : goal.returns-then-text-i-ne48
 returns-then-text-i-ne48 c = let l = c.loop-i in (omega arith, sym (unpadded_digit _ l.i (omega arith) c.if-text-i-ne48.true) ∙ l.invariant)

@@ -2,7 +2,6 @@
 use mathlib.Core.Path.{◌≡◌}
 use mathlib.Core.List.{List}
 use Prim.Native.Nat.{ℕ, ◌+◌, ◌*◌, ◌≤◌, ◌<◌}
-use native.Mathlib.Nat.{zero-add}
 use native.Mathlib.Omega.{arith}
 use lib.ListN.{length, drop, get_or}
 use Rattle.paper.specs.declared.kinds.Kind.{Kind}
@@ -12,9 +11,6 @@ use Rattle.paper.proofs.Table.{how_many, small_body}
 use Rattle.writer.specs.Files.{length_of}
 use Rattle.writer.proofs.Left.{length_more, length_all}
 use Rattle.writer.proofs.files.file_length.Goals as goal
-
-pub loop-i-init : goal.loop-i-init
-loop-i-init c = zero-add _
 
 pub kind_at-k-requires : goal.kind_at-k-requires
 kind_at-k-requires c = omega (arith, how_many)

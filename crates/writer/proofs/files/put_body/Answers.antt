@@ -1,16 +1,12 @@
 -- `writer::files::put_body` meets its contract. The invariant: what is written, with the bytes that are left, is the whole body.
 use mathlib.Core.Path.{◌∙◌}
 use Prim.Native.Nat.{◌-◌}
-use native.Mathlib.Nat.{sub-zero}
 use native.Mathlib.Omega.{arith}
 use Rattle.paper.specs.Text.{out as into}
 use Rattle.paper.proofs.Writes.{onward, ended}
 use Rattle.writer.specs.Files.{bytes_of}
 use Rattle.writer.proofs.Left.{body_more, body_none}
 use Rattle.writer.proofs.files.put_body.Goals as goal
-
-pub loop-i-init : goal.loop-i-init
-loop-i-init c = rw sub-zero
 
 pub loop-i-preserved : goal.loop-i-preserved
 loop-i-preserved c =

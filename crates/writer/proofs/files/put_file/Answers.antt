@@ -1,5 +1,5 @@
 -- `writer::files::put_file` meets its contract. The invariant: what is written, with the kinds that are left, is the whole file.
-use mathlib.Core.Path.{refl, ◌∙◌}
+use mathlib.Core.Path.{◌∙◌}
 use native.Mathlib.Omega.{arith}
 use lib.ListN.{drop}
 use Rattle.paper.specs.Text.{out as into}
@@ -11,9 +11,6 @@ use Rattle.writer.specs.Inner.{held}
 use Rattle.writer.proofs.Left.{file_none}
 use Rattle.writer.proofs.Held.{held_more}
 use Rattle.writer.proofs.files.put_file.Goals as goal
-
-pub loop-i-init : goal.loop-i-init
-loop-i-init c = refl
 
 pub kind_at-k-requires : goal.kind_at-k-requires
 kind_at-k-requires c = omega (arith, how_many)

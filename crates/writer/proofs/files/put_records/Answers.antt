@@ -1,5 +1,5 @@
 -- `writer::files::put_records` meets its contract. The invariant: what is written, with the records that are left, is all of them.
-use mathlib.Core.Path.{refl, ◌∙◌}
+use mathlib.Core.Path.{◌∙◌}
 use native.Mathlib.Omega.{arith}
 use lib.ListN.{drop}
 use Rattle.paper.specs.Text.{out as into}
@@ -7,9 +7,6 @@ use Rattle.paper.proofs.Writes.{onward, ended}
 use Rattle.writer.specs.Files.{records}
 use Rattle.writer.proofs.Left.{records_more, records_none}
 use Rattle.writer.proofs.files.put_records.Goals as goal
-
-pub loop-body-init : goal.loop-body-init
-loop-body-init c = refl
 
 pub loop-body-preserved : goal.loop-body-preserved
 loop-body-preserved c =

@@ -9,11 +9,11 @@ use Rattle.means.proofs.forms.Decomposed.form.Goals as goal
 
 pub loop-e-init : goal.loop-e-init
 unfolding of_bits
-loop-e-init c = (omega arith, sum_none _)
+loop-e-init c = sum_none _
 
 pub loop-e-preserved : goal.loop-e-preserved
-loop-e-preserved c = (omega arith, sum_turn _ _ _ _ c.loop-e.invariant.1 refl)
+loop-e-preserved c = sum_turn _ _ _ _ c.loop-e.invariant refl
 
 pub returns : goal.returns
 unfolding form
-returns c d h = let a = c.args in rw h (at_end (λ k. sum_to k (λ e. nth a.x.now e ⊗ nth a.y.now e ⊘ nth a.self.now.values.now e)) _ _ _ c.loop-e.invariant.1 c.loop-e.invariant.0 c.loop-e-test.false)
+returns c d h = let a = c.args in rw h (at_end (λ k. sum_to k (λ e. nth a.x.now e ⊗ nth a.y.now e ⊘ nth a.self.now.values.now e)) _ _ _ c.loop-e.invariant (omega arith) (omega arith))

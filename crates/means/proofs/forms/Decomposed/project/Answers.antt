@@ -12,4 +12,4 @@ loop-e-preserved c = filled_more c.loop-e.invariant (omega arith) (omega arith) 
 
 pub returns : goal.returns
 unfolding project
-returns c d h = rw h (filled_whole c.loop-e.invariant c.loop-e-test.false (search rules))
+returns c d h = rw h (filled_whole c.loop-e.invariant (omega arith) (search rules))
