@@ -76,7 +76,7 @@ module _ (s : Settings) (given : List Float) (side : ℕ) where
   checks_given e = rw (of_given, e, by_given e)
 
   module _ (e : is_given s.estimate ≡ true) where
-    sizes_refuse : (r : Result (ℕ × ℕ) Refusal) {c : Refusal} → IsErrAnd r (λ f. f ≡ c) → refuses c ≡ first sizes
+    pub sizes_refuse : (r : Result (ℕ × ℕ) Refusal) {c : Refusal} → IsErrAnd r (λ f. f ≡ c) → refuses c ≡ first sizes
         → (r ≡ examined (first (of_given s given side)) (decomposition_of s given side)) × (first (of_given s given side) ≡ refuses c)
     sizes_refuse r {c} f h =
         let refused : first (of_given s given side) ≡ refuses c = checks_given e ∙ sym (front_refuses sizes (by_numbers side (at given side) parts) h) in

@@ -30,11 +30,11 @@ module _ (s v v' : List ℕ) (r : Scanned) (x : ScannedIs (sheet kinds s) s v v'
   left_over = ap length (sym x.rest) ∙ length-drop r.end s
 
   -- the code's tests
-  good_yes : r.end ≡ length s → well_formed r.outline ≡ is_question (sheet kinds s)
+  pub good_yes : r.end ≡ length s → well_formed r.outline ≡ is_question (sheet kinds s)
   unfolding is_question
   good_yes e = rw (eq-eqb (length (sheet kinds s).rest) 0 (omega (arith, left_over)), ← x.outline_is)
 
-  good_no : (r.end ≡ length s → ⊥) → is_question (sheet kinds s) ≡ false
+  pub good_no : (r.end ≡ length s → ⊥) → is_question (sheet kinds s) ≡ false
   unfolding is_question
   good_no n = rw (ne_eqb (length (sheet kinds s).rest) 0 (λ e. n (omega (arith, left_over))))
 
@@ -45,7 +45,7 @@ module _ (s v v' : List ℕ) (r : Scanned) (x : ScannedIs (sheet kinds s) s v v'
       rw (x.numbers, write_room (flatten lists) v 0 room) (split_flatten lists (drop (0 + length (flatten lists)) v))
 
   module _ (h : length v ≡ max_records) (h' : max_records ≡ length v') where
-    read_is : (o : Option Outline) → o ≡ cond (is_question (sheet kinds s)) (Some (outline lists)) None → ReadIs s v v' o
+    pub read_is : (o : Option Outline) → o ≡ cond (is_question (sheet kinds s)) (Some (outline lists)) None → ReadIs s v v' o
     read_is o e = record { room = h'; outline_is = e; parts_are = cut h; numbers = x.numbers }
 
     -- the code's answers
@@ -61,7 +61,7 @@ module _ (s v v' : List ℕ) (r : Scanned) (x : ScannedIs (sheet kinds s) s v v'
 -- ---- what `read` tells
 
 module _ (s v v' : List ℕ) where
-  unread : ReadIs s v v' None → read_question s ≡ None
+  pub unread : ReadIs s v v' None → read_question s ≡ None
   unread x = go (is_question (sheet kinds s)) refl x.outline_is
     where
       go : (t : Bool) → is_question (sheet kinds s) ≡ t → None ≡ cond t (Some (outline (sheet kinds s).lists)) None → read_question s ≡ None

@@ -43,8 +43,9 @@ pub struct Kind {
     pub most: usize,
 }
 
-// Of each kind the byte, the length of the body and how many records, in the order of the file.
-const TABLE: [(u8, usize, usize); KINDS] = [
+// Of each kind the byte, the length of the body and how many records, in the order of the file. A static: a constant's table would be
+// written to the stack at every call.
+static TABLE: [(u8, usize, usize); KINDS] = [
     (1, 4, 1),
     (2, 8, RETURNS),
     (3, 8, 1),
